@@ -1,0 +1,100 @@
+-- The house book of document 01, "The word book": its rows, shortest prefix first, the class of a word, and how many words come after it.
+-- Assumes nothing.
+use mathlib.Core.Bool.{Bool, true, false}
+use mathlib.Core.List.{List, [], _∷_}
+use mathlib.Core.Option.{Option, none, some}
+use Prim.Native.Nat.{ℕ, _+_, _/_, _%_}
+use Rattle.format.specs.Prefix.{Row, find}
+
+pub data Class : Type 0 where
+  channel histogram hitCount sample bin lastCell timeBin dataFrame monitorFrame commandFrame text startEvent endEvent frameEnd unassigned : Class
+
+abbrev pub row : ℕ → ℕ → Class → Row Class
+row p n c = record { prefix = p; bits = n; class = c }
+
+abbrev pub book : List (Row Class)
+book =
+    row 0b11 2 channel
+    ∷ row 0b10 2 histogram
+    ∷ row 0b01 2 hitCount
+    ∷ row 0b0011 4 sample
+    ∷ row 0b0010 4 bin
+    ∷ row 0b00011 5 lastCell
+    ∷ row 0b0000111 7 timeBin
+    ∷ row 0b0000100 7 dataFrame
+    ∷ row 0b0000011 7 monitorFrame
+    ∷ row 0b0000010 7 commandFrame
+    ∷ row 0x01 8 text
+    ∷ row 0x00F 12 startEvent
+    ∷ row 0x00E 12 endEvent
+    ∷ row 0x000F 16 frameEnd
+    ∷ []
+
+-- a word that no row matches is unassigned
+abbrev pub named : Option Class → Class
+named none = unassigned
+named (some c) = c
+
+unfoldable pub classOf : ℕ → Class
+classOf w = named (find book w)
+
+-- the words after a word w of the class: "n/2 rounded up" for a text
+abbrev pub after : Class → ℕ → ℕ
+after channel w = 0
+after histogram w = 0
+after hitCount w = 0
+after sample w = 0
+after bin w = 2
+after lastCell w = 0
+after timeBin w = 0
+after dataFrame w = 0
+after monitorFrame w = 0
+after commandFrame w = 0
+after text w = (w % 256 + 1) / 2
+after startEvent w = 5
+after endEvent w = 2
+after frameEnd w = 0
+after unassigned w = 0
+
+abbrev pub assigned : Class → Bool
+assigned channel = true
+assigned histogram = true
+assigned hitCount = true
+assigned sample = true
+assigned bin = true
+assigned lastCell = true
+assigned timeBin = true
+assigned dataFrame = true
+assigned monitorFrame = true
+assigned commandFrame = true
+assigned text = true
+assigned startEvent = true
+assigned endEvent = true
+assigned frameEnd = true
+assigned unassigned = false
+
+-- document 01's table: the words of each class, from the first to the last
+pub record Range : Type 0 where
+  pub from : ℕ
+  pub to : ℕ
+
+abbrev pub range : ℕ → ℕ → Range
+range a b = record { from = a; to = b }
+
+-- an unassigned word has no range
+abbrev pub printed : Class → Range
+printed channel = range 0xC000 0xFFFF
+printed histogram = range 0x8000 0xBFFF
+printed hitCount = range 0x4000 0x7FFF
+printed sample = range 0x3000 0x3FFF
+printed bin = range 0x2000 0x2FFF
+printed lastCell = range 0x1800 0x1FFF
+printed timeBin = range 0x0E00 0x0FFF
+printed dataFrame = range 0x0800 0x09FF
+printed monitorFrame = range 0x0600 0x07FF
+printed commandFrame = range 0x0400 0x05FF
+printed text = range 0x0100 0x01FF
+printed startEvent = range 0x00F0 0x00FF
+printed endEvent = range 0x00E0 0x00EF
+printed frameEnd = range 0x000F 0x000F
+printed unassigned = range 1 0

@@ -1,0 +1,5 @@
+pub mod Words
+pub mod Answers
+pub mod Prefix
+pub mod Book
+pub mod Items
