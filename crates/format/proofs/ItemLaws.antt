@@ -86,7 +86,7 @@ written (Text s) f =
     let n : (length s + 1 + 1) / 2 ≡ length (words (s ++ (0 ∷ []))) = sym (length-words (s ++ (0 ∷ [])) ∙ ap (λ (n : ℕ). (n + 1) / 2) (length-append s (0 ∷ []))) in
     (0x0100 + (length s + 1), words (s ++ (0 ∷ [])), record { words = refl; class = in-range _ 10 (lit< tt) (omega arith, omega arith); count = ap (λ (n : ℕ). (n + 1) / 2) e ∙ n; read = rw (e, c, k, t) })
 written (StartEvent t ts n) f =
-    let h : t ≤ 15 = leb-true t 15 (and-left (leb t 15) (ltb ts 281474976710656) (and-left (leb t 15 && ltb ts 281474976710656) (ltb n 4294967296) f)) in
+    let h : t ≤ 15 = leb-true t 15 (and-left (leb t 15) (leb ts 281474976710655) (and-left (leb t 15 && leb ts 281474976710655) (ltb n 4294967296) f)) in
     let e : (0x00F0 + t) % 16 ≡ t = omega arith in
     (0x00F0 + t, timeWords ts ++ longWords n, record { words = refl; class = in-range _ 11 (lit< tt) (omega arith, omega arith); count = refl; read = rw e (ap₂ (λ (x y : ℕ). some (StartEvent t x y)) (time-there ts (longWords n)) (long-there n [])) })
 written (EndEvent n) f = (0x00E0, longWords n, record { words = refl; class = in-range 0x00E0 12 (lit< tt) (omega arith, omega arith); count = refl; read = ap (λ (x : ℕ). some (EndEvent x)) (long-there n []) })
@@ -194,7 +194,7 @@ decoded startEvent w ws x k n b e =
     let t : take 3 ws ≡ timeWords (timeOf ws) = time-back (take 3 ws) (length-take-le 3 ws (omega arith)) (below-take 3 ws 65536 (omega arith) b) ∙ ap timeWords (time-of ws (omega arith)) in
     let d : drop 3 ws ≡ longWords (longOf (drop 3 ws)) = long-back (drop 3 ws) (length-drop 3 ws ∙ omega arith) (below-drop 3 ws 65536 b) in
     read-as w ws _ x e (ap₂ _∷_ v (sym (take-append-drop 3 ws) ∙ ap₂ _++_ t d))
-    (and-both _ _ (and-both _ _ (le-leb (w % 16) 15 (omega arith)) (lt-ltb (timeOf ws) 281474976710656 (time-below ws b))) (lt-ltb (longOf (drop 3 ws)) 4294967296 (long-below (drop 3 ws) (below-drop 3 ws 65536 b)))) (sym k)
+    (and-both _ _ (and-both _ _ (le-leb (w % 16) 15 (omega arith)) (le-leb (timeOf ws) 281474976710655 (omega (arith, time-below ws b)))) (lt-ltb (longOf (drop 3 ws)) 4294967296 (long-below (drop 3 ws) (below-drop 3 ws 65536 b)))) (sym k)
   where
     time-of : (ws : List ℕ) → 3 ≤ length ws → timeOf (take 3 ws) ≡ timeOf ws
     time-of [] h = absurd (omega arith)

@@ -10,7 +10,7 @@ use lib.Dec.{leb, eqb}
 use borrow.Author.Tests.{leb-true, eqb-true, le-leb, eq-eqb}
 use lib.ListN.{length, getD, take, drop, List·getD-eq-default}
 use lib.Seq.{getD-drop, drop-nil}
-use Rattle.format.specs.Words.{pick, Bytes, words, bytes, wordAt, longOf, timeOf, longWords, timeWords, nonZero, allZero}
+use Rattle.format.specs.Words.{pick, Bytes, words, bytes, wordAt, longAt, timeAt, longOf, timeOf, longWords, timeWords, nonZero, allZero}
 use Rattle.format.proofs.PrefixLaws.{and-left, and-right, and-both}
 
 -- what holds of both branches where each is taken holds of the pick
@@ -141,3 +141,12 @@ below-take zero l m p h i = p
 below-take (suc n) [] m p h i = p
 below-take (suc n) (x ∷ l) m p h zero = h 0
 below-take (suc n) (x ∷ l) m p h (suc i) = below-take n l m p (λ i. h (suc i)) i
+
+pub long-past : (s : List ℕ) (i : ℕ) → length s ≤ i → 0 ≡ longAt s i
+long-past s i h = omega (arith, word-past s i (omega arith), word-past s (i + 1) (omega arith))
+
+pub time-past : (s : List ℕ) (i : ℕ) → length s ≤ i → 0 ≡ timeAt s i
+time-past s i h = omega (arith, word-past s i (omega arith), word-past s (i + 1) (omega arith), word-past s (i + 2) (omega arith))
+
+pub time-short : (s : List ℕ) (i : ℕ) → length s ≤ i + 2 → longAt s i ≡ timeAt s i
+time-short s i h = omega (arith, word-past s (i + 2) (omega arith))

@@ -38,7 +38,11 @@ named (some c) = c
 unfoldable pub classOf : ℕ → Class
 classOf w = named (find book w)
 
--- the words after a word w of the class: "n/2 rounded up" for a text
+-- a text's n bytes, n in the low byte, take "n/2 rounded up" words
+abbrev pub textWords : ℕ → ℕ
+textWords w = (w % 256 + 1) / 2
+
+-- the words after a word w of the class
 abbrev pub after : Class → ℕ → ℕ
 after channel w = 0
 after histogram w = 0
@@ -50,7 +54,7 @@ after timeBin w = 0
 after dataFrame w = 0
 after monitorFrame w = 0
 after commandFrame w = 0
-after text w = (w % 256 + 1) / 2
+after text w = textWords w
 after startEvent w = 5
 after endEvent w = 2
 after frameEnd w = 0

@@ -72,7 +72,7 @@ fits (Bin b n) = leb b 4095 && ltb n 4294967296
 fits (LastCell a b) = leb a 3 && leb b 511
 fits (TimeBin t) = leb t 511
 fits (Text s) = leb (length s) 254 && nonZero s && areBytes s
-fits (StartEvent t ts n) = leb t 15 && ltb ts 281474976710656 && ltb n 4294967296
+fits (StartEvent t ts n) = leb t 15 && leb ts 281474976710655 && ltb n 4294967296
 fits (EndEvent n) = ltb n 4294967296
 
 -- a text's n bytes: "n at least 1, byte n zero, earlier bytes not zero, a padding byte zero"
@@ -123,6 +123,20 @@ tokens k [] = []
 tokens zero (w ∷ ws) = tokenOf w ws ∷ tokens (after (classOf w) w) ws
 tokens (suc k) (w ∷ ws) = tokens k ws
 
--- the order key of a header, and the 14 bits of its word
+-- the value rules that look at the item and the frame's card alone: the card is the frame's, channel at most 78, hit count at most 79, bin
+-- count at least 1, and nothing too wide for its field
+abbrev pub inRange : ℕ → Item → Bool
+inRange card (Channel a b c) = eqb a card && leb a 31 && leb b 3 && leb c 78
+inRange card (Histogram a b c) = eqb a card && leb a 31 && leb b 3 && leb c 78
+inRange card (HitCount a b c) = eqb a card && leb a 31 && leb b 3 && leb c 79
+inRange card (Sample v) = leb v 4095
+inRange card (Bin b n) = leb b 4095 && leb 1 n && ltb n 4294967296
+inRange card (LastCell a b) = leb a 3 && leb b 511
+inRange card (TimeBin t) = leb t 511
+inRange card (Text s) = leb (length s) 254 && nonZero s && areBytes s
+inRange card (StartEvent t ts n) = leb t 15 && leb ts 281474976710655 && ltb n 4294967296
+inRange card (EndEvent n) = ltb n 4294967296
+
+-- the order key of a header
 abbrev pub key : ℕ → ℕ → ℕ → ℕ
 key card chip c = card * 2048 + chip * 128 + c

@@ -1,0 +1,17 @@
+-- `book::items::Histogram::word` meets its contract: the fields take 14 bits, below the head.
+-- Assumes nothing.
+use borrow.Author.Needs.{needs}
+use mathlib.Core.Path.{refl}
+use native.Mathlib.Omega.{arith}
+use Rattle.book.proofs.Bits.{head}
+use Rattle.book.proofs.items.Histogram.word.Statement.{statement}
+use Rattle.book.proofs.items.Histogram.word.Tie as tie
+
+three-requires : tie.Need-three-requires
+three-requires c κs = search needs
+
+returns : tie.Need-returns
+returns c = rw (c .three .ensures) (head 14 _ 0x8000 refl (omega arith))
+
+pub word-spec : {M : Type 1} → statement M
+word-spec = tie.close (tie.spec three-requires returns)

@@ -1,0 +1,55 @@
+-- The fields of a word, cut from it by position, and the items that the item structs stand for.
+-- Assumes nothing.
+use Prim.Native.Nat.{ℕ, _+_, _*_, _/_, _%_}
+use Rattle.format.specs.Items as items
+use Rattle.book.specs.declared.items.Channel.{Channel}
+use Rattle.book.specs.declared.items.Histogram.{Histogram}
+use Rattle.book.specs.declared.items.HitCount.{HitCount}
+use Rattle.book.specs.declared.items.Sample.{Sample}
+use Rattle.book.specs.declared.items.Bin.{Bin}
+use Rattle.book.specs.declared.items.LastCell.{LastCell}
+use Rattle.book.specs.declared.items.TimeBin.{TimeBin}
+use Rattle.book.specs.declared.items.StartEvent.{StartEvent}
+
+-- card 5, chip 2, channel 7
+abbrev pub channelOf : ℕ → Channel
+channelOf w = record { card = w / 512 % 32; chip = w / 128 % 4; channel = w % 128 }
+
+abbrev pub histogramOf : ℕ → Histogram
+histogramOf w = record { card = w / 512 % 32; chip = w / 128 % 4; channel = w % 128 }
+
+-- card 5, chip 2, count 7
+abbrev pub hitsOf : ℕ → HitCount
+hitsOf w = record { card = w / 512 % 32; chip = w / 128 % 4; count = w % 128 }
+
+-- chip 2, cell 9
+abbrev pub cellOf : ℕ → LastCell
+cellOf w = record { chip = w / 512 % 4; cell = w % 512 }
+
+-- three fields, each cut to its width, put together
+abbrev pub threeCut : ℕ → ℕ → ℕ → ℕ
+threeCut a b c = items.three (a % 32) (b % 4) (c % 128)
+
+abbrev pub channelItem : Channel → items.Item
+channelItem x = items.Channel (x .card) (x .chip) (x .channel)
+
+abbrev pub histogramItem : Histogram → items.Item
+histogramItem x = items.Histogram (x .card) (x .chip) (x .channel)
+
+abbrev pub hitsItem : HitCount → items.Item
+hitsItem x = items.HitCount (x .card) (x .chip) (x .count)
+
+abbrev pub sampleItem : Sample → items.Item
+sampleItem x = items.Sample (x .value)
+
+abbrev pub binItem : Bin → items.Item
+binItem x = items.Bin (x .bin) (x .count)
+
+abbrev pub cellItem : LastCell → items.Item
+cellItem x = items.LastCell (x .chip) (x .cell)
+
+abbrev pub timeItem : TimeBin → items.Item
+timeItem x = items.TimeBin (x .time)
+
+abbrev pub startItem : StartEvent → items.Item
+startItem x = items.StartEvent (x .kind) (x .timestamp) (x .number)

@@ -1,0 +1,348 @@
+// The ten items: what each holds, its limits, its fields cut out of a word by shifts and masks and put in the same way. The fields are wide
+// enough that a content too wide for the word can be handed to the writer, which refuses it. Each limit is named in its item, once.
+ghost use mathlib.Core.Path.{_≡_};
+ghost use Prim.Native.Nat.{_+_, _*_, _/_, _%_};
+ghost use Rattle.format.specs.Items.{inRange};
+ghost use Rattle.book.specs.Fields.{threeCut, channelOf, histogramOf, hitsOf, cellOf, channelItem, histogramItem, hitsItem, sampleItem, binItem, cellItem, timeItem, startItem};
+
+// A channel of a chip of a card, whose samples follow.
+pub struct Channel {
+    pub card: u16,
+    pub chip: u16,
+    pub channel: u16,
+}
+
+// A channel whose histogram follows.
+pub struct Histogram {
+    pub card: u16,
+    pub chip: u16,
+    pub channel: u16,
+}
+
+// How many channels of a chip were hit.
+pub struct HitCount {
+    pub card: u16,
+    pub chip: u16,
+    pub count: u16,
+}
+
+pub struct Sample {
+    pub value: u16,
+}
+
+// How often a value was met.
+pub struct Bin {
+    pub bin: u16,
+    pub count: u32,
+}
+
+pub struct LastCell {
+    pub chip: u16,
+    pub cell: u16,
+}
+
+pub struct TimeBin {
+    pub time: u16,
+}
+
+// A text of n bytes, the final zero included; its bytes are fetched by a question of their own.
+pub struct Text {
+    pub length: u16,
+}
+
+// An event begins: its type (`type` is a word of the language), timestamp and number.
+pub struct StartEvent {
+    pub kind: u16,
+    pub timestamp: u64,
+    pub number: u32,
+}
+
+// The size of the event in bytes.
+pub struct EndEvent {
+    pub size: u32,
+}
+
+pub enum Item {
+    Channel(Channel),
+    Histogram(Histogram),
+    HitCount(HitCount),
+    Sample(Sample),
+    Bin(Bin),
+    LastCell(LastCell),
+    TimeBin(TimeBin),
+    Text(Text),
+    StartEvent(StartEvent),
+    EndEvent(EndEvent),
+}
+
+// The low 14 bits of a word that three items share: card 5, chip 2 and 7 bits more, each cut to its width.
+fn three(card: u16, chip: u16, low: u16) -> u16
+    ensures { λ r. ⌜ r ≡ threeCut card chip low ⌝ }
+{
+    (card & 0x1F) << 9 | (chip & 3) << 7 | low & 0x7F
+}
+
+impl Channel {
+    pub const LAST_CARD: u16 = 31;
+
+    pub const LAST_CHIP: u16 = 3;
+
+    pub const LAST: u16 = 78;
+
+    // The fields of a word, high bits first: card 5, chip 2, channel 7.
+    pub fn of_word(w: u16) -> Channel
+        ensures { λ r. ⌜ r ≡ channelOf w ⌝ }
+    {
+        Channel {
+            card: w >> 9 & 0x1F,
+            chip: w >> 7 & 3,
+            channel: w & 0x7F,
+        }
+    }
+
+    // The word with these fields, each cut to its width.
+    pub fn word(self) -> u16
+        ensures { λ r. ⌜ r ≡ 0xC000 + threeCut (self .card) (self .chip) (self .channel) ⌝ }
+    {
+        three(self.card, self.chip, self.channel) | 0xC000
+    }
+
+    // The value rules in a frame of the card.
+    pub fn valid(self, card: u16) -> bool
+        ensures { λ r. ⌜ r ≡ inRange card (channelItem self) ⌝ }
+    {
+        (self.card == card)
+            & (self.card <= Channel::LAST_CARD)
+            & (self.chip <= Channel::LAST_CHIP)
+            & (self.channel <= Channel::LAST)
+    }
+}
+
+impl Histogram {
+    pub const LAST_CARD: u16 = 31;
+
+    pub const LAST_CHIP: u16 = 3;
+
+    pub const LAST: u16 = 78;
+
+    // The fields of a word, high bits first: card 5, chip 2, channel 7.
+    pub fn of_word(w: u16) -> Histogram
+        ensures { λ r. ⌜ r ≡ histogramOf w ⌝ }
+    {
+        Histogram {
+            card: w >> 9 & 0x1F,
+            chip: w >> 7 & 3,
+            channel: w & 0x7F,
+        }
+    }
+
+    // The word with these fields, each cut to its width.
+    pub fn word(self) -> u16
+        ensures { λ r. ⌜ r ≡ 0x8000 + threeCut (self .card) (self .chip) (self .channel) ⌝ }
+    {
+        three(self.card, self.chip, self.channel) | 0x8000
+    }
+
+    // The value rules in a frame of the card.
+    pub fn valid(self, card: u16) -> bool
+        ensures { λ r. ⌜ r ≡ inRange card (histogramItem self) ⌝ }
+    {
+        (self.card == card)
+            & (self.card <= Histogram::LAST_CARD)
+            & (self.chip <= Histogram::LAST_CHIP)
+            & (self.channel <= Histogram::LAST)
+    }
+}
+
+impl HitCount {
+    pub const LAST_CARD: u16 = 31;
+
+    pub const LAST_CHIP: u16 = 3;
+
+    pub const MOST: u16 = 79;
+
+    // The fields of a word, high bits first: card 5, chip 2, count 7.
+    pub fn of_word(w: u16) -> HitCount
+        ensures { λ r. ⌜ r ≡ hitsOf w ⌝ }
+    {
+        HitCount {
+            card: w >> 9 & 0x1F,
+            chip: w >> 7 & 3,
+            count: w & 0x7F,
+        }
+    }
+
+    // The word with these fields, each cut to its width.
+    pub fn word(self) -> u16
+        ensures { λ r. ⌜ r ≡ 0x4000 + threeCut (self .card) (self .chip) (self .count) ⌝ }
+    {
+        three(self.card, self.chip, self.count) | 0x4000
+    }
+
+    // The value rules in a frame of the card.
+    pub fn valid(self, card: u16) -> bool
+        ensures { λ r. ⌜ r ≡ inRange card (hitsItem self) ⌝ }
+    {
+        (self.card == card)
+            & (self.card <= HitCount::LAST_CARD)
+            & (self.chip <= HitCount::LAST_CHIP)
+            & (self.count <= HitCount::MOST)
+    }
+}
+
+impl Sample {
+    pub const LAST: u16 = 4095;
+
+    pub fn of_word(w: u16) -> Sample
+        ensures { λ r. ⌜ r .value ≡ w % 4096 ⌝ }
+    {
+        Sample { value: w & 0xFFF }
+    }
+
+    // The word with this value, cut to its width.
+    pub fn word(self) -> u16
+        ensures { λ r. ⌜ r ≡ 0x3000 + self .value % 4096 ⌝ }
+    {
+        self.value & 0xFFF | 0x3000
+    }
+
+    pub fn valid(self) -> bool
+        ensures { λ r. ⌜ r ≡ inRange 0 (sampleItem self) ⌝ }
+    {
+        self.value <= Sample::LAST
+    }
+}
+
+impl Bin {
+    pub const LAST: u16 = 4095;
+
+    pub const LEAST_COUNT: u32 = 1;
+
+    // The bin number of a word; the count stands in the two words after it.
+    pub fn of_word(w: u16) -> u16
+        ensures { λ r. ⌜ r ≡ w % 4096 ⌝ }
+    {
+        w & 0xFFF
+    }
+
+    // The first word of the bin, its number cut to its width.
+    pub fn word(self) -> u16
+        ensures { λ r. ⌜ r ≡ 0x2000 + self .bin % 4096 ⌝ }
+    {
+        self.bin & 0xFFF | 0x2000
+    }
+
+    pub fn valid(self) -> bool
+        ensures { λ r. ⌜ r ≡ inRange 0 (binItem self) ⌝ }
+    {
+        (self.bin <= Bin::LAST) & (Bin::LEAST_COUNT <= self.count)
+    }
+}
+
+impl LastCell {
+    pub const LAST_CHIP: u16 = 3;
+
+    pub const LAST: u16 = 511;
+
+    // The fields of a word, high bits first: chip 2, cell 9.
+    pub fn of_word(w: u16) -> LastCell
+        ensures { λ r. ⌜ r ≡ cellOf w ⌝ }
+    {
+        LastCell {
+            chip: w >> 9 & 3,
+            cell: w & 0x1FF,
+        }
+    }
+
+    // The word with these fields, each cut to its width.
+    pub fn word(self) -> u16
+        ensures { λ r. ⌜ r ≡ 0x1800 + (self .chip % 4 * 512 + self .cell % 512) ⌝ }
+    {
+        (self.chip & 3) << 9 | self.cell & 0x1FF | 0x1800
+    }
+
+    pub fn valid(self) -> bool
+        ensures { λ r. ⌜ r ≡ inRange 0 (cellItem self) ⌝ }
+    {
+        (self.chip <= LastCell::LAST_CHIP) & (self.cell <= LastCell::LAST)
+    }
+}
+
+impl TimeBin {
+    pub const LAST: u16 = 511;
+
+    pub fn of_word(w: u16) -> TimeBin
+        ensures { λ r. ⌜ r .time ≡ w % 512 ⌝ }
+    {
+        TimeBin { time: w & 0x1FF }
+    }
+
+    // The word with this time, cut to its width.
+    pub fn word(self) -> u16
+        ensures { λ r. ⌜ r ≡ 0x0E00 + self .time % 512 ⌝ }
+    {
+        self.time & 0x1FF | 0x0E00
+    }
+
+    pub fn valid(self) -> bool
+        ensures { λ r. ⌜ r ≡ inRange 0 (timeItem self) ⌝ }
+    {
+        self.time <= TimeBin::LAST
+    }
+}
+
+impl Text {
+    // The most bytes of a text, without the final zero.
+    pub const MOST: usize = 254;
+
+    pub fn of_word(w: u16) -> Text
+        ensures { λ r. ⌜ r .length ≡ w % 256 ⌝ }
+    {
+        Text { length: w & 0xFF }
+    }
+
+    // The first word of the text, its length cut to its width.
+    pub fn word(self) -> u16
+        ensures { λ r. ⌜ r ≡ 0x0100 + self .length % 256 ⌝ }
+    {
+        self.length & 0xFF | 0x0100
+    }
+}
+
+impl StartEvent {
+    pub const LAST_TYPE: u16 = 15;
+
+    pub const LAST_TIMESTAMP: u64 = 281474976710655;
+
+    // The type of a word; timestamp and number stand in the five words after it.
+    pub fn of_word(w: u16) -> u16
+        ensures { λ r. ⌜ r ≡ w % 16 ⌝ }
+    {
+        w & 0xF
+    }
+
+    // The first word of the event, its type cut to its width.
+    pub fn word(self) -> u16
+        ensures { λ r. ⌜ r ≡ 0x00F0 + self .kind % 16 ⌝ }
+    {
+        self.kind & 0xF | 0x00F0
+    }
+
+    pub fn valid(self) -> bool
+        ensures { λ r. ⌜ r ≡ inRange 0 (startItem self) ⌝ }
+    {
+        (self.kind <= StartEvent::LAST_TYPE) & (self.timestamp <= StartEvent::LAST_TIMESTAMP)
+    }
+}
+
+impl EndEvent {
+    // The first word of the item; its low four bits are zero.
+    pub const WORD: u16 = 0x00E0;
+
+    // The low four bits of a word.
+    pub fn low_bits(w: u16) -> u16
+        ensures { λ r. ⌜ r ≡ w % 16 ⌝ }
+    {
+        w & 0xF
+    }
+}
