@@ -6,3 +6,6 @@ pub mod WordLaws
 pub mod TextLaws
 pub mod ItemLaws
 pub mod KeyLaws
+pub mod WalkLaws
+pub mod HeadLaws
+pub mod Acceptance

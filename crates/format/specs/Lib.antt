@@ -3,3 +3,7 @@ pub mod Answers
 pub mod Prefix
 pub mod Book
 pub mod Items
+pub mod Rules
+pub mod Frames
+pub mod Questions
+pub mod Figures
