@@ -9,3 +9,4 @@ pub mod KeyLaws
 pub mod WalkLaws
 pub mod HeadLaws
 pub mod Acceptance
+pub mod Figures

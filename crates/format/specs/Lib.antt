@@ -6,4 +6,5 @@ pub mod Items
 pub mod Rules
 pub mod Frames
 pub mod Questions
+pub mod Writing
 pub mod Figures

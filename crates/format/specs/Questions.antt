@@ -1,17 +1,17 @@
 -- The questions on what was read (document 01, "Reading and writing items").
 -- Assumes nothing.
-use Prim.Native.Nat.{ℕ, zero, suc, _+_, _-_, _*_, _/_, _%_}
+use Prim.Native.Nat.{ℕ, zero, suc, _+_}
+use mathlib.Core.Path.{_≡_}
 use mathlib.Core.List.{List, [], _∷_, _++_}
 use mathlib.Core.Bool.{Bool, true, false, _&&_}
 use mathlib.Core.Option.{Option, none, some}
-use lib.ListN.{length, take, drop, set}
-use lib.Seq.{sets}
+use lib.ListN.{length, set}
 use lib.Dec.{leb, eqb}
 use Rattle.format.specs.Words.{pick}
-use Rattle.format.specs.Answers.{Outcome, accepted, refused, andThen, Done, need, leaves}
-use Rattle.format.specs.Book.{Class, channel, histogram, startEvent}
+use Rattle.format.specs.Answers.{Outcome, accepted, refused, andThen, Done}
+use Rattle.format.specs.Book.{Class, endEvent}
 use Rattle.format.specs.Items.{ItemOf, Item, Channel, Histogram, HitCount, Sample, Bin, LastCell, TimeBin, Text, StartEvent, EndEvent, classFor, wordsOf}
-use Rattle.format.specs.Rules.{Kind, same}
+use Rattle.format.specs.Rules.{same, gather, first}
 use Rattle.format.specs.Frames.{Frame, verdict}
 
 -- ---- the item at an ordinal
@@ -63,6 +63,11 @@ textFound (refused n p) = []
 unfoldable pub textAt : List ℕ → ℕ → List ℕ
 textAt s n = textFound (itemAt s n)
 
+-- the first answer that is there, else 13
+abbrev pub present : {A : Type 0} → Option A → Outcome A
+present none = refused 13 0
+present (some a) = accepted a
+
 -- ---- events
 
 -- "Event e answers with its type, timestamp, number, size and the index of its Start event word"
@@ -73,35 +78,151 @@ pub record Event : Type 0 where
   pub size : ℕ
   pub index : ℕ
 
--- the size that the first End event of some items gives
-unfoldable pub sizeOf : List Item → ℕ
-sizeOf [] = 0
-sizeOf (Channel a b c ∷ xs) = sizeOf xs
-sizeOf (Histogram a b c ∷ xs) = sizeOf xs
-sizeOf (HitCount a b c ∷ xs) = sizeOf xs
-sizeOf (Sample v ∷ xs) = sizeOf xs
-sizeOf (Bin b n ∷ xs) = sizeOf xs
-sizeOf (LastCell a b ∷ xs) = sizeOf xs
-sizeOf (TimeBin t ∷ xs) = sizeOf xs
-sizeOf (Text s ∷ xs) = sizeOf xs
-sizeOf (StartEvent t ts n ∷ xs) = sizeOf xs
-sizeOf (EndEvent n ∷ xs) = n
-
--- event e of the items xs, the first of which begins at word `at`: the items after its Start event, and that event
+-- an event, and the items after its Start event
 pub record Opened : Type 0 where
   pub event : Event
   pub items : List Item
 
-unfoldable pub nthEvent : ℕ → ℕ → List Item → Outcome Opened
-nthEvent e at [] = refused 13 0
-nthEvent e at (Channel a b c ∷ xs) = nthEvent e (at + 1) xs
-nthEvent e at (Histogram a b c ∷ xs) = nthEvent e (at + 1) xs
-nthEvent e at (HitCount a b c ∷ xs) = nthEvent e (at + 1) xs
-nthEvent e at (Sample v ∷ xs) = nthEvent e (at + 1) xs
-nthEvent e at (Bin b n ∷ xs) = nthEvent e (at + 3) xs
-nthEvent e at (LastCell a b ∷ xs) = nthEvent e (at + 1) xs
-nthEvent e at (TimeBin t ∷ xs) = nthEvent e (at + 1) xs
-nthEvent e at (Text s ∷ xs) = nthEvent e (at + length (wordsOf (Text s))) xs
-nthEvent zero at (StartEvent t ts n ∷ xs) = accepted (record { event = record { kind = t; timestamp = ts; number = n; size = sizeOf xs; index = at }; items = xs })
-nthEvent (suc e) at (StartEvent t ts n ∷ xs) = nthEvent e (at + 6) xs
-nthEvent e at (EndEvent n ∷ xs) = nthEvent e (at + 3) xs
+abbrev pub endSize : Item → List ℕ
+endSize (Channel a b c) = []
+endSize (Histogram a b c) = []
+endSize (HitCount a b c) = []
+endSize (Sample v) = []
+endSize (Bin b n) = []
+endSize (LastCell a b) = []
+endSize (TimeBin t) = []
+endSize (Text s) = []
+endSize (StartEvent t ts n) = []
+endSize (EndEvent n) = n ∷ []
+
+-- the event that an item at word `at` opens, where the items xs come after it; its size is what the first End event gives
+abbrev pub opens : ℕ → Item → List Item → List Opened
+opens at (Channel a b c) xs = []
+opens at (Histogram a b c) xs = []
+opens at (HitCount a b c) xs = []
+opens at (Sample v) xs = []
+opens at (Bin b n) xs = []
+opens at (LastCell a b) xs = []
+opens at (TimeBin t) xs = []
+opens at (Text s) xs = []
+opens at (StartEvent t ts n) xs =
+    record { event = record { kind = t; timestamp = ts; number = n; size = first (gather endSize xs); index = at }; items = xs } ∷ []
+opens at (EndEvent n) xs = []
+
+-- the events of some items, the first of which stands at word `at`
+unfoldable pub events : ℕ → List Item → List Opened
+events at [] = []
+events at (x ∷ xs) = opens at x xs ++ events (at + length (wordsOf x)) xs
+
+unfoldable pub pickNth : {A : Type 0} → ℕ → List A → Option A
+pickNth n [] = none
+pickNth zero (a ∷ l) = some a
+pickNth (suc n) (a ∷ l) = pickNth n l
+
+unfoldable pub eventAt : List ℕ → ℕ → Outcome Event
+eventAt s e = andThen (verdict s) (λ f. andThen (present (pickNth e (events 3 (f .items)))) (λ o. accepted (o .event)))
+
+-- ---- samples and counts
+
+-- the items before the first one of the class
+unfoldable pub until : Class → List Item → List Item
+until c [] = []
+until c (x ∷ xs) = pick (same c (classFor x)) [] (x ∷ until c xs)
+
+-- the items after the first one that passes the test
+unfoldable pub past : (Item → Bool) → List Item → Option (List Item)
+past f [] = none
+past f (x ∷ xs) = pick (f x) (some xs) (past f xs)
+
+-- a Channel header, and a Histogram header, of a chip and a channel; their card is the frame's
+abbrev pub isChannel : ℕ → ℕ → Item → Bool
+isChannel chip c (Channel a b d) = eqb b chip && eqb d c
+isChannel chip c (Histogram a b d) = false
+isChannel chip c (HitCount a b d) = false
+isChannel chip c (Sample v) = false
+isChannel chip c (Bin b n) = false
+isChannel chip c (LastCell a b) = false
+isChannel chip c (TimeBin t) = false
+isChannel chip c (Text s) = false
+isChannel chip c (StartEvent t ts n) = false
+isChannel chip c (EndEvent n) = false
+
+abbrev pub isHistogram : ℕ → ℕ → Item → Bool
+isHistogram chip c (Channel a b d) = false
+isHistogram chip c (Histogram a b d) = eqb b chip && eqb d c
+isHistogram chip c (HitCount a b d) = false
+isHistogram chip c (Sample v) = false
+isHistogram chip c (Bin b n) = false
+isHistogram chip c (LastCell a b) = false
+isHistogram chip c (TimeBin t) = false
+isHistogram chip c (Text s) = false
+isHistogram chip c (StartEvent t ts n) = false
+isHistogram chip c (EndEvent n) = false
+
+-- the first n words v, those beyond as they are
+unfoldable pub cleared : ℕ → ℕ → List ℕ → List ℕ
+cleared zero v l = l
+cleared (suc n) v [] = []
+cleared (suc n) v (x ∷ l) = v ∷ cleared n v l
+
+-- the samples that come first, each at its time: a Time bin gives the time of the next one
+unfoldable pub fillSamples : ℕ → List Item → List ℕ → List ℕ
+fillSamples t [] l = l
+fillSamples t (Channel a b c ∷ xs) l = l
+fillSamples t (Histogram a b c ∷ xs) l = l
+fillSamples t (HitCount a b c ∷ xs) l = l
+fillSamples t (Sample v ∷ xs) l = fillSamples (suc t) xs (set l t v)
+fillSamples t (Bin b n ∷ xs) l = l
+fillSamples t (LastCell a b ∷ xs) l = l
+fillSamples t (TimeBin u ∷ xs) l = fillSamples u xs l
+fillSamples t (Text s ∷ xs) l = l
+fillSamples t (StartEvent k ts n ∷ xs) l = l
+fillSamples t (EndEvent n ∷ xs) l = l
+
+-- the bins that come first, each count at its number
+unfoldable pub fillCounts : List Item → List ℕ → List ℕ
+fillCounts [] l = l
+fillCounts (Channel a b c ∷ xs) l = l
+fillCounts (Histogram a b c ∷ xs) l = l
+fillCounts (HitCount a b c ∷ xs) l = l
+fillCounts (Sample v ∷ xs) l = l
+fillCounts (Bin b n ∷ xs) l = fillCounts xs (set l b n)
+fillCounts (LastCell a b ∷ xs) l = l
+fillCounts (TimeBin t ∷ xs) l = l
+fillCounts (Text s ∷ xs) l = l
+fillCounts (StartEvent k ts n ∷ xs) l = l
+fillCounts (EndEvent n ∷ xs) l = l
+
+-- the items after the header of a channel in event e
+unfoldable pub channelIn : ℕ → ℕ → ℕ → List Item → Outcome (List Item)
+channelIn e chip c xs = andThen (present (pickNth e (events 3 xs))) (λ o. present (past (isChannel chip c) (until endEvent (o .items))))
+
+-- "Order: frame refusals, 12, 13"
+unfoldable pub samplesAt : List ℕ → ℕ → ℕ → ℕ → ℕ → Outcome (List Item)
+samplesAt s e chip c room = andThen (verdict s) (λ f. pick (leb 512 room) (channelIn e chip c (f .items)) (refused 12 0))
+
+unfoldable pub countsAt : List ℕ → ℕ → ℕ → ℕ → Outcome (List Item)
+countsAt s chip c room = andThen (verdict s) (λ f. pick (leb 4096 room) (present (past (isHistogram chip c) (f .items))) (refused 12 0))
+
+abbrev pub done : {A : Type 0} → Outcome A → Done
+done (accepted a) = accepted tt
+done (refused n p) = refused n p
+
+-- "0xFFFF where no sample stands", "0 where no bin stands"; on a refusal as found
+abbrev pub samplesLeft : Outcome (List Item) → List ℕ → List ℕ
+samplesLeft (accepted xs) l = fillSamples 0 xs (cleared 512 0xFFFF l)
+samplesLeft (refused n p) l = l
+
+abbrev pub countsLeft : Outcome (List Item) → List ℕ → List ℕ
+countsLeft (accepted xs) l = fillCounts xs (cleared 4096 0 l)
+countsLeft (refused n p) l = l
+
+-- the promise of the samples question: its answer, and all lent words as it leaves them
+pub record Sampled (s : List ℕ) (e chip c : ℕ) (found : List ℕ) (answer : Done) (left : List ℕ) : Type 0 where
+  pub answered : answer ≡ done (samplesAt s e chip c (length found))
+  pub filled : left ≡ samplesLeft (samplesAt s e chip c (length found)) found
+
+-- and of the counts question
+pub record Counted (s : List ℕ) (chip c : ℕ) (found : List ℕ) (answer : Done) (left : List ℕ) : Type 0 where
+  pub answered : answer ≡ done (countsAt s chip c (length found))
+  pub filled : left ≡ countsLeft (countsAt s chip c (length found)) found
