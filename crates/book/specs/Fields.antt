@@ -10,6 +10,7 @@ use Rattle.book.specs.declared.items.Bin.{Bin}
 use Rattle.book.specs.declared.items.LastCell.{LastCell}
 use Rattle.book.specs.declared.items.TimeBin.{TimeBin}
 use Rattle.book.specs.declared.items.StartEvent.{StartEvent}
+use Rattle.book.specs.declared.items.EndEvent.{EndEvent}
 
 -- card 5, chip 2, channel 7
 abbrev pub channelOf : ℕ → Channel
@@ -53,3 +54,6 @@ timeItem x = items.TimeBin (x .time)
 
 abbrev pub startItem : StartEvent → items.Item
 startItem x = items.StartEvent (x .kind) (x .timestamp) (x .number)
+
+abbrev pub endItem : EndEvent → items.Item
+endItem x = items.EndEvent (x .size)
