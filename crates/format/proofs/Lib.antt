@@ -12,3 +12,4 @@ pub mod Acceptance
 pub mod Figures
 pub mod StateLaws
 pub mod StepLaws
+pub mod TurnLaws
