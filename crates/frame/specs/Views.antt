@@ -7,7 +7,9 @@ use Rattle.format.specs.Words.{pick}
 use Rattle.format.specs.Rules as rules
 use Rattle.format.specs.Rules.{Checked, good, bad}
 use Rattle.format.specs.Book.{endEvent, text}
-use Rattle.format.specs.Steps.{St, Stepped, moved, stopped, placeBy}
+use Rattle.format.specs.Answers.{Outcome, accepted}
+use Rattle.format.specs.Steps.{St, Stepped, moved, stopped, placeBy, Summary}
+use Rattle.book.specs.Views.{refusal}
 use Rattle.frame.specs.declared.state.Kind.{Kind}
 use Rattle.frame.specs.declared.state.Kind.the-variants as kind
 use Rattle.frame.specs.declared.state.Mode.{Mode}
@@ -15,6 +17,9 @@ use Rattle.frame.specs.declared.state.Mode.the-variants as mode
 use Rattle.frame.specs.declared.state.State.{State}
 use Rattle.frame.specs.declared.rules.Step.{Step}
 use Rattle.frame.specs.declared.rules.Step.the-variants as step
+use Rattle.frame.specs.declared.walk.Summary as declared
+use Rattle.frame.specs.declared.walk.Walked.{Walked}
+use Rattle.frame.specs.declared.walk.Walked.the-variants as walk
 
 abbrev pub viewKind : Kind → rules.Kind
 viewKind kind.Data = rules.dataKind
@@ -37,6 +42,13 @@ viewState st = record { mode = viewMode (st .mode); key = st .key; next = st .ne
 abbrev pub viewStep : Step → Stepped
 viewStep (step.Moved st next) = moved (viewState st) next
 viewStep (step.Stopped n) = stopped n
+
+abbrev pub viewSummary : declared.Summary → Summary
+viewSummary x = record { count = x .count; index = x .index; state = viewState (x .state) }
+
+abbrev pub viewWalk : Walked → Outcome Summary
+viewWalk (walk.Ended x) = accepted (viewSummary x)
+viewWalk (walk.Refused r) = refusal r
 
 -- where the items may end
 abbrev pub ended : rules.Where → Bool
