@@ -6,3 +6,7 @@ pub mod WordLaws
 pub mod TextLaws
 pub mod ItemLaws
 pub mod KeyLaws
+pub mod FieldLaws
+pub mod TableLaws
+pub mod WrittenLaws
+pub mod Book
