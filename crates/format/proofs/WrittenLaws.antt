@@ -229,3 +229,14 @@ range-fits card (TimeBin t) e = e
 range-fits card (Text s) e = e
 range-fits card (StartEvent t ts n) e = e
 range-fits card (EndEvent n) e = e
+
+-- READ: what is read at a word has the content that is cut from the word
+
+head-word : (w v : ℕ) (ws vs : List ℕ) → w ∷ ws ≡ v ∷ vs → w ≡ v
+head-word w v ws vs e = cc
+
+pub read-first : (w : ℕ) (ws : List ℕ) (x : Item) → ((i : ℕ) → getD ws i 0 < 65536) → tokenOf w ws ≡ whole x → w ≡ firstWord x
+read-first w ws x b e = head-word w (firstWord x) _ _ (written-read w ws x b e .words ∙ first-word x)
+
+pub read-content : (w : ℕ) (ws : List ℕ) (x : Item) → ((i : ℕ) → getD ws i 0 < 65536) → tokenOf w ws ≡ whole x → cut (widths (classFor x)) w ≡ content x
+read-content w ws x b e = ap (cut (widths (classFor x))) (read-first w ws x b e) ∙ content-cut x (written-read w ws x b e .fits)
