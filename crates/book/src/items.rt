@@ -87,7 +87,7 @@ impl Channel {
 
     pub const LAST_CHIP: u16 = 3;
 
-    pub const LAST: u16 = 78;
+    pub const LAST: u16 = 78; // the last channel of a chip
 
     // The fields of a word, high bits first: card 5, chip 2, channel 7.
     pub fn of_word(w: u16) -> Channel
@@ -123,7 +123,7 @@ impl Histogram {
 
     pub const LAST_CHIP: u16 = 3;
 
-    pub const LAST: u16 = 78;
+    pub const LAST: u16 = 78; // the last channel that has a histogram
 
     // The fields of a word, high bits first: card 5, chip 2, channel 7.
     pub fn of_word(w: u16) -> Histogram
@@ -159,7 +159,7 @@ impl HitCount {
 
     pub const LAST_CHIP: u16 = 3;
 
-    pub const MOST: u16 = 79;
+    pub const MOST: u16 = 79; // every channel of a chip
 
     // The fields of a word, high bits first: card 5, chip 2, count 7.
     pub fn of_word(w: u16) -> HitCount
@@ -191,7 +191,7 @@ impl HitCount {
 }
 
 impl Sample {
-    pub const LAST: u16 = 4095;
+    pub const LAST: u16 = 4095; // the largest value of 12 bits
 
     pub fn of_word(w: u16) -> Sample
         ensures { λ r. ⌜ r .value ≡ w % 4096 ⌝ }
@@ -214,7 +214,7 @@ impl Sample {
 }
 
 impl Bin {
-    pub const LAST: u16 = 4095;
+    pub const LAST: u16 = 4095; // the last bin of a histogram
 
     pub const LEAST_COUNT: u32 = 1;
 
@@ -242,7 +242,7 @@ impl Bin {
 impl LastCell {
     pub const LAST_CHIP: u16 = 3;
 
-    pub const LAST: u16 = 511;
+    pub const LAST: u16 = 511; // the last cell of a channel
 
     // The fields of a word, high bits first: chip 2, cell 9.
     pub fn of_word(w: u16) -> LastCell
@@ -269,7 +269,7 @@ impl LastCell {
 }
 
 impl TimeBin {
-    pub const LAST: u16 = 511;
+    pub const LAST: u16 = 511; // the last time of an event
 
     pub fn of_word(w: u16) -> TimeBin
         ensures { λ r. ⌜ r .time ≡ w % 512 ⌝ }

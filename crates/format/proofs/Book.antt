@@ -6,12 +6,13 @@ use mathlib.Core.Path.{_≡_, refl}
 use mathlib.Core.Logic.{_↔_}
 use mathlib.Core.Bool.{Bool, true, false}
 use mathlib.Core.Option.{Option, none, some}
-use mathlib.Core.List.{List, [], _∷_, _++_, map, List·Memᴰ}
+use mathlib.Core.List.{List, [], _∷_, _++_, map, flatten, List·Memᴰ}
 use lib.ListN.{length, getD, take, drop}
-use Rattle.format.specs.Words.{words}
 use Rattle.format.specs.Prefix.{Row, matches, find, prefixFree}
 use Rattle.format.specs.Book.{Class, unassigned, book, classOf, after, assigned, printed}
 use Rattle.format.specs.Items.{Item, Channel, Histogram, HitCount, Sample, Bin, LastCell, TimeBin, Text, StartEvent, EndEvent, classFor, three, wordsOf, fits, inRange, whole, tokenOf, tokens, key}
+use Rattle.format.proofs.BookFigures as figure
+use Rattle.format.proofs.BookFigures.{figures, figureWords}
 use Rattle.format.proofs.PrefixLaws as prefix
 use Rattle.format.proofs.BookLaws as ranges
 use Rattle.format.proofs.BookLaws.{Within, nth}
@@ -87,6 +88,11 @@ item-first = written.first-word
 pub item-content : (x : Item) → fits x ≡ true → cut (widths (classFor x)) (firstWord x) ≡ content x
 item-content = written.content-cut
 
+-- the same of an item that is read at a word, whatever the words behind it
+pub item-fields : (w : ℕ) (ws : List ℕ) (x : Item) → ((i : ℕ) → getD ws i 0 < 65536) → tokenOf w ws ≡ whole x → cut (widths (classFor x)) w ≡ content x
+item-fields = written.read-content
+
+-- and that first word is of the item's class
 pub item-class : (x : Item) → fits x ≡ true → classOf (firstWord x) ≡ classFor x
 item-class x f = written.written x f .class
 
@@ -122,18 +128,17 @@ item-data = item.tokens-skip
 pub key-rises : (a b c a′ b′ c′ : ℕ) → b < 4 → c < 128 → b′ < 4 → c′ < 128 → (key a b c < key a′ b′ c′) ↔ (three a b c < three a′ b′ c′)
 key-rises = keys.key-rises
 
--- FIGURES: the words that document 01 prints for the items of its cases 3 and 7; and a text, "AB", with its final zero and a padding zero.
-pub figures : map wordsOf
-    (StartEvent 1 1000 7 ∷ Channel 5 2 10 ∷ TimeBin 3 ∷ Sample 250 ∷ Sample 251 ∷ EndEvent 26
-    ∷ Histogram 5 0 78 ∷ Bin 256 70000 ∷ Text (0x41 ∷ 0x42 ∷ []) ∷ [])
-    ≡ (0x00F1 ∷ 0x03E8 ∷ 0x0000 ∷ 0x0000 ∷ 0x0007 ∷ 0x0000 ∷ []) ∷ (0xCB0A ∷ []) ∷ (0x0E03 ∷ []) ∷ (0x30FA ∷ []) ∷ (0x30FB ∷ []) ∷ (0x00E0 ∷ 0x001A ∷ 0x0000 ∷ [])
-    ∷ (0x8A4E ∷ []) ∷ (0x2100 ∷ 0x1170 ∷ 0x0001 ∷ []) ∷ (0x0103 ∷ 0x4241 ∷ 0x0000 ∷ []) ∷ []
-unfolding wordsOf words
-figures = refl
+-- FIGURES: the words that document 01 prints for the items of its cases 3 and 7, and a few more (proofs/BookFigures, which has words that are no
+-- item's as well), are what these items are written as, and are read as these items.
+pub figures-written : flatten (map wordsOf figures) ≡ figureWords
+figures-written = figure.figures-written
+
+pub figures-read : tokens 0 figureWords ≡ map (λ (x : Item). whole x) figures
+figures-read = figure.figures-read
 
 -- T36. "The ranges of card, chip, channel and the rest belong to their item classes and are named there once." The crate `book` has each limit
 -- as a constant of its item; the numeral here is the one of `inRange` (specs/Items), written apart from it. The promise of the item's `valid`
--- says that the two agree.
+-- says that the two agree; a text's bytes are judged by the function that adds them.
 --
 --   limit                          constant of the code                                            numeral of `inRange`
 --   card                           Channel, Histogram, HitCount ::LAST_CARD                        31

@@ -1,3 +1,4 @@
+pub mod BookFigures
 pub mod PrefixLaws
 pub mod BookLaws
 pub mod PageLaws
