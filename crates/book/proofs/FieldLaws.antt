@@ -2,23 +2,22 @@
 -- fields. One law over the widths (format's proofs/FieldLaws) stands behind all of them; a struct is tied to it by how it lists its fields.
 -- Then: the code's fields are the meaning's. Its word is the first of `wordsOf`, and `decode` gives what its `of_word` gives.
 -- Assumes nothing.
-use Prim.Native.Nat.{ℕ, _+_, _*_, _/_, _%_, _^_, _<_, _≤_}
+use Prim.Native.Nat.{ℕ, _+_, _*_, _/_, _%_, _^_, _<_}
 use mathlib.Core.Path.{_≡_, refl, sym, ap, _∙_}
 use mathlib.Core.List.{List, [], _∷_, _++_}
 use mathlib.Core.Bool.{true}
 use mathlib.Core.Option.{some}
-use native.Mathlib.Nat.{div-one, mod-eq-of-lt, add-zero}
+use native.Mathlib.Nat.{div-one, mod-eq-of-lt}
 use native.Mathlib.Omega.{arith}
 use lib.ListN.{length, getD, drop}
-use lib.Dec.{eqb}
-use Rattle.format.specs.Words.{words, longOf, timeOf, longWords, timeWords, pick}
+use Rattle.format.specs.Words.{words, longOf, timeOf, longWords, timeWords}
 use Rattle.format.specs.Book as paper
 use Rattle.format.specs.Book.{classOf}
 use Rattle.format.specs.Items as items
 use Rattle.format.specs.Items.{wordsOf, fits, decode, tokenOf, whole}
 use Rattle.format.proofs.BookLaws.{ranged}
 use Rattle.format.proofs.FieldLaws.{total, cut, pack, Fit, widths, cut-fit, cut-packed, pack-cut}
-use Rattle.format.proofs.WrittenLaws.{firstWord, laterWords, content-fit, first-word, read-content}
+use Rattle.format.proofs.WrittenLaws.{content-fit, first-word, read-content}
 use Rattle.book.specs.declared.items.Channel.{Channel}
 use Rattle.book.specs.declared.items.Histogram.{Histogram}
 use Rattle.book.specs.declared.items.HitCount.{HitCount}

@@ -1,16 +1,16 @@
 -- The front page of the word book: what a word is, what an item is written as and read as. Each statement in full, proved by one law. Quoted:
 -- document 01.
 -- Assumes nothing.
-use Prim.Native.Nat.{ℕ, suc, _+_, _-_, _*_, _/_, _%_, _^_, _<_, _≤_}
-use mathlib.Core.Path.{_≡_, refl}
+use Prim.Native.Nat.{ℕ, _+_, _-_, _<_}
+use mathlib.Core.Path.{_≡_}
 use mathlib.Core.Logic.{_↔_}
-use mathlib.Core.Bool.{Bool, true, false}
-use mathlib.Core.Option.{Option, none, some}
-use mathlib.Core.List.{List, [], _∷_, _++_, map, flatten, List·Memᴰ}
+use mathlib.Core.Bool.{true, false}
+use mathlib.Core.Option.{none, some}
+use mathlib.Core.List.{List, _∷_, _++_, map, flatten, List·Memᴰ}
 use lib.ListN.{length, getD, take, drop}
 use Rattle.format.specs.Prefix.{Row, matches, find, prefixFree}
 use Rattle.format.specs.Book.{Class, unassigned, book, classOf, after, assigned, printed}
-use Rattle.format.specs.Items.{Item, Channel, Histogram, HitCount, Sample, Bin, LastCell, TimeBin, Text, StartEvent, EndEvent, classFor, three, wordsOf, fits, inRange, whole, tokenOf, tokens, key}
+use Rattle.format.specs.Items.{Item, classFor, three, wordsOf, fits, inRange, whole, tokenOf, tokens, key}
 use Rattle.format.proofs.BookFigures as figure
 use Rattle.format.proofs.BookFigures.{figures, figureWords}
 use Rattle.format.proofs.PrefixLaws as prefix

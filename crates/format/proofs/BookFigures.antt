@@ -7,7 +7,7 @@ use mathlib.Core.List.{List, [], _∷_, map, flatten}
 use Rattle.format.specs.Words.{words, bytes, nonZero, allZero}
 use Rattle.format.specs.Prefix.{find}
 use Rattle.format.specs.Book.{text, endEvent, dataFrame, classOf}
-use Rattle.format.specs.Items.{Item, Channel, Histogram, HitCount, Sample, Bin, LastCell, TimeBin, Text, StartEvent, EndEvent, wordsOf, decode, Token, whole, broken, flawed, tokenOf, tokens}
+use Rattle.format.specs.Items.{Item, Channel, Histogram, HitCount, Sample, Bin, LastCell, TimeBin, Text, StartEvent, EndEvent, wordsOf, decode, whole, broken, flawed, tokenOf, tokens}
 
 abbrev pub figures : List Item
 figures =

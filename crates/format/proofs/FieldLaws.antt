@@ -1,10 +1,10 @@
 -- T3, over shift and width: the fields of a word "are cut from the word by position", high bits first, and "go in the same way". One pair of
 -- laws for any list of widths; then the widths of document 01's table, for every class at once.
 -- Assumes nothing.
-use Prim.Native.Nat.{ℕ, zero, suc, _+_, _-_, _*_, _/_, _%_, _^_, _<_, _≤_}
-use mathlib.Core.Path.{_≡_, refl, sym, ap, ap₂, subst, _∙_}
+use Prim.Native.Nat.{ℕ, _+_, _-_, _*_, _/_, _%_, _^_, _<_}
+use mathlib.Core.Path.{_≡_, refl, sym, ap, ap₂, _∙_}
 use mathlib.Core.List.{List, [], _∷_, List·Memᴰ}
-use mathlib.Core.Bool.{Bool, true, false, _&&_}
+use mathlib.Core.Bool.{true}
 use native.Mathlib.Nat.{add-comm, div-one, mod-lt}
 use lib.Pow.{pow-pos, split, high, low, shr-shr}
 use borrow.Author.Tests.{eqb-true}

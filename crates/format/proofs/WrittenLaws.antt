@@ -1,10 +1,10 @@
 -- What follows from reading back what was written: an item's words are its own, as many as its first word says, and its first word is its
 -- class's prefix with its content.
 -- Assumes nothing.
-use Prim.Native.Nat.{ℕ, zero, suc, _+_, _-_, _*_, _/_, _%_, _^_, _<_, _≤_}
-use mathlib.Core.Path.{_≡_, refl, sym, ap, ap₂, subst, _∙_}
+use Prim.Native.Nat.{ℕ, _+_, _-_, _%_, _<_}
+use mathlib.Core.Path.{_≡_, refl, sym, ap, _∙_}
 use mathlib.Core.List.{List, [], _∷_, _++_, append-nil, append-cancel-left}
-use mathlib.Core.Bool.{Bool, true, false, _&&_, true≢false}
+use mathlib.Core.Bool.{Bool, true, _&&_}
 use mathlib.Core.Option.{Option, none, some}
 use native.Mathlib.Omega.{arith}
 use lib.Dec.{leb, ltb, eqb}
@@ -12,13 +12,13 @@ use lib.Pow.{areBytes}
 use lib.ListN.{length, getD, take, drop, length-drop}
 use lib.Seq.{take-all}
 use borrow.Author.Tests.{leb-true, le-leb}
-use Rattle.format.specs.Words.{pick, words, bytes, longOf, longWords, timeWords, nonZero}
-use Rattle.format.specs.Book.{Class, channel, histogram, hitCount, sample, bin, lastCell, timeBin, dataFrame, monitorFrame, commandFrame, text, startEvent, endEvent, frameEnd, unassigned, classOf, after, assigned}
-use Rattle.format.specs.Items.{ItemOf, Item, Channel, Histogram, HitCount, Sample, Bin, LastCell, TimeBin, Text, StartEvent, EndEvent, classFor, three, wordsOf, fits, closed, decode, Token, whole, broken, flawed, tokenFor, tokenOf, tokens, inRange}
+use Rattle.format.specs.Words.{words, bytes, longOf, longWords, timeWords, nonZero}
+use Rattle.format.specs.Book.{Class, channel, histogram, hitCount, sample, bin, lastCell, timeBin, dataFrame, monitorFrame, commandFrame, text, startEvent, endEvent, frameEnd, unassigned, classOf, after}
+use Rattle.format.specs.Items.{ItemOf, Item, Channel, Histogram, HitCount, Sample, Bin, LastCell, TimeBin, Text, StartEvent, EndEvent, classFor, wordsOf, fits, closed, decode, Token, whole, tokenOf, tokens, inRange}
 use Rattle.format.proofs.PrefixLaws.{and-left, and-right, and-both}
 use Rattle.format.proofs.BookLaws.{nth}
 use Rattle.format.proofs.WordLaws.{pick-elim}
-use Rattle.format.proofs.ItemLaws.{Written, Read, Passed, read-written, written-read, token-passed, tokens-skip}
+use Rattle.format.proofs.ItemLaws.{Written, read-written, written-read, token-passed, tokens-skip}
 use Rattle.format.proofs.FieldLaws.{cut, pack, Fit, widths, cut-packed}
 
 -- CONTENT: the fields of an item's first word, in the book's order. A text's is its n, the final zero counted; an End event's is zero.
