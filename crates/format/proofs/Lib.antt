@@ -1,3 +1,4 @@
+pub mod BookFigures
 pub mod PrefixLaws
 pub mod BookLaws
 pub mod PageLaws
@@ -13,3 +14,7 @@ pub mod Figures
 pub mod StateLaws
 pub mod StepLaws
 pub mod TurnLaws
+pub mod FieldLaws
+pub mod TableLaws
+pub mod WrittenLaws
+pub mod Book
