@@ -18,3 +18,4 @@ pub mod FieldLaws
 pub mod TableLaws
 pub mod WrittenLaws
 pub mod Book
+pub mod PartLaws

@@ -1,8 +1,9 @@
 // One turn of the rules at a word, and the one loop that takes such turns: every question on a frame goes through it.
 ghost use mathlib.Core.Path.{_≡_};
-ghost use Prim.Native.Nat.{_+_, _*_, _≤_, _<_};
+ghost use Prim.Native.Nat.{ℕ, _+_, _*_, _≤_, _<_};
 ghost use lib.ListN.{length};
-ghost use Rattle.format.specs.Words.{wordAt};
+ghost use lib.Dec.{eqb};
+ghost use Rattle.format.specs.Words.{pick, wordAt};
 ghost use Rattle.format.specs.Book as book;
 ghost use Rattle.format.specs.Steps.{stepOf, summed};
 ghost use Rattle.frame.specs.Views.{viewKind, viewState, viewStep, viewWalk};
@@ -31,6 +32,7 @@ use book::items::HitCount;
 use book::items::LastCell;
 use book::items::Sample;
 use book::items::StartEvent;
+use book::items::Text;
 use book::items::TimeBin;
 use book::refusal::Refusal;
 use book::words::long;
@@ -40,7 +42,7 @@ use book::words::word;
 // A Bin's number in its word, its count in the two words after it.
 fn bin_at(s: &[u8], last: usize, at: usize, w: u16, st: State) -> Step
     requires { ⌜ (at < last) × (2 * last ≤ length (now s)) × (w ≡ wordAt (now s) at) × (book.bin ≡ book.classOf w) ⌝ }
-    ensures { λ r. ⌜ viewStep r ≡ stepOf 0 (now (s .entry)) last at (viewState st) ⌝ }
+    ensures { λ r. ⌜ ((card : ℕ) → viewStep r ≡ stepOf card (now (s .entry)) last at (viewState st)) ⌝ }
 {
     if last < at + 3 {
         return Step::Stopped(Refusal::CUT);
@@ -56,7 +58,7 @@ fn bin_at(s: &[u8], last: usize, at: usize, w: u16, st: State) -> Step
 // A Start event's type in its word, timestamp and number in the five words after it.
 fn start_at(s: &[u8], last: usize, at: usize, w: u16, st: State) -> Step
     requires { ⌜ (at < last) × (2 * last ≤ length (now s)) × (w ≡ wordAt (now s) at) × (book.startEvent ≡ book.classOf w) ⌝ }
-    ensures { λ r. ⌜ viewStep r ≡ stepOf 0 (now (s .entry)) last at (viewState st) ⌝ }
+    ensures { λ r. ⌜ ((card : ℕ) → viewStep r ≡ stepOf card (now (s .entry)) last at (viewState st)) ⌝ }
 {
     if last < at + 6 {
         return Step::Stopped(Refusal::CUT);
@@ -74,7 +76,7 @@ fn start_at(s: &[u8], last: usize, at: usize, w: u16, st: State) -> Step
 // An End event's size in the two words after its word.
 fn end_at(s: &[u8], last: usize, at: usize, w: u16, st: State) -> Step
     requires { ⌜ (at < last) × (2 * last ≤ length (now s)) × (w ≡ wordAt (now s) at) × (book.endEvent ≡ book.classOf w) ⌝ }
-    ensures { λ r. ⌜ viewStep r ≡ stepOf 0 (now (s .entry)) last at (viewState st) ⌝ }
+    ensures { λ r. ⌜ ((card : ℕ) → viewStep r ≡ stepOf card (now (s .entry)) last at (viewState st)) ⌝ }
 {
     if last < at + 3 {
         return Step::Stopped(Refusal::CUT);
@@ -86,16 +88,17 @@ fn end_at(s: &[u8], last: usize, at: usize, w: u16, st: State) -> Step
 // A text's bytes in the words after its word.
 fn text_at(s: &[u8], last: usize, at: usize, w: u16, st: State) -> Step
     requires { ⌜ (at < last) × (2 * last ≤ length (now s)) × (w ≡ wordAt (now s) at) × (book.text ≡ book.classOf w) ⌝ }
-    ensures { λ r. ⌜ viewStep r ≡ stepOf 0 (now (s .entry)) last at (viewState st) ⌝ }
+    ensures { λ r. ⌜ ((card : ℕ) → viewStep r ≡ stepOf card (now (s .entry)) last at (viewState st)) ⌝ }
 {
     let more = text_words(w) as usize;
     let next = at + 1 + more;
     if last < next {
         return Step::Stopped(Refusal::CUT);
     }
+    let length = Text::of_word(w).length as usize;
     let from = 2 * (at + 1);
     let to = 2 * next;
-    let closed = is_closed(&s[from..to], (w & 0xFF) as usize);
+    let closed = is_closed(&s[from..to], length);
     text(st, closed, next)
 }
 
@@ -137,6 +140,16 @@ pub enum Walked {
     Refused(Refusal),
 }
 
+// The index noted so far, with item n at hand or not.
+fn noted(count: usize, n: usize, at: usize, index: usize) -> usize
+    ensures { λ r. ⌜ r ≡ pick (eqb count n) at index ⌝ }
+{
+    if count == n {
+        return at;
+    }
+    index
+}
+
 // Item by item from the left, over the words before word `last`; the index of item n is noted on the way.
 pub(crate) fn walk(s: &[u8], last: usize, kind: Kind, card: u16, n: usize) -> Walked
     requires { ⌜ 2 * last ≤ length (now s) ⌝ }
@@ -147,9 +160,7 @@ pub(crate) fn walk(s: &[u8], last: usize, kind: Kind, card: u16, n: usize) -> Wa
     let mut index: usize = 0;
     let mut st = State::start(kind);
     while at < last {
-        if count == n {
-            index = at;
-        }
+        index = noted(count, n, at, index);
         let turn = step(s, last, at, card, st);
         match turn {
             Step::Moved(after, next) => {

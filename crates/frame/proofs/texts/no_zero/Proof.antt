@@ -1,52 +1,40 @@
+-- `frame::texts::no_zero` meets its contract. The loop keeps: the bytes that are left pass the test exactly where all do.
+-- Assumes nothing.
+use Prim.Native.Nat.{_≤_, _-_}
+use mathlib.Core.Path.{_≡_, refl}
+use native.Mathlib.Omega.{arith}
+use lib.ListN.{length, drop}
+use Rattle.format.specs.Words.{nonZero}
+use Rattle.frame.proofs.TextLoops.{more, found, none}
 use Rattle.frame.proofs.texts.no_zero.Statement.{statement}
 use Rattle.frame.proofs.texts.no_zero.Tie as tie
-use Rattle.frame.proofs.texts.no_zero.Reads as reads
-use Rattle.frame.proofs.texts.no_zero.Lts as lts
 
 abbrev Inv-loop : tie.InvT-loop
-Inv-loop s i₀ i = ?
+Inv-loop s i₀ i = (i ≤ length s) × (nonZero (drop i s) ≡ nonZero s)
 
 abbrev μ-loop : tie.MeasureT-loop
-μ-loop s i₀ i = ?
+μ-loop s i₀ i = length s - i
 
--- src/texts.rt:13:5
 loop-holds : tie.Need-loop-holds Inv-loop μ-loop
-loop-holds c = ?
+loop-holds c = (omega arith, refl)
 
--- src/texts.rt:14:12
 shared-slice-read-if1 : tie.Need-shared-slice-read-if1 Inv-loop μ-loop
-shared-slice-read-if1 c = ?
+shared-slice-read-if1 c = omega arith
 
--- src/texts.rt:15:13
 returns : tie.Need-returns Inv-loop μ-loop
-returns c = ?
+returns c = found _ _ (c .before .before .loop-test .taken) (c .if1 .taken) (c .before .before .before .loop .inv .1)
 
--- src/texts.rt:17:9
 add-i : tie.Need-add-i Inv-loop μ-loop
-add-i c = ?
+add-i c = omega arith
 
--- src/texts.rt:13:5
 loop-less : tie.Need-loop-less Inv-loop μ-loop
-loop-less c = ?
+loop-less c = omega arith
 
--- src/texts.rt:13:5
 loop-again : tie.Need-loop-again Inv-loop μ-loop
-loop-again c = ?
+loop-again c = (omega arith, more _ _ (c .before .before .loop-test .taken) (c .if1 .left) (c .before .before .before .loop .inv .1))
 
--- src/texts.rt:9:1
 returns-2 : tie.Need-returns-2 Inv-loop μ-loop
-returns-2 c = ?
+returns-2 c = none _ _ (c .loop-test .left) (c .before .loop .inv .1)
 
 pub no-zero-spec : {M : Type 1} → statement M
-no-zero-spec =
-    tie.close
-    (tie.spec
-    Inv-loop
-    μ-loop
-    loop-holds
-    shared-slice-read-if1
-    returns
-    add-i
-    loop-less
-    loop-again
-    returns-2)
+no-zero-spec = tie.close (tie.spec Inv-loop μ-loop loop-holds shared-slice-read-if1 returns add-i loop-less loop-again returns-2)

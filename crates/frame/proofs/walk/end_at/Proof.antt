@@ -1,43 +1,37 @@
+-- `frame::walk::end_at` meets its contract.
+-- Assumes nothing.
+use mathlib.Core.Path.{refl}
+use native.Mathlib.Omega.{arith}
+use denote.Ref.{now}
+use Rattle.format.specs.Book.{endEvent}
+use Rattle.frame.proofs.Steps.{cut-step, end-event-step}
 use borrow.Author.Needs.{needs}
 use Rattle.frame.proofs.walk.end_at.Statement.{statement}
 use Rattle.frame.proofs.walk.end_at.Tie as tie
-use Rattle.frame.proofs.walk.end_at.Reads as reads
-use Rattle.frame.proofs.walk.end_at.Lts as lts
-use Rattle.book.proofs.items.EndEvent.low_bits.Reads as low-bits-reads
-use Rattle.book.proofs.words.long.Reads as long-reads
-use Rattle.frame.proofs.rules.end_event.Reads as end-event-reads
 
--- src/walk.rt:79:15
 add-if1 : tie.Need-add-if1
 add-if1 c = search needs
 
--- src/walk.rt:80:9
 returns : tie.Need-returns
-returns c = ?
+returns c = λ k. let a = c .before .before .args in let p = c .before .before .pre in cut-step k (now (a .s)) (a .last) (a .at) (a .w) _ (p .2) (p .1) endEvent 2 (p .3) refl refl (p .0) (omega arith)
 
--- src/walk.rt:82:24
 add-long : tie.Need-add-long
 add-long c = search needs
 
--- src/walk.rt:82:9
 long-requires : tie.Need-long-requires
 long-requires c κs = search needs
 
--- src/walk.rt:83:42
 low-bits-requires : tie.Need-low-bits-requires
 low-bits-requires c κs = search needs
 
--- src/walk.rt:83:65
 add-end-event : tie.Need-add-end-event
 add-end-event c = search needs
 
--- src/walk.rt:83:5
 end-event-requires : tie.Need-end-event-requires
 end-event-requires c κs = search needs
 
--- src/walk.rt:75:1
 returns-2 : tie.Need-returns-2
-returns-2 c = ?
+returns-2 c = λ k. let a = c .before .before .before .before .before .args in let p = c .before .before .before .before .before .pre in end-event-step k (now (a .s)) (a .last) (a .at) (a .w) _ (p .2) (p .1) _ _ _ (p .3) (omega arith) (c .before .low-bits .ensures) (c .before .before .long .ensures) (omega arith) (c .end-event .ensures)
 
 pub end-at-spec : {M : Type 1} → statement M
 end-at-spec =

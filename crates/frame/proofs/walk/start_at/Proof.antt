@@ -1,52 +1,43 @@
+-- `frame::walk::start_at` meets its contract.
+-- Assumes nothing.
+use mathlib.Core.Path.{refl}
+use native.Mathlib.Omega.{arith}
+use denote.Ref.{now}
+use Rattle.format.specs.Book.{startEvent}
+use Rattle.frame.proofs.Steps.{cut-step, start-step}
 use borrow.Author.Needs.{needs}
 use Rattle.frame.proofs.walk.start_at.Statement.{statement}
 use Rattle.frame.proofs.walk.start_at.Tie as tie
-use Rattle.frame.proofs.walk.start_at.Reads as reads
-use Rattle.frame.proofs.walk.start_at.Lts as lts
-use Rattle.book.proofs.items.StartEvent.of_word.Reads as of-word-reads
-use Rattle.book.proofs.words.long.Reads as long-reads
-use Rattle.book.proofs.words.time.Reads as time-reads
-use Rattle.frame.proofs.rules.start_event.Reads as start-event-reads
 
--- src/walk.rt:61:15
 add-if1 : tie.Need-add-if1
 add-if1 c = search needs
 
--- src/walk.rt:62:9
 returns : tie.Need-returns
-returns c = ?
+returns c = λ k. let a = c .before .before .args in let p = c .before .before .pre in cut-step k (now (a .s)) (a .last) (a .at) (a .w) _ (p .2) (p .1) startEvent 5 (p .3) refl refl (p .0) (omega arith)
 
--- src/walk.rt:64:29
 add-time : tie.Need-add-time
 add-time c = search needs
 
--- src/walk.rt:64:9
 time-requires : tie.Need-time-requires
 time-requires c κs = search needs
 
--- src/walk.rt:65:26
 add-long : tie.Need-add-long
 add-long c = search needs
 
--- src/walk.rt:65:9
 long-requires : tie.Need-long-requires
 long-requires c κs = search needs
 
--- src/walk.rt:67:15
 of-word-requires : tie.Need-of-word-requires
 of-word-requires c κs = search needs
 
--- src/walk.rt:71:28
 add-start-event : tie.Need-add-start-event
 add-start-event c = search needs
 
--- src/walk.rt:71:5
 start-event-requires : tie.Need-start-event-requires
 start-event-requires c κs = search needs
 
--- src/walk.rt:57:1
 returns-2 : tie.Need-returns-2
-returns-2 c = ?
+returns-2 c = λ k. let a = c .before .before .before .before .before .before .args in let p = c .before .before .before .before .before .before .pre in start-step k (now (a .s)) (a .last) (a .at) (a .w) _ (p .2) (p .1) _ _ _ _ (p .3) (omega arith) (c .before .of-word .ensures) (c .before .before .before .time .ensures) (c .before .before .long .ensures) (c .start-event .ensures)
 
 pub start-at-spec : {M : Type 1} → statement M
 start-at-spec =
