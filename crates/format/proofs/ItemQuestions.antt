@@ -25,13 +25,13 @@ use Rattle.format.proofs.TextLaws.{are-bytes, text-there}
 use Rattle.format.proofs.WalkLaws.{allowed-fits}
 use Rattle.format.proofs.Acceptance.{exactly, length-s}
 
-no-some : {A B : Type 0} (a : A) → _≡_ {A = Option A} none (some a) → B
+pub no-some : {A B : Type 0} (a : A) → _≡_ {A = Option A} none (some a) → B
 no-some a e = let z : _≡_ {A = ℕ} 0 1 = cc in absurd (omega arith)
 
 no-byte : {B : Type 0} (b : ℕ) (t : List ℕ) → _≡_ {A = List ℕ} [] (b ∷ t) → B
 no-byte b t e = let z : _≡_ {A = ℕ} 0 1 = cc in absurd (omega arith)
 
-some-is : {A : Type 0} (a b : A) → some a ≡ some b → a ≡ b
+pub some-is : {A : Type 0} (a b : A) → some a ≡ some b → a ≡ b
 some-is a b e = cc
 
 -- ---- what an ordinal picks

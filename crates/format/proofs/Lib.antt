@@ -12,3 +12,4 @@ pub mod Acceptance
 pub mod Figures
 pub mod ItemQuestions
 pub mod SoundLaws
+pub mod EventQuestions

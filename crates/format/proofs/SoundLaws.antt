@@ -80,6 +80,10 @@ seen (EndEvent n) = ends n refl
 
 -- ---- when an event is open
 
+pub open-nil : inEvent [] ≡ false
+unfolding since count
+open-nil = refl
+
 pub open-start : (t ts n : ℕ) (p : List Item) → inEvent (StartEvent t ts n ∷ p) ≡ true
 unfolding since count
 open-start t ts n p = le-leb 1 (1 + count startEvent (since endEvent p)) (omega arith)
