@@ -13,3 +13,4 @@ pub mod Figures
 pub mod ItemQuestions
 pub mod SoundLaws
 pub mod EventQuestions
+pub mod RisingLaws
