@@ -14,3 +14,4 @@ pub mod ItemQuestions
 pub mod SoundLaws
 pub mod EventQuestions
 pub mod RisingLaws
+pub mod MarkLaws
