@@ -15,3 +15,5 @@ pub mod SoundLaws
 pub mod EventQuestions
 pub mod RisingLaws
 pub mod MarkLaws
+pub mod FillLaws
+pub mod StandLaws

@@ -30,7 +30,7 @@ Rise lo hi blank (m ∷ ms) = (lo ≤ m .0) × (m .0 < hi) × (m .1 ≡ blank �
 abbrev pub MarkIs : List Mark → ℕ → ℕ → ℕ → Type 0
 MarkIs ms k i v = pickNth k ms ≡ some (i, v)
 
-mark-place : (m : Mark) (i v : ℕ) → some m ≡ some (i, v) → (m .0 ≡ i) × (m .1 ≡ v)
+pub mark-place : (m : Mark) (i v : ℕ) → some m ≡ some (i, v) → (m .0 ≡ i) × (m .1 ≡ v)
 mark-place m i v e = (ap (λ (m : Mark). m .0) (some-is m (i, v) e), ap (λ (m : Mark). m .1) (some-is m (i, v) e))
 
 pub rise-lower : (lo lo′ hi blank : ℕ) (ms : List Mark) → lo′ ≤ lo → Rise lo hi blank ms → Rise lo′ hi blank ms
