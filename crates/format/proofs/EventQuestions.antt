@@ -2,25 +2,25 @@
 -- Assumes nothing.
 use Prim.Native.Nat.{ℕ, zero, suc, _+_, _*_, _<_, _≤_}
 use mathlib.Core.Path.{_≡_, refl, sym, ap, ap₂, subst, _∙_}
-use mathlib.Core.List.{List, [], _∷_, _++_, append-nil, append-assoc}
-use mathlib.Core.Logic.{_↔_, _⊎_, inl, inr}
+use mathlib.Core.List.{List, [], _∷_, _++_}
+use mathlib.Core.Logic.{_↔_}
 use mathlib.Core.Bool.{Bool, true, false, true≢false}
 use mathlib.Core.Option.{Option, none, some}
 use native.Mathlib.Omega.{arith}
-use lib.Dec.{leb, eqb}
+use lib.Dec.{leb}
 use lib.ListN.{length, length-append}
 use borrow.Author.Tests.{leb-true, leb-false, eqb-true, not-true}
 use Rattle.format.specs.Words.{pick, Bytes}
 use Rattle.format.specs.Answers.{Outcome, accepted, refused, andThen}
 use Rattle.format.specs.Book.{Class, startEvent, endEvent}
 use Rattle.format.specs.Items.{Item, StartEvent, EndEvent, classFor, wordsOf, inRange}
-use Rattle.format.specs.Rules.{Kind, dataKind, same, since, count, total, gather, first, inEvent, eventSize, sized}
-use Rattle.format.specs.Frames.{Frame, Sound, behind, allWords, Legal, verdict}
+use Rattle.format.specs.Rules.{Kind, dataKind, same, since, count, total, gather, first, inEvent, eventSize}
+use Rattle.format.specs.Frames.{Frame, Sound, behind, allWords, verdict}
 use Rattle.format.specs.Questions.{Event, Opened, opens, endSize, events, pickNth, present, eventAt}
 use Rattle.format.specs.Stands.{EventIn}
 use Rattle.format.proofs.PrefixLaws.{and-right}
 use Rattle.format.proofs.Acceptance.{exactly}
-use Rattle.format.proofs.SoundLaws.{tally, behind-append, sound-left, sound-right, sound-head, sound-tail, Plain, Seen, starts, ends, other, seen, open-nil, open-start, stays-open, balance, no-starts, none-starts, total-since}
+use Rattle.format.proofs.SoundLaws.{tally, behind-append, sound-left, sound-right, sound-head, sound-tail, Seen, starts, ends, other, seen, open-nil, open-start, stays-open, balance, no-starts, none-starts, total-since}
 use Rattle.format.proofs.ItemQuestions.{no-some, some-is, picked, unpicked, all-words}
 
 count-nil : (c : Class) → count c [] ≡ 0
@@ -34,7 +34,7 @@ index-nil at = omega arith
 -- ---- the events of a list, an item at a time
 
 -- what a Start event at word `at` opens
-abbrev opened : ℕ → ℕ → ℕ → ℕ → List Item → Opened
+abbrev pub opened : ℕ → ℕ → ℕ → ℕ → List Item → Opened
 opened at t ts n xs = record { event = record { kind = t; timestamp = ts; number = n; size = first (gather endSize xs); index = at }; items = xs }
 
 -- there are as many as Start events
@@ -190,12 +190,15 @@ abbrev pub eventOf : List Item → ℕ → Outcome Event
 eventOf xs e = andThen (present (pickNth e (events 3 xs))) (λ o. accepted (o .event))
 
 -- a Start event with e of them before it and the first End event behind it are event e
+pub event-picked : (xs : List Item) (e : ℕ) (v : Event) (h : EventIn xs e v)
+    → pickNth e (events 3 xs) ≡ some (opened (3 + length (allWords (h .before))) (v .kind) (v .timestamp) (v .number) (h .between ++ (EndEvent (v .size) ∷ h .after)))
+event-picked xs e v h =
+    ap (λ (l : List Item). pickNth e (events 3 l)) (h .items)
+    ∙ begins 3 e (h .before) (h .between ++ (EndEvent (v .size) ∷ h .after)) (v .kind) (v .timestamp) (v .number) (h .ordinal)
+
 event-there : (xs : List Item) (e : ℕ) (v : Event) → EventIn xs e v → eventOf xs e ≡ accepted v
 event-there xs e v h =
-    let rest : List Item = h .between ++ (EndEvent (v .size) ∷ h .after) in
-    let p : pickNth e (events 3 xs) ≡ some (opened (3 + length (allWords (h .before))) (v .kind) (v .timestamp) (v .number) rest) =
-    ap (λ (l : List Item). pickNth e (events 3 l)) (h .items) ∙ begins 3 e (h .before) rest (v .kind) (v .timestamp) (v .number) (h .ordinal) in
-    ap (λ (o : Option Opened). andThen (present o) (λ o. accepted (o .event))) p
+    ap (λ (o : Option Opened). andThen (present o) (λ o. accepted (o .event))) (event-picked xs e v h)
     ∙ ap₂ (λ (m k : ℕ). accepted (record { kind = v .kind; timestamp = v .timestamp; number = v .number; size = m; index = k }))
     (first-end (h .between) (h .after) (v .size) (h .ended)) (sym (h .index))
 
@@ -248,10 +251,11 @@ module _ (kind : Kind) (card : ℕ) (xs : List Item) (sound : Sound kind card []
             index = b .index;
           }
 
-  pub event-in : (e : ℕ) (v : Event) → eventOf xs e ≡ accepted v → EventIn xs e v
-  event-in e v h =
-      let a = answered xs e v h in
-      subst (EventIn xs e) (a .event) (found-in e (a .found) (begun 3 e xs (a .found) (a .pick)))
+  pub picked-event : (e : ℕ) (o : Opened) → pickNth e (events 3 xs) ≡ some o → EventIn xs e (o .event)
+  picked-event e o h = found-in e o (begun 3 e xs o h)
+
+  event-in : (e : ℕ) (v : Event) → eventOf xs e ≡ accepted v → EventIn xs e v
+  event-in e v h = let a = answered xs e v h in subst (EventIn xs e) (a .event) (picked-event e (a .found) (a .pick))
 
   pub event-exactly : (e : ℕ) (v : Event) → (eventOf xs e ≡ accepted v) ↔ EventIn xs e v
   event-exactly e v = (event-in e v, event-there xs e v)
@@ -325,6 +329,26 @@ sounds s bs f v =
     let (l, e) = exactly s bs f .0 v in
     record { sound = l .sound; closed = not-true _ (l .ended) }
 
--- no other kind of frame has an event
-pub no-events : (f : Frame) → Sounds f → (f .kind ≡ dataKind → ⊥) → (e : ℕ) → eventOf (f .items) e ≡ refused 13 0
-no-events f h d e = event-absent (f .items) e .1 (omega (arith, no-starts (f .kind) (f .card) d [] (f .items) (h .sound)))
+module _ (s : List ℕ) (f : Frame) (v : verdict s ≡ accepted f) where
+  pub event-none : (e : ℕ) → (eventAt s e ≡ refused 13 0) ↔ (count startEvent (f .items) ≤ e)
+  event-none e = subst (λ (o : Outcome Event). (o ≡ refused 13 0) ↔ (count startEvent (f .items) ≤ e)) (sym (event-of s f v e)) (event-absent (f .items) e)
+
+module _ (s : List ℕ) (bs : Bytes s) (f : Frame) (v : verdict s ≡ accepted f) where
+  abbrev good : Sounds f
+  good = sounds s bs f v
+
+  pub event-answer : (e : ℕ) (w : Event) → (eventAt s e ≡ accepted w) ↔ EventIn (f .items) e w
+  event-answer e w =
+      subst (λ (o : Outcome Event). (o ≡ accepted w) ↔ EventIn (f .items) e w) (sym (event-of s f v e))
+      (event-exactly (f .kind) (f .card) (f .items) (good .sound) (good .closed) e w)
+
+  pub event-bytes : (e : ℕ) (w : Event) (h : EventIn (f .items) e w)
+      → w .size ≡ 2 * length (allWords (StartEvent (w .kind) (w .timestamp) (w .number) ∷ (h .between ++ (EndEvent (w .size) ∷ []))))
+  event-bytes = event-size (f .kind) (f .card) (f .items) (good .sound) (good .closed)
+
+  pub frame-balance : count startEvent (f .items) ≡ count endEvent (f .items)
+  frame-balance = starts-ends (f .kind) (f .card) (f .items) (good .sound) (good .closed)
+
+  -- no other kind of frame has an event
+  pub other-kind : (f .kind ≡ dataKind → ⊥) → (e : ℕ) → eventAt s e ≡ refused 13 0
+  other-kind d e = event-none s f v e .1 (omega (arith, no-starts (f .kind) (f .card) d [] (f .items) (good .sound)))

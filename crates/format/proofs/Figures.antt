@@ -2,7 +2,7 @@
 -- the answer beside it.
 -- Assumes nothing.
 use mathlib.Core.Path.{_≡_, refl}
-use mathlib.Core.List.{List, [], _∷_, map}
+use mathlib.Core.List.{[], map}
 use Rattle.follower.specs.Follow.{numbered, follow}
 use Rattle.follower.specs.Sender.{answers}
 use Rattle.format.specs.Words.{words, bytes, nonZero, allZero}

@@ -1,27 +1,23 @@
 -- What the samples and counts questions fill: the Samples of a channel and the Bins of a histogram, each a mark at its time or number. In a
 -- sound list these rise, so that no two have one place.
 -- Assumes nothing.
-use Prim.Native.Nat.{ℕ, zero, suc, _+_, _*_, _<_, _≤_}
-use mathlib.Core.Path.{_≡_, refl, sym, ap, ap₂, subst, _∙_}
-use mathlib.Core.List.{List, [], _∷_, _++_}
-use mathlib.Core.Logic.{_⊎_, inl, inr}
-use mathlib.Core.Bool.{Bool, true, false, not, _&&_, _||_, true≢false}
-use mathlib.Core.Option.{Option, none, some}
+use Prim.Native.Nat.{ℕ, suc, _+_, _<_, _≤_}
+use mathlib.Core.Path.{_≡_, refl, sym, ap, _∙_}
+use mathlib.Core.List.{List, [], _∷_}
+use mathlib.Core.Bool.{Bool, true, false, _&&_, _||_, true≢false}
 use native.Mathlib.Omega.{arith}
-use lib.Dec.{leb, ltb, eqb}
-use lib.ListN.{length, set}
+use lib.Dec.{leb, ltb}
+use lib.ListN.{set}
 use borrow.Author.Tests.{leb-true, le-leb, ltb-true}
 use Rattle.format.specs.Words.{pick}
 use Rattle.format.specs.Book.{Class, channel, histogram, sample, bin, timeBin, text, startEvent}
-use Rattle.format.specs.Items.{Item, Channel, Histogram, HitCount, Sample, Bin, LastCell, TimeBin, Text, StartEvent, EndEvent, classFor, inRange}
-use Rattle.format.specs.Rules.{Kind, dataKind, monitorKind, commandKind, same, since, count, has, latest, gather, startTime, first, binNumber, above, time, within, outside, allowed, among, place, inEvent, sized, order}
+use Rattle.format.specs.Items.{Item, Channel, Histogram, HitCount, Sample, Bin, LastCell, TimeBin, Text, StartEvent, EndEvent}
+use Rattle.format.specs.Rules.{Kind, dataKind, monitorKind, commandKind, same, since, count, has, latest, gather, binNumber, above, time, within, outside, allowed, among, place, inEvent}
 use Rattle.format.specs.Frames.{Allowed, Sound}
-use Rattle.format.specs.Questions.{pickNth, fillSamples, fillCounts}
-use Rattle.format.specs.Stands.{only, SampleIn, BinIn}
-use Rattle.format.proofs.PrefixLaws.{and-left, and-right, and-both}
-use Rattle.format.proofs.SoundLaws.{sound-head, sound-tail, monitor-place}
-use Rattle.format.proofs.ItemQuestions.{no-some, some-is}
-use Rattle.format.proofs.MarkLaws.{Mark, setAll, Rise, rise-lower, MarkIs}
+use Rattle.format.specs.Questions.{fillSamples, fillCounts}
+use Rattle.format.proofs.PrefixLaws.{and-left, and-right}
+use Rattle.format.proofs.SoundLaws.{monitor-place}
+use Rattle.format.proofs.MarkLaws.{Mark, setAll, Rise, rise-lower}
 
 -- ---- the marks
 
@@ -165,9 +161,12 @@ module _ (kind : Kind) (card : ℕ) where
       let v = and-left (leb b 4095 && leb 1 n && ltb n 4294967296) true (s .0 .valued) in
       let w = and-left (leb b 4095 && leb 1 n) (ltb n 4294967296) v in
       let l : b ≤ 4095 = leb-true b 4095 (and-left (leb b 4095) (leb 1 n) w) in
-      let m : 1 ≤ n = leb-true 1 n (and-right (leb b 4095) (leb 1 n) w) in
-      (h b (s .0 .ordered), omega arith, λ z. omega arith,
-      bins-from xs (Bin b n ∷ p) (suc b) (λ d e. ltb-true b d (and-left (ltb b d) (above d (gather binNumber (since histogram p))) e)) (s .1))
+      let m : 1 ≤ n = leb-true 1 n (and-right (leb b 4095) (leb 1 n) w) in (
+        h b (s .0 .ordered),
+        omega arith,
+        λ z. omega arith,
+        bins-from xs (Bin b n ∷ p) (suc b) (λ d e. ltb-true b d (and-left (ltb b d) (above d (gather binNumber (since histogram p))) e)) (s .1),
+      )
   bins-from (LastCell a b ∷ xs) p lo h s = tt
   bins-from (TimeBin t ∷ xs) p lo h s = tt
   bins-from (Text t ∷ xs) p lo h s = tt

@@ -1,23 +1,23 @@
 -- T10 and T11. The item at an ordinal, the index of the next one, and a text's bytes, of an accepted frame.
 -- Assumes nothing.
-use Prim.Native.Nat.{ℕ, zero, suc, _+_, _-_, _*_, _/_, _%_, _<_, _≤_}
-use mathlib.Core.Path.{_≡_, refl, sym, ap, ap₂, subst, _∙_}
+use Prim.Native.Nat.{ℕ, zero, suc, _+_, _*_, _/_, _<_, _≤_}
+use mathlib.Core.Path.{_≡_, refl, sym, ap, ap₂, _∙_}
 use mathlib.Core.List.{List, [], _∷_, _++_, append-nil, append-assoc}
 use mathlib.Core.Bool.{Bool, true, false, _&&_, true≢false}
 use mathlib.Core.Option.{Option, none, some}
 use native.Mathlib.Omega.{arith}
 use lib.Dec.{leb}
 use lib.Pow.{areBytes}
-use lib.ListN.{length, getD, take, drop, length-append, take-append-drop}
+use lib.ListN.{length, take, drop, length-append}
 use lib.Seq.{take-append-le, drop-append-add, take-all}
 use borrow.Author.Tests.{leb-true, leb-false}
 use Rattle.format.specs.Words.{Bytes, words, bytes, nonZero}
-use Rattle.format.specs.Answers.{Outcome, accepted, refused, andThen}
+use Rattle.format.specs.Answers.{accepted, refused}
 use Rattle.format.specs.Book.{text}
 use Rattle.format.specs.Items.{Item, Channel, Histogram, HitCount, Sample, Bin, LastCell, TimeBin, Text, StartEvent, EndEvent, classFor, wordsOf, fits}
 use Rattle.format.specs.Rules.{Kind, same}
-use Rattle.format.specs.Frames.{Frame, Sound, behind, allWords, frameWords, encode, Legal, lastOf, verdict}
-use Rattle.format.specs.Questions.{Found, nth, itemAt, textIn, textFound, textAt, pickNth}
+use Rattle.format.specs.Frames.{Frame, Sound, allWords, frameWords, encode, lastOf, verdict}
+use Rattle.format.specs.Questions.{nth, itemAt, textIn, textFound, textAt, pickNth}
 use Rattle.format.specs.Stands.{ItemIs, indexOf}
 use Rattle.format.proofs.PrefixLaws.{and-left, and-right}
 use Rattle.format.proofs.WordLaws.{bytes-append, length-bytes, length-words}
@@ -92,6 +92,10 @@ index-next zero (y ∷ xs) x e =
     ap (λ (l : List ℕ). 3 + length l) (append-nil (wordsOf y) ∙ w)
 index-next (suc n) (y ∷ xs) x e =
     omega (arith, index-next n xs x e, length-append (wordsOf y) (allWords (take (suc n) xs)), length-append (wordsOf y) (allWords (take n xs)))
+
+pub index-first : (xs : List Item) → indexOf xs 0 ≡ 3
+unfolding allWords
+index-first xs = refl
 
 pub index-rises : (n : ℕ) (xs : List Item) → n < length xs → indexOf xs n < indexOf xs (suc n)
 index-rises n xs h =
@@ -188,7 +192,7 @@ words-behind f n t e =
 
 module _ (s : List ℕ) (bs : Bytes s) (f : Frame) (v : verdict s ≡ accepted f) where
   -- a text's bytes, in the frame's own
-  pub text-part : (n : ℕ) (t : List ℕ) → ItemIs (f .items) n (Text t) → take (length t) (drop (2 * indexOf (f .items) n + 2) s) ≡ t
+  text-part : (n : ℕ) (t : List ℕ) → ItemIs (f .items) n (Text t) → take (length t) (drop (2 * indexOf (f .items) n + 2) s) ≡ t
   unfolding encode
   text-part n t e =
       let (l, q) = exactly s bs f .0 v in
@@ -214,7 +218,7 @@ unfolding textAt
 text-refused s k p v n = ap textFound (item-refused s k p v n)
 
 -- another class has no text
-pub no-text : (x : Item) → same text (classFor x) ≡ false → textIn x ≡ []
+no-text : (x : Item) → same text (classFor x) ≡ false → textIn x ≡ []
 no-text (Channel a b c) e = refl
 no-text (Histogram a b c) e = refl
 no-text (HitCount a b c) e = refl
@@ -227,7 +231,7 @@ no-text (StartEvent t ts n) e = refl
 no-text (EndEvent n) e = refl
 
 -- what is not empty is a Text's
-pub some-text : (x : Item) (b : ℕ) (t : List ℕ) → textIn x ≡ b ∷ t → x ≡ Text (b ∷ t)
+some-text : (x : Item) (b : ℕ) (t : List ℕ) → textIn x ≡ b ∷ t → x ≡ Text (b ∷ t)
 some-text (Channel x y z) b t e = no-byte b t e
 some-text (Histogram x y z) b t e = no-byte b t e
 some-text (HitCount x y z) b t e = no-byte b t e
@@ -238,6 +242,13 @@ some-text (TimeBin u) b t e = no-byte b t e
 some-text (Text s) b t e = ap Text e
 some-text (StartEvent u ts n) b t e = no-byte b t e
 some-text (EndEvent n) b t e = no-byte b t e
+
+pub other-text : (s : List ℕ) (f : Frame) → verdict s ≡ accepted f → (n : ℕ) (x : Item) → ItemIs (f .items) n x → same text (classFor x) ≡ false → textAt s n ≡ []
+other-text s f v n x h d = text-of s f v n x h ∙ no-text x d
+
+pub text-bytes : (s : List ℕ) → Bytes s → (f : Frame) → verdict s ≡ accepted f → (n : ℕ) (t : List ℕ) → ItemIs (f .items) n (Text t)
+    → textAt s n ≡ take (length t) (drop (2 * indexOf (f .items) n + 2) s)
+text-bytes s bs f v n t h = text-of s f v n (Text t) h ∙ sym (text-part s bs f v n t h)
 
 pub only-text : (s : List ℕ) (f : Frame) → verdict s ≡ accepted f → (n b : ℕ) (t : List ℕ) → textAt s n ≡ b ∷ t → ItemIs (f .items) n (Text (b ∷ t))
 only-text s f v n b t e = go (leb (length (f .items)) n) refl

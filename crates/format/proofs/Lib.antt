@@ -17,3 +17,5 @@ pub mod RisingLaws
 pub mod MarkLaws
 pub mod FillLaws
 pub mod StandLaws
+pub mod FindLaws
+pub mod FillQuestions

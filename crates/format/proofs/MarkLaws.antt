@@ -1,18 +1,17 @@
 -- Marks, a place and a value each, set in a list whose first places were cleared: where the places rise, each stays as it was set.
 -- Assumes nothing.
-use Prim.Native.Nat.{ℕ, zero, suc, _+_, _<_, _≤_}
-use mathlib.Core.Path.{_≡_, refl, sym, ap, ap₂, subst, _∙_}
+use Prim.Native.Nat.{ℕ, zero, suc, _<_, _≤_}
+use mathlib.Core.Path.{_≡_, refl, sym, ap, _∙_}
 use mathlib.Core.List.{List, [], _∷_}
-use mathlib.Core.Logic.{_⊎_, inl, inr}
 use mathlib.Core.Bool.{Bool, true, false}
-use mathlib.Core.Option.{Option, none, some}
+use mathlib.Core.Option.{some}
 use native.Mathlib.Omega.{arith}
-use lib.Dec.{leb, eqb}
+use lib.Dec.{eqb}
 use lib.ListN.{length, getD, set, length-set}
 use lib.Seq.{getD-set-same, getD-set-other}
-use borrow.Author.Tests.{leb-true, leb-false, eqb-true, eqb-false}
+use borrow.Author.Tests.{eqb-true, eqb-false}
 use Rattle.format.specs.Questions.{pickNth, cleared}
-use Rattle.format.proofs.ItemQuestions.{no-some, some-is, unpicked}
+use Rattle.format.proofs.ItemQuestions.{no-some, some-is}
 
 abbrev pub Mark : Type 0
 Mark = ℕ × ℕ
@@ -66,6 +65,9 @@ one-mark lo hi blank (suc k) zero i v v′ (m ∷ ms) r e e′ =
     let (a, b, c) = in-bounds (suc (m .0)) hi blank k i v ms (r .3) e in
     absurd (omega arith)
 one-mark lo hi blank (suc k) (suc k′) i v v′ (m ∷ ms) r e e′ = ap suc (one-mark (suc (m .0)) hi blank k k′ i v v′ ms (r .3) e e′)
+
+pub one-value : (k k′ i v v′ : ℕ) (ms : List Mark) → k ≡ k′ → MarkIs ms k i v → MarkIs ms k′ i v′ → v ≡ v′
+one-value k k′ i v v′ ms h e e′ = mark-place (i, v) i v′ (sym e ∙ ap (λ (k : ℕ). pickNth k ms) h ∙ e′) .1
 
 -- a place is marked or not
 pub data Marked (ms : List Mark) (i : ℕ) : Type 0 where

@@ -1,19 +1,19 @@
 -- In a sound list the headers rise: Channel headers in one event, Histogram headers in a frame. So no two headers have one chip and channel.
 -- Assumes nothing.
-use Prim.Native.Nat.{ℕ, zero, suc, _+_, _*_, _<_, _≤_}
-use mathlib.Core.Path.{_≡_, refl, sym, ap, ap₂, subst, _∙_}
-use mathlib.Core.List.{List, [], _∷_, _++_, append-assoc}
-use mathlib.Core.Bool.{Bool, true, false, _&&_, true≢false}
+use Prim.Native.Nat.{ℕ, _<_}
+use mathlib.Core.Path.{_≡_, sym, subst}
+use mathlib.Core.List.{List, [], _∷_, _++_}
+use mathlib.Core.Bool.{Bool, true, _&&_}
 use native.Mathlib.Omega.{arith}
 use lib.Dec.{leb, ltb, eqb}
 use borrow.Author.Tests.{ltb-true, eqb-true}
 use Rattle.format.specs.Words.{pick}
-use Rattle.format.specs.Book.{Class, startEvent, histogram}
-use Rattle.format.specs.Items.{Item, Channel, Histogram, classFor, key, inRange}
-use Rattle.format.specs.Rules.{Kind, same, since, count, gather, channelKey, histogramKey, above, sized}
-use Rattle.format.specs.Frames.{Allowed, Sound, behind}
+use Rattle.format.specs.Book.{Class, startEvent}
+use Rattle.format.specs.Items.{Item, Channel, Histogram, classFor, key}
+use Rattle.format.specs.Rules.{Kind, same, since, count, gather, channelKey, histogramKey, above}
+use Rattle.format.specs.Frames.{Sound, behind}
 use Rattle.format.proofs.PrefixLaws.{and-left, and-right}
-use Rattle.format.proofs.SoundLaws.{tally, sound-right, sound-head, sound-tail}
+use Rattle.format.proofs.SoundLaws.{tally, tally-zero, sound-right, sound-head, sound-tail}
 
 -- whatever is above all of these is above k
 abbrev Higher : ℕ → List ℕ → Type 0
@@ -36,11 +36,7 @@ module _ (g : Item → List ℕ) where
   higher-since c k p (x ∷ xs) n h =
       let a : tally (same c (classFor x)) ≡ 0 = omega arith in
       higher-since c k (x ∷ p) xs (omega arith)
-      (subst (λ (b : Bool). Higher k (g x ++ gather g (pick b [] (since c p)))) (sym (not-one (same c (classFor x)) a)) (higher-behind k (g x) (gather g (since c p)) h))
-    where
-      not-one : (b : Bool) → tally b ≡ 0 → b ≡ false
-      not-one true e = absurd (omega arith)
-      not-one false e = refl
+      (subst (λ (b : Bool). Higher k (g x ++ gather g (pick b [] (since c p)))) (sym (tally-zero (same c (classFor x)) a)) (higher-behind k (g x) (gather g (since c p)) h))
 
   pub higher-all : (k : ℕ) (p xs : List Item) → Higher k (gather g p) → Higher k (gather g (behind p xs))
   unfolding behind gather

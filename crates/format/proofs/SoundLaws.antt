@@ -1,25 +1,26 @@
 -- Sound lists in parts, and when an event is open: from a Start event until the first End event behind it, and only so in a data frame.
 -- Assumes nothing.
-use Prim.Native.Nat.{ℕ, zero, suc, _+_, _*_, _<_, _≤_}
-use mathlib.Core.Path.{_≡_, refl, sym, ap, ap₂, subst, _∙_}
+use Prim.Native.Nat.{ℕ, _+_}
+use mathlib.Core.Path.{_≡_, refl, sym, ap, _∙_}
 use mathlib.Core.List.{List, [], _∷_, _++_}
-use mathlib.Core.Logic.{_⊎_, inl, inr}
-use mathlib.Core.Bool.{Bool, true, false, not, _&&_, _||_, true≢false}
+use mathlib.Core.Bool.{Bool, true, false, _||_, true≢false}
 use native.Mathlib.Omega.{arith}
-use lib.Dec.{leb, eqb}
 use lib.ListN.{length, length-append}
-use borrow.Author.Tests.{le-leb, eqb-true, not-true}
+use borrow.Author.Tests.{le-leb}
 use Rattle.format.specs.Words.{pick}
 use Rattle.format.specs.Book.{Class, channel, histogram, hitCount, sample, bin, lastCell, timeBin, dataFrame, monitorFrame, commandFrame, text, startEvent, endEvent, frameEnd, unassigned}
-use Rattle.format.specs.Items.{Item, Channel, Histogram, HitCount, Sample, Bin, LastCell, TimeBin, Text, StartEvent, EndEvent, classFor, wordsOf, inRange}
-use Rattle.format.specs.Rules.{Kind, dataKind, monitorKind, commandKind, same, since, count, latest, total, inEvent, within, outside, headed, unheaded, allowed, among, place, mayEnd, sized, eventSize}
+use Rattle.format.specs.Items.{Item, Channel, Histogram, HitCount, Sample, Bin, LastCell, TimeBin, Text, StartEvent, EndEvent, classFor, wordsOf}
+use Rattle.format.specs.Rules.{Kind, dataKind, monitorKind, commandKind, same, since, count, latest, total, inEvent, within, outside, headed, unheaded, allowed, among, place}
 use Rattle.format.specs.Frames.{Allowed, Sound, behind, allWords}
-use Rattle.format.specs.Questions.{Opened, opens, endSize}
-use Rattle.format.proofs.PrefixLaws.{and-left, and-right}
+use Rattle.format.specs.Questions.{opens, endSize}
 
 -- 1 where the test holds
 abbrev pub tally : Bool → ℕ
 tally b = pick b 1 0
+
+pub tally-zero : (b : Bool) → tally b ≡ 0 → b ≡ false
+tally-zero true e = absurd (omega arith)
+tally-zero false e = refl
 
 -- ---- lists in parts
 
@@ -217,10 +218,6 @@ unfolding behind count since total allWords
 total-since p [] n = omega arith
 total-since p (x ∷ xs) n =
     let a : tally (same startEvent (classFor x)) ≡ 0 = omega arith in
-    let f : same startEvent (classFor x) ≡ false = not-one (same startEvent (classFor x)) a in
+    let f : same startEvent (classFor x) ≡ false = tally-zero (same startEvent (classFor x)) a in
     let h : total (since startEvent (x ∷ p)) ≡ length (wordsOf x) + total (since startEvent p) = rw f in
     omega (arith, total-since (x ∷ p) xs (omega arith), length-append (wordsOf x) (allWords xs))
-  where
-    not-one : (b : Bool) → tally b ≡ 0 → b ≡ false
-    not-one true e = absurd (omega arith)
-    not-one false e = refl

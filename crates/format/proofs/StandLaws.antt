@@ -1,23 +1,23 @@
 -- A Sample stands at a time of a channel, and a Bin in a histogram, exactly where its mark is.
 -- Assumes nothing.
-use Prim.Native.Nat.{ℕ, zero, suc, _+_, _*_, _<_, _≤_}
+use Prim.Native.Nat.{ℕ, zero, suc, _+_}
 use mathlib.Core.Path.{_≡_, refl, sym, ap, ap₂, subst, _∙_}
 use mathlib.Core.List.{List, [], _∷_, _++_}
 use mathlib.Core.Logic.{_⊎_, inl, inr}
-use mathlib.Core.Bool.{Bool, true, false, _&&_, true≢false}
-use mathlib.Core.Option.{Option, none, some}
+use mathlib.Core.Bool.{true, false, true≢false}
+use mathlib.Core.Option.{some}
 use native.Mathlib.Omega.{arith}
 use lib.ListN.{length}
-use Rattle.format.specs.Book.{Class, channel, sample, bin, timeBin}
+use Rattle.format.specs.Book.{channel, sample, bin, timeBin}
 use Rattle.format.specs.Items.{Item, Channel, Histogram, HitCount, Sample, Bin, LastCell, TimeBin, Text, StartEvent, EndEvent, classFor}
 use Rattle.format.specs.Rules.{Kind, count, among}
-use Rattle.format.specs.Frames.{Allowed, Sound}
+use Rattle.format.specs.Frames.{Sound}
 use Rattle.format.specs.Questions.{pickNth}
 use Rattle.format.specs.Stands.{only, SampleIn, BinIn}
 use Rattle.format.proofs.PrefixLaws.{and-left, and-right, and-both}
 use Rattle.format.proofs.SoundLaws.{sound-head}
-use Rattle.format.proofs.ItemQuestions.{no-some, some-is}
-use Rattle.format.proofs.MarkLaws.{Mark, MarkIs, mark-place}
+use Rattle.format.proofs.ItemQuestions.{no-some}
+use Rattle.format.proofs.MarkLaws.{MarkIs, mark-place}
 use Rattle.format.proofs.FillLaws.{sampleMarks, binMarks, no-place}
 
 -- ---- an item as a channel sees it

@@ -1,14 +1,15 @@
 -- What stands where in a frame's items, said by splitting the list and with no word of how it is looked up (document 01, "Reading and writing
 -- items"). The questions answer exactly this: proofs/Questions.
 -- Assumes nothing.
-use Prim.Native.Nat.{ℕ, suc, _+_, _*_}
+use Prim.Native.Nat.{ℕ, _+_, _<_, _≤_}
 use mathlib.Core.Path.{_≡_}
 use mathlib.Core.List.{List, [], _∷_, _++_}
 use mathlib.Core.Bool.{Bool, true, _&&_}
 use mathlib.Core.Option.{some}
-use lib.ListN.{length, take}
+use mathlib.Core.Logic.{_↔_}
+use lib.ListN.{length, take, getD}
 use Rattle.format.specs.Book.{Class, sample, bin, timeBin, startEvent, endEvent}
-use Rattle.format.specs.Items.{Item, Channel, Histogram, Sample, Bin, TimeBin, StartEvent, EndEvent, classFor, wordsOf}
+use Rattle.format.specs.Items.{Item, Channel, Histogram, Sample, Bin, TimeBin, StartEvent, EndEvent, classFor}
 use Rattle.format.specs.Rules.{count, among}
 use Rattle.format.specs.Frames.{allWords}
 use Rattle.format.specs.Questions.{Event, pickNth}
@@ -68,3 +69,11 @@ pub record BinIn (ys : List Item) (b n : ℕ) : Type 0 where
   pub after : List Item
   pub items : ys ≡ before ++ (Bin b n ∷ after)
   pub same-histogram : only (bin ∷ []) before ≡ true
+
+-- what a question leaves in lent words: of the first n, each holds the value that stands at its place, or is blank where none stands; the
+-- words beyond are as found
+pub record Fill (n blank : ℕ) (Standing : ℕ → ℕ → Type 0) (found left : List ℕ) : Type 0 where
+  pub stands : (i v : ℕ) → i < n → ((getD left i 0 ≡ v) × (v ≡ blank → ⊥)) ↔ Standing i v
+  pub blanks : (i : ℕ) → i < n → ((v : ℕ) → Standing i v → ⊥) → getD left i 0 ≡ blank
+  pub beyond : (i : ℕ) → n ≤ i → getD left i 0 ≡ getD found i 0
+  pub kept : length left ≡ length found

@@ -6,7 +6,7 @@ use lib.ListN.{getD, replicate}
 use Rattle.follower.specs.Follow as follower
 use Rattle.follower.specs.Sender.{answers}
 use Rattle.format.specs.Answers.{Outcome, accepted, refused, andThen}
-use Rattle.format.specs.Items.{Item, Channel, Histogram, Sample, Bin, TimeBin, StartEvent, EndEvent}
+use Rattle.format.specs.Items.{Channel, Histogram, Sample, Bin, TimeBin, StartEvent, EndEvent}
 use Rattle.format.specs.Rules.{dataKind, monitorKind}
 use Rattle.format.specs.Frames.{Frame, verdict}
 use Rattle.format.specs.Questions.{Event, eventAt, samplesAt, samplesLeft, countsAt, countsLeft}
