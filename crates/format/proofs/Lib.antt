@@ -19,3 +19,4 @@ pub mod FillLaws
 pub mod StandLaws
 pub mod FindLaws
 pub mod FillQuestions
+pub mod Questions
