@@ -1,7 +1,7 @@
 -- T13 and T14. The samples of a channel and the counts of a histogram, of an accepted frame.
 -- Assumes nothing.
 use Prim.Native.Nat.{ℕ, _<_, _≤_}
-use mathlib.Core.Path.{_≡_, sym, subst, _∙_}
+use mathlib.Core.Path.{_≡_, sym, ap, subst, _∙_}
 use mathlib.Core.List.{List, []}
 use mathlib.Core.Logic.{_↔_}
 use native.Mathlib.Omega.{arith}
@@ -47,6 +47,15 @@ unfolding countsAt
 counts-refused s k p v chip c room = rw v
 
 -- ---- what they fill
+
+-- a refusal leaves the lent words as found
+pub samples-kept : (s : List ℕ) (e chip c k p : ℕ) (found : List ℕ) → samplesAt s e chip c (length found) ≡ refused k p
+    → samplesLeft (samplesAt s e chip c (length found)) found ≡ found
+samples-kept s e chip c k p found h = ap (λ (o : Outcome (List Item)). samplesLeft o found) h
+
+pub counts-kept : (s : List ℕ) (chip c k p : ℕ) (found : List ℕ) → countsAt s chip c (length found) ≡ refused k p
+    → countsLeft (countsAt s chip c (length found)) found ≡ found
+counts-kept s chip c k p found h = ap (λ (o : Outcome (List Item)). countsLeft o found) h
 
 -- marks that say what stands fill it
 fill-of : (ms : List Mark) (n blank : ℕ) (Standing : ℕ → ℕ → Type 0) (found : List ℕ) → Rise 0 n blank ms

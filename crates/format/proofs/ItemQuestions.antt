@@ -1,7 +1,7 @@
 -- T10 and T11. The item at an ordinal, the index of the next one, and a text's bytes, of an accepted frame.
 -- Assumes nothing.
 use Prim.Native.Nat.{ℕ, zero, suc, _+_, _*_, _/_, _<_, _≤_}
-use mathlib.Core.Path.{_≡_, refl, sym, ap, ap₂, _∙_}
+use mathlib.Core.Path.{_≡_, refl, sym, ap, ap₂, subst, _∙_}
 use mathlib.Core.List.{List, [], _∷_, _++_, append-nil, append-assoc}
 use mathlib.Core.Bool.{Bool, true, false, _&&_, true≢false}
 use mathlib.Core.Option.{Option, none, some}
@@ -9,7 +9,7 @@ use native.Mathlib.Omega.{arith}
 use lib.Dec.{leb}
 use lib.Pow.{areBytes}
 use lib.ListN.{length, take, drop, length-append}
-use lib.Seq.{take-append-le, drop-append-add, take-all}
+use lib.Seq.{length-take-le, take-append-le, drop-append-add, take-all}
 use borrow.Author.Tests.{leb-true, leb-false}
 use Rattle.format.specs.Words.{Bytes, words, bytes, nonZero}
 use Rattle.format.specs.Answers.{accepted, refused}
@@ -62,6 +62,31 @@ module _ {A : Type 0} where
   picked-split zero (y ∷ xs) x e = ap (λ (z : A). z ∷ xs) (some-is y x e)
   picked-split (suc n) (y ∷ xs) x e = ap (λ (l : List A). y ∷ l) (picked-split n xs x e)
 
+-- item n, as the questions look it up
+abbrev Picks : List Item → ℕ → Item → Type 0
+Picks xs n x = pickNth n xs ≡ some x
+
+-- is the item with n before it
+to-pick : (n : ℕ) (before after : List Item) (x : Item) → length before ≡ n → Picks (before ++ (x ∷ after)) n x
+unfolding pickNth
+to-pick zero [] after x e = refl
+to-pick zero (y ∷ before) after x e = absurd (omega arith)
+to-pick (suc n) [] after x e = absurd (omega arith)
+to-pick (suc n) (y ∷ before) after x e = to-pick n before after x (omega arith)
+
+picks : (xs : List Item) (n : ℕ) (x : Item) → ItemIs xs n x → Picks xs n x
+picks xs n x h = ap (pickNth n) (h .items) ∙ to-pick n (h .before) (h .after) x (h .ordinal)
+
+stands : (xs : List Item) (n : ℕ) (x : Item) → Picks xs n x → ItemIs xs n x
+stands xs n x e =
+    let b = picked-below n xs x e in
+    record { before = take n xs; after = drop (suc n) xs; items = picked-split n xs x e; ordinal = length-take-le n xs (omega arith) }
+
+pub item-stands : (n : ℕ) (xs : List Item) → n < length xs → (x : Item) × ItemIs xs n x
+item-stands n xs h =
+    let (x, e) = picked n xs h in
+    (x, stands xs n x e)
+
 -- ---- the words of items
 
 pub all-words : (xs ys : List Item) → allWords (xs ++ ys) ≡ allWords xs ++ allWords ys
@@ -84,7 +109,7 @@ some-word (StartEvent t ts n) = omega arith
 some-word (EndEvent n) = omega arith
 
 -- one item further, one item's words further
-pub index-next : (n : ℕ) (xs : List Item) (x : Item) → ItemIs xs n x → indexOf xs (suc n) ≡ indexOf xs n + length (wordsOf x)
+pub index-next : (n : ℕ) (xs : List Item) (x : Item) → Picks xs n x → indexOf xs (suc n) ≡ indexOf xs n + length (wordsOf x)
 unfolding allWords pickNth
 index-next n [] x e = no-some x e
 index-next zero (y ∷ xs) x e =
@@ -103,7 +128,7 @@ index-rises n xs h =
     omega (arith, index-next n xs x e, some-word x)
 
 -- the item walked to, from word `at` on
-nth-there : (n at : ℕ) (xs : List Item) (x : Item) → ItemIs xs n x
+nth-there : (n at : ℕ) (xs : List Item) (x : Item) → Picks xs n x
     → nth n at xs ≡ accepted (record { item = x; next = at + length (allWords (take (suc n) xs)) })
 unfolding nth pickNth allWords
 nth-there n at [] x e = no-some x e
@@ -125,7 +150,7 @@ nth-past (suc n) at (y ∷ xs) h = nth-past n (at + length (wordsOf y)) xs (omeg
 module _ (s : List ℕ) (f : Frame) (v : verdict s ≡ accepted f) where
   pub item-there : (n : ℕ) (x : Item) → ItemIs (f .items) n x → itemAt s n ≡ accepted (record { item = x; next = indexOf (f .items) (suc n) })
   unfolding itemAt
-  item-there n x e = rw v (nth-there n 3 (f .items) x e)
+  item-there n x h = rw v (nth-there n 3 (f .items) x (picks (f .items) n x h))
 
   pub item-past : (n : ℕ) → length (f .items) ≤ n → itemAt s n ≡ refused 13 0
   unfolding itemAt
@@ -155,7 +180,7 @@ drop-bytes (suc k) [] = let e : 2 * suc k ≡ suc (suc (2 * k)) = omega arith in
 drop-bytes (suc k) (w ∷ ws) = let e : 2 * suc k ≡ suc (suc (2 * k)) = omega arith in rw e (drop-bytes k ws)
 
 -- each item of a sound list fits its fields
-pub sound-fits : (kind : Kind) (card n : ℕ) (p xs : List Item) (x : Item) → Sound kind card p xs → ItemIs xs n x → fits x ≡ true
+pub sound-fits : (kind : Kind) (card n : ℕ) (p xs : List Item) (x : Item) → Sound kind card p xs → Picks xs n x → fits x ≡ true
 unfolding Sound pickNth
 sound-fits kind card n p [] x h e = no-some x e
 sound-fits kind card zero p (y ∷ xs) x h e = ap fits (sym (some-is y x e)) ∙ allowed-fits kind card p y (h .0)
@@ -174,7 +199,7 @@ text-first t r e =
     ∙ there .1
 
 -- the frame's words behind the first word of its item n
-words-behind : (f : Frame) (n : ℕ) (t : List ℕ) → ItemIs (f .items) n (Text t)
+words-behind : (f : Frame) (n : ℕ) (t : List ℕ) → Picks (f .items) n (Text t)
     → drop (indexOf (f .items) n + 1) (frameWords f) ≡ words (t ++ (0 ∷ [])) ++ (allWords (drop (suc n) (f .items)) ++ (0x000F ∷ []))
 unfolding frameWords allWords wordsOf
 words-behind f n t e =
@@ -192,7 +217,7 @@ words-behind f n t e =
 
 module _ (s : List ℕ) (bs : Bytes s) (f : Frame) (v : verdict s ≡ accepted f) where
   -- a text's bytes, in the frame's own
-  text-part : (n : ℕ) (t : List ℕ) → ItemIs (f .items) n (Text t) → take (length t) (drop (2 * indexOf (f .items) n + 2) s) ≡ t
+  text-part : (n : ℕ) (t : List ℕ) → Picks (f .items) n (Text t) → take (length t) (drop (2 * indexOf (f .items) n + 2) s) ≡ t
   unfolding encode
   text-part n t e =
       let (l, q) = exactly s bs f .0 v in
@@ -248,7 +273,7 @@ other-text s f v n x h d = text-of s f v n x h ∙ no-text x d
 
 pub text-bytes : (s : List ℕ) → Bytes s → (f : Frame) → verdict s ≡ accepted f → (n : ℕ) (t : List ℕ) → ItemIs (f .items) n (Text t)
     → textAt s n ≡ take (length t) (drop (2 * indexOf (f .items) n + 2) s)
-text-bytes s bs f v n t h = text-of s f v n (Text t) h ∙ sym (text-part s bs f v n t h)
+text-bytes s bs f v n t h = text-of s f v n (Text t) h ∙ sym (text-part s bs f v n t (picks (f .items) n (Text t) h))
 
 pub only-text : (s : List ℕ) (f : Frame) → verdict s ≡ accepted f → (n b : ℕ) (t : List ℕ) → textAt s n ≡ b ∷ t → ItemIs (f .items) n (Text (b ∷ t))
 only-text s f v n b t e = go (leb (length (f .items)) n) refl
@@ -256,5 +281,5 @@ only-text s f v n b t e = go (leb (length (f .items)) n) refl
     go : (q : Bool) → leb (length (f .items)) n ≡ q → ItemIs (f .items) n (Text (b ∷ t))
     go true h = no-byte b t (sym (text-past s f v n (leb-true _ _ h)) ∙ e)
     go false h =
-        let (x, i) = picked n (f .items) (leb-false _ _ h) in
-        i ∙ ap some (some-text x b t (sym (text-of s f v n x i) ∙ e))
+        let (x, i) = item-stands n (f .items) (leb-false _ _ h) in
+        subst (ItemIs (f .items) n) (some-text x b t (sym (text-of s f v n x i) ∙ e)) i

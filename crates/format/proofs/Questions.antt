@@ -37,13 +37,22 @@ module _ (s : List ℕ) (k p : ℕ) (v : verdict s ≡ refused k p) where
   pub counts-refused : (chip c room : ℕ) → countsAt s chip c room ≡ refused k p
   counts-refused = fill.counts-refused s k p v
 
+-- "Every refusal leaves all lent memory as found."
+pub samples-kept : (s : List ℕ) (e chip c k p : ℕ) (found : List ℕ) → samplesAt s e chip c (length found) ≡ refused k p
+    → samplesLeft (samplesAt s e chip c (length found)) found ≡ found
+samples-kept = fill.samples-kept
+
+pub counts-kept : (s : List ℕ) (chip c k p : ℕ) (found : List ℕ) → countsAt s chip c (length found) ≡ refused k p
+    → countsLeft (countsAt s chip c (length found)) found ≡ found
+counts-kept = fill.counts-kept
+
 module _ (s : List ℕ) (bytes : Bytes s) (f : Frame) (v : verdict s ≡ accepted f) where
   -- T10. "The item at ordinal n (from 0) answers with its class and content, and the index of the next item or end word."
   pub item-answer : (n : ℕ) (x : Item) → ItemIs (f .items) n x → itemAt s n ≡ accepted (record { item = x; next = indexOf (f .items) (suc n) })
   item-answer = items.item-there s f v
 
   pub item-there : (n : ℕ) → n < length (f .items) → (x : Item) × ItemIs (f .items) n x
-  item-there n = items.picked n (f .items)
+  item-there n = items.item-stands n (f .items)
 
   -- ABSENT, "no such item"
   pub item-absent : (n : ℕ) → length (f .items) ≤ n → itemAt s n ≡ refused 13 0

@@ -5,18 +5,20 @@ use Prim.Native.Nat.{ℕ, _+_, _<_, _≤_}
 use mathlib.Core.Path.{_≡_}
 use mathlib.Core.List.{List, [], _∷_, _++_}
 use mathlib.Core.Bool.{Bool, true, _&&_}
-use mathlib.Core.Option.{some}
 use mathlib.Core.Logic.{_↔_}
 use lib.ListN.{length, take, getD}
 use Rattle.format.specs.Book.{Class, sample, bin, timeBin, startEvent, endEvent}
 use Rattle.format.specs.Items.{Item, Channel, Histogram, Sample, Bin, TimeBin, StartEvent, EndEvent, classFor}
 use Rattle.format.specs.Rules.{count, among}
 use Rattle.format.specs.Frames.{allWords}
-use Rattle.format.specs.Questions.{Event, pickNth}
+use Rattle.format.specs.Questions.{Event}
 
 -- item n, from 0, is x
-abbrev pub ItemIs : List Item → ℕ → Item → Type 0
-ItemIs xs n x = pickNth n xs ≡ some x
+pub record ItemIs (xs : List Item) (n : ℕ) (x : Item) : Type 0 where
+  pub before : List Item
+  pub after : List Item
+  pub items : xs ≡ before ++ (x ∷ after)
+  pub ordinal : length before ≡ n
 
 -- the word index of item n: the three first words and those of the n items before it come first; of the end word where n is their number
 abbrev pub indexOf : List Item → ℕ → ℕ
