@@ -19,3 +19,13 @@ pub mod TableLaws
 pub mod WrittenLaws
 pub mod Book
 pub mod PartLaws
+pub mod ItemQuestions
+pub mod SoundLaws
+pub mod EventQuestions
+pub mod RisingLaws
+pub mod MarkLaws
+pub mod FillLaws
+pub mod StandLaws
+pub mod FindLaws
+pub mod FillQuestions
+pub mod Questions

@@ -9,3 +9,5 @@ pub mod Questions
 pub mod Writing
 pub mod Figures
 pub mod Steps
+pub mod Table
+pub mod Stands
