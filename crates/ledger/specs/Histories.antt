@@ -1,0 +1,107 @@
+-- Histories: any run of edit calls on one buffer, the accepted ones among them, the frame and the entries that these leave; and the chain of
+-- frames f_0 .. f_c that an accepted record stands for.
+-- Assumes nothing.
+use Prim.Native.Nat.{ℕ, zero, suc, _+_, _≤_, _<_}
+use mathlib.Core.Path.{_≡_, refl}
+use mathlib.Core.Bool.{Bool, true}
+use mathlib.Core.List.{List, [], _∷_, _++_, map}
+use mathlib.Core.Option.{some}
+use lib.ListN.{length}
+use Rattle.format.specs.Words.{wordAt}
+use Rattle.format.specs.Answers.{Outcome, accepted, refused, Done}
+use Rattle.ledger.specs.Frames.{Spot, FrameBook}
+use Rattle.ledger.specs.Formats.{Entry, Correction, Format, size}
+use Rattle.ledger.specs.Records.{lengthIn, countIn, totalIn, frameIn, numbered, entriesIn, before}
+use Rattle.ledger.specs.Calls.{entryFor, editAnswer, editExit}
+
+-- a list the other way round: entries are read newest first and stand oldest first
+unfoldable pub oldestFirst : {A : Type 0} → List A → List A
+oldestFirst [] = []
+oldestFirst (x ∷ xs) = oldestFirst xs ++ (x ∷ [])
+
+-- a call, where it was accepted, before the later ones
+abbrev pub keep : Done → Correction → List Correction → List Correction
+keep (accepted u) c cs = c ∷ cs
+keep (refused n p) c cs = cs
+
+-- the correction that an entry tells of
+abbrev pub correctionOf : Entry → Correction
+correctionOf e = record { word = e .word; value = e .new; operator = e .operator; reason = e .reason; extra = e .extra }
+
+module _ (B : FrameBook) where
+  -- the frame after some edits, in order
+  unfoldable pub frameAfter : List ℕ → List Correction → List ℕ
+  frameAfter f [] = f
+  frameAfter f (c ∷ cs) = frameAfter (B .put f (c .word) (c .value)) cs
+
+  pub after-none : (f : List ℕ) → frameAfter f [] ≡ f
+  unfolding frameAfter
+  after-none f = refl
+
+  pub after-more : (f : List ℕ) (c : Correction) (cs : List Correction) → frameAfter f (c ∷ cs) ≡ frameAfter (B .put f (c .word) (c .value)) cs
+  unfolding frameAfter
+  after-more f c cs = refl
+
+  -- the entries that they make, in order: each has the value that stood before it as its old one
+  unfoldable pub entriesOf : List ℕ → List Correction → List Entry
+  entriesOf f [] = []
+  entriesOf f (c ∷ cs) = entryFor B f c ∷ entriesOf (B .put f (c .word) (c .value)) cs
+
+  pub entries-after : (f : List ℕ) (c : Correction) (cs : List Correction) → entriesOf f (c ∷ cs) ≡ entryFor B f c ∷ entriesOf (B .put f (c .word) (c .value)) cs
+  unfolding entriesOf
+  entries-after f c cs = refl
+
+module _ (B : FrameBook) (F : Format) where
+  -- the buffer after some edit calls, in order, each of them accepted or refused
+  unfoldable pub run : List ℕ → List Correction → List ℕ
+  run b [] = b
+  run b (c ∷ cs) = run (editExit B F b c) cs
+
+  pub run-more : (b : List ℕ) (c : Correction) (cs : List Correction) → run b (c ∷ cs) ≡ run (editExit B F b c) cs
+  unfolding run
+  run-more b c cs = refl
+
+  -- the calls among them that are accepted
+  unfoldable pub made : List ℕ → List Correction → List Correction
+  made b [] = []
+  made b (c ∷ cs) = keep (editAnswer B F b c) c (made (editExit B F b c) cs)
+
+  pub made-accepted : (b : List ℕ) (c : Correction) (cs : List Correction) → editAnswer B F b c ≡ accepted tt → made b (c ∷ cs) ≡ c ∷ made (editExit B F b c) cs
+  unfolding made
+  made-accepted b c cs e = rw e
+
+  pub made-refused : (b : List ℕ) (c : Correction) (cs : List Correction) (n p : ℕ) → editAnswer B F b c ≡ refused n p → made b (c ∷ cs) ≡ made (editExit B F b c) cs
+  unfolding made
+  made-refused b c cs n p e = rw e
+
+  -- ---- what an accepted record stands for, with no word of testing it
+  -- the header words
+  pub record Header (b : List ℕ) : Type 0 where
+    pub long : 16 ≤ length b
+    pub version : wordAt b 0 ≡ F .version
+    pub one : wordAt b 1 ≡ 1
+    pub sixteen : wordAt b 2 ≡ 16
+    pub history : wordAt b 4 ≡ 16 + lengthIn b
+    pub total : wordAt b 6 ≡ totalIn F b
+    pub nought : wordAt b 7 ≡ 0
+    pub room : totalIn F b ≤ length b
+    pub limit : F .limit (entriesIn F b) ≡ true
+
+  -- an entry that fits a frame
+  pub record Fits (f : List ℕ) (e : Entry) : Type 0 where
+    pub spot : Spot
+    pub stands : B .spot f (e .word) ≡ some spot
+    pub kind : spot .kind ≡ e .kind
+    pub new : spot .value ≡ e .new
+    pub old : B .legal (e .kind) (e .old) ≡ true
+    pub changed : e .old ≡ e .new → ⊥
+    pub operator : (1 ≤ e .operator) × (e .operator ≤ 65535)
+    pub reason : (1 ≤ e .reason) × (e .reason ≤ 5)
+    pub good : F .good (e .extra) ≡ true
+    pub suits : F .suits (e .extra) spot ≡ true
+
+  -- frames f_low .. f_c, f_c the one standing: each entry above `low` fits its frame, and the frame before it has the old value there
+  pub record Chain (b : List ℕ) (low : ℕ) (f : ℕ → List ℕ) : Type 0 where
+    pub standing : f (countIn b) ≡ frameIn b
+    pub fit : (j : ℕ) → low ≤ j → j < countIn b → Fits (f (suc j)) (numbered F b (suc j))
+    pub back : (j : ℕ) → low ≤ j → j < countIn b → f j ≡ before B (f (suc j)) (numbered F b (suc j))
