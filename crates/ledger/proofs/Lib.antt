@@ -1,1 +1,5 @@
 pub mod Stores
+pub mod Answering
+pub mod Codecs
+pub mod Headers
+pub mod Judging

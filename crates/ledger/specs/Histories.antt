@@ -1,17 +1,11 @@
--- Histories: any run of edit calls on one buffer, the accepted ones among them, the frame and the entries that these leave; and the chain of
--- frames f_0 .. f_c that an accepted record stands for.
+-- Histories: any run of edit calls on one buffer, the accepted ones among them, and the frame and the entries that these leave.
 -- Assumes nothing.
-use Prim.Native.Nat.{ℕ, zero, suc, _+_, _≤_, _<_}
+use Prim.Native.Nat.{ℕ}
 use mathlib.Core.Path.{_≡_, refl}
-use mathlib.Core.Bool.{Bool, true}
-use mathlib.Core.List.{List, [], _∷_, _++_, map}
-use mathlib.Core.Option.{some}
-use lib.ListN.{length}
-use Rattle.format.specs.Words.{wordAt}
+use mathlib.Core.List.{List, [], _∷_, _++_}
 use Rattle.format.specs.Answers.{Outcome, accepted, refused, Done}
-use Rattle.ledger.specs.Frames.{Spot, FrameBook}
-use Rattle.ledger.specs.Formats.{Entry, Correction, Format, size}
-use Rattle.ledger.specs.Records.{lengthIn, countIn, totalIn, frameIn, numbered, entriesIn, before}
+use Rattle.ledger.specs.Frames.{FrameBook}
+use Rattle.ledger.specs.Formats.{Entry, Correction, Format}
 use Rattle.ledger.specs.Calls.{entryFor, editAnswer, editExit}
 
 -- a list the other way round: entries are read newest first and stand oldest first
@@ -73,35 +67,3 @@ module _ (B : FrameBook) (F : Format) where
   pub made-refused : (b : List ℕ) (c : Correction) (cs : List Correction) (n p : ℕ) → editAnswer B F b c ≡ refused n p → made b (c ∷ cs) ≡ made (editExit B F b c) cs
   unfolding made
   made-refused b c cs n p e = rw e
-
-  -- ---- what an accepted record stands for, with no word of testing it
-  -- the header words
-  pub record Header (b : List ℕ) : Type 0 where
-    pub long : 16 ≤ length b
-    pub version : wordAt b 0 ≡ F .version
-    pub one : wordAt b 1 ≡ 1
-    pub sixteen : wordAt b 2 ≡ 16
-    pub history : wordAt b 4 ≡ 16 + lengthIn b
-    pub total : wordAt b 6 ≡ totalIn F b
-    pub nought : wordAt b 7 ≡ 0
-    pub room : totalIn F b ≤ length b
-    pub limit : F .limit (entriesIn F b) ≡ true
-
-  -- an entry that fits a frame
-  pub record Fits (f : List ℕ) (e : Entry) : Type 0 where
-    pub spot : Spot
-    pub stands : B .spot f (e .word) ≡ some spot
-    pub kind : spot .kind ≡ e .kind
-    pub new : spot .value ≡ e .new
-    pub old : B .legal (e .kind) (e .old) ≡ true
-    pub changed : e .old ≡ e .new → ⊥
-    pub operator : (1 ≤ e .operator) × (e .operator ≤ 65535)
-    pub reason : (1 ≤ e .reason) × (e .reason ≤ 5)
-    pub good : F .good (e .extra) ≡ true
-    pub suits : F .suits (e .extra) spot ≡ true
-
-  -- frames f_low .. f_c, f_c the one standing: each entry above `low` fits its frame, and the frame before it has the old value there
-  pub record Chain (b : List ℕ) (low : ℕ) (f : ℕ → List ℕ) : Type 0 where
-    pub standing : f (countIn b) ≡ frameIn b
-    pub fit : (j : ℕ) → low ≤ j → j < countIn b → Fits (f (suc j)) (numbered F b (suc j))
-    pub back : (j : ℕ) → low ≤ j → j < countIn b → f j ≡ before B (f (suc j)) (numbered F b (suc j))
