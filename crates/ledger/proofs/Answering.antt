@@ -9,7 +9,7 @@ use native.Mathlib.Omega.{arith}
 use lib.ListN.{getD}
 use Rattle.format.specs.Answers.{Outcome, accepted, refused, Done, andThen, need, firstOf, leaves}
 use Rattle.format.proofs.PrefixLaws.{and-left, and-right}
-use Rattle.ledger.specs.Tests.{all, allFrom}
+use Rattle.ledger.specs.Tests.{all, allFrom, First}
 
 -- ---- tests
 all-first : (a : Bool) (ts : List Bool) → allFrom a ts ≡ true → a ≡ true
@@ -59,12 +59,6 @@ unfolding firstOf
 first-all [] h = refl
 first-all (accepted u ∷ os) h = first-all os (λ i. h (suc i))
 first-all (refused n p ∷ os) h = h 0
-
--- answer i refuses so, and none before it does
-pub record First (os : List Done) (n p : ℕ) : Type 0 where
-  pub at : ℕ
-  pub refuses : getD os at (accepted tt) ≡ refused n p
-  pub earlier : (j : ℕ) → j < at → getD os j (accepted tt) ≡ accepted tt
 
 pub refused-first : (os : List Done) (n p : ℕ) → firstOf os ≡ refused n p → First os n p
 unfolding firstOf

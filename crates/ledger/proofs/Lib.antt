@@ -5,3 +5,5 @@ pub mod Headers
 pub mod Judging
 pub mod Edits
 pub mod Holding
+pub mod Opening
+pub mod Editing
