@@ -7,3 +7,5 @@ pub mod Edits
 pub mod Holding
 pub mod Opening
 pub mod Editing
+pub mod Orders
+pub mod Forward

@@ -1,12 +1,15 @@
 -- Histories: any run of edit calls on one buffer, the accepted ones among them, and the frame and the entries that these leave.
 -- Assumes nothing.
-use Prim.Native.Nat.{ℕ}
+use Prim.Native.Nat.{ℕ, _≤_}
 use mathlib.Core.Path.{_≡_, refl}
 use mathlib.Core.List.{List, [], _∷_, _++_}
+use lib.ListN.{length, take}
+use Rattle.format.specs.Words.{Bytes}
 use Rattle.format.specs.Answers.{Outcome, accepted, refused, Done}
 use Rattle.ledger.specs.Frames.{FrameBook}
 use Rattle.ledger.specs.Formats.{Entry, Correction, Format}
-use Rattle.ledger.specs.Calls.{entryFor, editAnswer, editExit}
+use Rattle.ledger.specs.Records.{totalIn}
+use Rattle.ledger.specs.Calls.{entryFor, openAnswer, openExit, editAnswer, editExit}
 
 -- a list the other way round: entries are read newest first and stand oldest first
 unfoldable pub oldestFirst : {A : Type 0} → List A → List A
@@ -67,3 +70,13 @@ module _ (B : FrameBook) (F : Format) where
   pub made-refused : (b : List ℕ) (c : Correction) (cs : List Correction) (n p : ℕ) → editAnswer B F b c ≡ refused n p → made b (c ∷ cs) ≡ made (editExit B F b c) cs
   unfolding made
   made-refused b c cs n p e = rw e
+
+  -- opening a frame in some buffer and making some calls on it makes the bytes that b begins with
+  pub record Sequence (b : List ℕ) : Type 0 where
+    pub origin : List ℕ
+    pub buffer : List ℕ
+    pub calls : List Correction
+    pub bytes : Bytes origin
+    pub opened : openAnswer B F origin buffer ≡ accepted tt
+    pub whole : totalIn F (run (openExit B F origin buffer) calls) ≤ length b
+    pub same : take (totalIn F (run (openExit B F origin buffer) calls)) b ≡ take (totalIn F (run (openExit B F origin buffer) calls)) (run (openExit B F origin buffer) calls)
