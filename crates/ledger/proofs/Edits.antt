@@ -23,6 +23,10 @@ module _ (B : FrameBook) where
   frameOf f [] = f
   frameOf f (c ∷ h) = B .put (frameOf f h) (c .word) (c .value)
 
+  pub frame-none : (f : List ℕ) → frameOf f [] ≡ f
+  unfolding frameOf
+  frame-none f = refl
+
   unfoldable pub entriesMade : List ℕ → List Correction → List Entry
   entriesMade f [] = []
   entriesMade f (c ∷ h) = entryFor B (frameOf f h) c ∷ entriesMade f h

@@ -66,7 +66,7 @@ module _ (B : FrameBook) (F : Format) where
   undone-take f (e ∷ es) zero d h = refl
   undone-take f (e ∷ es) (suc m) d h = undone-take (before B f e) es m d (omega arith)
 
-  step-accepted : (f : List ℕ) (e : Entry) (es : List Entry) → historyVerdict B F f (e ∷ es) ≡ accepted tt → (fits B F f e ≡ true) × (historyVerdict B F (before B f e) es ≡ accepted tt)
+  pub step-accepted : (f : List ℕ) (e : Entry) (es : List Entry) → historyVerdict B F f (e ∷ es) ≡ accepted tt → (fits B F f e ≡ true) × (historyVerdict B F (before B f e) es ≡ accepted tt)
   step-accepted f e es h = go (fits B F f e) refl
     where
       go : (t : Bool) → fits B F f e ≡ t → (fits B F f e ≡ true) × (historyVerdict B F (before B f e) es ≡ accepted tt)

@@ -9,3 +9,4 @@ pub mod Opening
 pub mod Editing
 pub mod Orders
 pub mod Forward
+pub mod Backward

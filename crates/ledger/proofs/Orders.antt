@@ -96,6 +96,10 @@ module _ (B : FrameBook) (F : Format) where
   gather-order b h [] = sym (append-nil (oldestFirst h))
   gather-order b h (c ∷ cs) = gather-order (editExit B F b c) (keep (editAnswer B F b c) c h) cs ∙ kept (editAnswer B F b c) c h (made B F (editExit B F b c) cs)
 
+  pub gathered : (b : List ℕ) (cs : List Correction) → oldestFirst (gather b [] cs) ≡ made B F b cs
+  unfolding oldestFirst
+  gathered b cs = gather-order b [] cs
+
   pub run-append : (b : List ℕ) (cs ds : List Correction) → run B F b (cs ++ ds) ≡ run B F (run B F b cs) ds
   unfolding run
   run-append b [] ds = refl
