@@ -10,3 +10,4 @@ pub mod Editing
 pub mod Orders
 pub mod Forward
 pub mod Backward
+pub mod Changing
