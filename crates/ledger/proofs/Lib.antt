@@ -11,3 +11,5 @@ pub mod Orders
 pub mod Forward
 pub mod Backward
 pub mod Changing
+pub mod Restoring
+pub mod FirstLaws
