@@ -13,3 +13,4 @@ pub mod Backward
 pub mod Changing
 pub mod Restoring
 pub mod FirstLaws
+pub mod Writes
