@@ -73,7 +73,7 @@ module _ (B : FrameBook) (F : Format) where
       go true q = (q, sym (history-fits B F f e es q) ∙ h)
       go false q = absurd (not-both _ tt 21 (suc (length es)) h (history-unfit B F f e es q))
 
-  step-refused : (f : List ℕ) (e : Entry) (es : List Entry) (n p : ℕ) → historyVerdict B F f (e ∷ es) ≡ refused n p
+  pub step-refused : (f : List ℕ) (e : Entry) (es : List Entry) (n p : ℕ) → historyVerdict B F f (e ∷ es) ≡ refused n p
       → ((fits B F f e ≡ false) × (n ≡ 21) × (p ≡ suc (length es))) ⊎ ((fits B F f e ≡ true) × (historyVerdict B F (before B f e) es ≡ refused n p))
   step-refused f e es n p h = go (fits B F f e) refl
     where

@@ -14,3 +14,4 @@ pub mod Changing
 pub mod Restoring
 pub mod FirstLaws
 pub mod Writes
+pub mod Refusals
