@@ -116,7 +116,7 @@ module _ (B : FrameBook) (F : Format) (L : Lawful B F) where
       room = rw (holds-total B F L f h b H) (let q = holds-length B F L f h b H in omega arith);
     })
 
-    edit-room : (c : Correction) → Allowed B F b c → size F ≤ length (H .rest)
+    pub edit-room : (c : Correction) → Allowed B F b c → size F ≤ length (H .rest)
     edit-room c a =
         let r : 16 + length f + size F * length h + size F ≤ length b = rw (holds-total B F L f h b H) at (a .room) in
         let l = holds-length B F L f h b H in

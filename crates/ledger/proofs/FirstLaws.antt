@@ -28,5 +28,6 @@ first-lawful = record {
   asked-suits = λ x s g t. refl;
   limit-none = le-leb 0 512 (omega arith);
   limit-older = λ e es h. let k : suc (length es) ≤ 512 = leb-true (suc (length es)) 512 h in le-leb (length es) 512 (omega arith);
+  limit-swap = λ d e es h. h;
   limit-few = λ es h. leb-true (length es) 512 h;
 }

@@ -15,3 +15,5 @@ pub mod Restoring
 pub mod FirstLaws
 pub mod Writes
 pub mod Refusals
+pub mod Earlier
+pub mod Swapping

@@ -60,9 +60,10 @@ pub record LawfulFormat (F : Format) : Type 0 where
   -- what suits an item suits it at every value, and may be asked
   pub suits-revalued : (x : List ℕ) (s : Spot) (v : ℕ) → F .suits x (revalued s v) ≡ F .suits x s
   pub asked-suits : (x : List ℕ) (s : Spot) → F .good x ≡ true → F .suits x s ≡ true → F .asked x ≡ accepted tt
-  -- no entries may stand; with some entries each older part of them; never more than 512
+  -- no entries may stand; with some entries each older part of them, and the newest two in either order; never more than 512
   pub limit-none : F .limit [] ≡ true
   pub limit-older : (e : Entry) (es : List Entry) → F .limit (e ∷ es) ≡ true → F .limit es ≡ true
+  pub limit-swap : (d e : Entry) (es : List Entry) → F .limit (d ∷ e ∷ es) ≡ true → F .limit (e ∷ d ∷ es) ≡ true
   pub limit-few : (es : List Entry) → F .limit es ≡ true → length es ≤ 512
 
 -- what demand 3's theorems ask of a book and a format

@@ -1,15 +1,15 @@
 -- Histories: any run of edit calls on one buffer, the accepted ones among them, and the frame and the entries that these leave.
 -- Assumes nothing.
-use Prim.Native.Nat.{ℕ, _≤_}
+use Prim.Native.Nat.{ℕ, _+_, _*_, _≤_}
 use mathlib.Core.Path.{_≡_, refl}
 use mathlib.Core.List.{List, [], _∷_, _++_}
-use lib.ListN.{length, take}
+use lib.ListN.{length, take, drop}
 use Rattle.format.specs.Words.{Bytes}
 use Rattle.format.specs.Answers.{Outcome, accepted, refused, Done}
 use Rattle.ledger.specs.Frames.{FrameBook}
-use Rattle.ledger.specs.Formats.{Entry, Correction, Format}
-use Rattle.ledger.specs.Records.{totalIn}
-use Rattle.ledger.specs.Calls.{entryFor, openAnswer, openExit, editAnswer, editExit}
+use Rattle.ledger.specs.Formats.{Entry, Correction, Format, size}
+use Rattle.ledger.specs.Records.{header, lengthIn, totalIn}
+use Rattle.ledger.specs.Calls.{entryFor, openAnswer, openExit, editAnswer, editExit, restored}
 
 -- a list the other way round: entries are read newest first and stand oldest first
 unfoldable pub oldestFirst : {A : Type 0} → List A → List A
@@ -80,3 +80,7 @@ module _ (B : FrameBook) (F : Format) where
     pub opened : openAnswer B F origin buffer ≡ accepted tt
     pub whole : totalIn F (run (openExit B F origin buffer) calls) ≤ length b
     pub same : take (totalIn F (run (openExit B F origin buffer) calls)) b ≡ take (totalIn F (run (openExit B F origin buffer) calls)) (run (openExit B F origin buffer) calls)
+
+  -- the record as it stood after its first k entries: their header, the frame restored to k, and those entries
+  unfoldable pub earlier : List ℕ → ℕ → List ℕ
+  earlier b k = header F (lengthIn b) k ++ (restored B F b k ++ take (size F * k) (drop (16 + lengthIn b) b))
