@@ -1,13 +1,12 @@
 -- Lists of tests, and answers in their order: what follows where all hold, and where one is the first to refuse.
 -- Assumes nothing.
-use Prim.Native.Nat.{ℕ, zero, suc, _≤_, _<_}
-use mathlib.Core.Path.{_≡_, refl, sym, ap, _∙_}
-use mathlib.Core.Logic.{_↔_}
+use Prim.Native.Nat.{ℕ, zero, suc, _<_}
+use mathlib.Core.Path.{_≡_, refl}
 use mathlib.Core.Bool.{Bool, true, false, _&&_}
 use mathlib.Core.List.{List, [], _∷_}
 use native.Mathlib.Omega.{arith}
 use lib.ListN.{getD}
-use Rattle.format.specs.Answers.{Outcome, accepted, refused, Done, andThen, need, firstOf, leaves}
+use Rattle.format.specs.Answers.{Outcome, accepted, refused, Done, need, firstOf, leaves}
 use Rattle.format.proofs.PrefixLaws.{and-left, and-right}
 use Rattle.ledger.specs.Tests.{all, allFrom, First}
 

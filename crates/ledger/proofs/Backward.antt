@@ -1,32 +1,32 @@
 -- T30, T31. A history backward: an accepted record is what opening the frame it restores to, in that very buffer, and making its entries again
 -- makes, every call accepted and every byte the same; and no other frame and no other accepted edits make it.
 -- Assumes nothing but the laws of the book and the format.
-use Prim.Native.Nat.{ℕ, zero, suc, _+_, _-_, _*_, _≤_, _<_}
+use Prim.Native.Nat.{ℕ, _+_, _-_, _≤_}
 use mathlib.Core.Path.{_≡_, refl, sym, ap, _∙_}
 use mathlib.Core.Logic.{_↔_}
-use mathlib.Core.Bool.{Bool, true}
+use mathlib.Core.Bool.{true}
 use mathlib.Core.Option.{some}
-use mathlib.Core.List.{List, [], _∷_, _++_, append-assoc, append-nil, map}
+use mathlib.Core.List.{List, [], _∷_, _++_, append-assoc, map}
 use native.Mathlib.Omega.{arith}
-use lib.ListN.{length, take, drop, length-append, take-append-drop}
+use lib.ListN.{length, drop, length-append, take-append-drop}
 use lib.Seq.{drop-at, drop-length, take-all}
 use Rattle.format.specs.Words.{Bytes}
-use Rattle.format.specs.Answers.{Outcome, accepted, refused, Done}
-use Rattle.ledger.specs.Frames.{Spot, revalued, FrameBook, Settable}
+use Rattle.format.specs.Answers.{accepted}
+use Rattle.ledger.specs.Frames.{revalued, FrameBook, Settable}
 use Rattle.ledger.specs.Formats.{Entry, Correction, Format, Lawful, size}
 use Rattle.ledger.specs.Records.{header, lengthIn, countIn, totalIn, frameIn, entryBytes, entriesIn, length-entries, before, historyVerdict, recordVerdict}
-use Rattle.ledger.specs.Calls.{entryFor, kindOf, valueOf, undone, undone-more, restored, openAnswer, openExit, editAnswer, editExit}
+use Rattle.ledger.specs.Calls.{entryFor, undone, restored, openAnswer, openExit, editAnswer, editExit}
 use Rattle.ledger.specs.Chains.{Fits}
-use Rattle.ledger.specs.Histories.{oldestFirst, correctionOf, run, made, made-accepted, Sequence}
-use Rattle.ledger.proofs.Codecs.{Good, entriesBytes, entry-length, header-length, bytes-part}
+use Rattle.ledger.specs.Histories.{oldestFirst, correctionOf, run, made, Sequence}
+use Rattle.ledger.proofs.Codecs.{Good, entriesBytes, entry-length, bytes-part}
 use Rattle.ledger.proofs.Headers.{header-words, frame-length, record-bytes}
 use Rattle.ledger.proofs.Judging.{fits-right, step-accepted, verdict-parts}
 use Rattle.ledger.proofs.Edits.{frameOf, frame-none, entriesMade, entries-count, Legal, Valid, valid-none, valid-more, valid-newest, valid-older, frame-same, entries-good}
-use Rattle.ledger.proofs.Holding.{Holds, recordOf, holds-reads, holds-entries, holds-head, holds-length, holds-header, holds-taken, holds-judged, holds-restored}
+use Rattle.ledger.proofs.Holding.{Holds, holds-entries, holds-head, holds-length, holds-taken, holds-judged, holds-restored}
 use Rattle.ledger.proofs.Opening.{open-exactly, open-whole}
 use Rattle.ledger.proofs.Editing.{edit-holds, edit-rest, edit-exactly, legal-edit, exit-written}
-use Rattle.ledger.proofs.Orders.{oldest-twice, oldest-map, correction-back, gather, gathered, run-append, made-append}
-use Rattle.ledger.proofs.Forward.{Stands, opened-stands, run-stands}
+use Rattle.ledger.proofs.Orders.{oldest-map, correction-back, gather, gathered, run-append, made-append}
+use Rattle.ledger.proofs.Forward.{opened-stands, run-stands}
 
 module _ (B : FrameBook) (F : Format) (L : Lawful B F) where
   -- ---- entries that fit, undone: the frame they lead back to, and their corrections as a history of it

@@ -1,30 +1,27 @@
 -- What an accepted edit leaves in an accepted record: every byte; the value asked for in the item asked for and every other item as it was; one
 -- entry more. And what stays so after a refused one.
 -- Assumes nothing but the laws of the book and the format.
-use Prim.Native.Nat.{ℕ, zero, suc, _+_, _-_, _*_, _≤_, _<_}
-use mathlib.Core.Path.{_≡_, refl, sym, ap, _∙_}
-use mathlib.Core.Bool.{Bool, true}
-use mathlib.Core.List.{List, [], _∷_, _++_, append-assoc, map}
-use mathlib.Core.Option.{some}
-use native.Mathlib.Omega.{arith}
-use native.Mathlib.Numerals.{add-one}
-use lib.ListN.{length, take, drop}
+use Prim.Native.Nat.{ℕ, suc, _+_, _*_}
+use mathlib.Core.Path.{_≡_, sym, ap, _∙_}
+use mathlib.Core.List.{List, _∷_, _++_, append-assoc, map}
+use mathlib.Core.Option.{some, Option·some-injective}
+use lib.ListN.{take, drop}
 use lib.Seq.{drop-drop}
 use Rattle.format.specs.Words.{Bytes}
-use Rattle.format.specs.Answers.{Outcome, accepted, refused, Done}
+use Rattle.format.specs.Answers.{accepted}
 use Rattle.format.proofs.WordLaws.{below-drop}
 use Rattle.ledger.specs.Frames.{Spot, revalued, FrameBook, Settable}
-use Rattle.ledger.specs.Formats.{Entry, Correction, Format, Lawful, size}
+use Rattle.ledger.specs.Formats.{Correction, Format, Lawful, size}
 use Rattle.ledger.specs.Records.{header, lengthIn, countIn, totalIn, frameIn, entryBytes, entriesIn, recordVerdict}
 use Rattle.ledger.specs.Calls.{entryFor, restored, editAnswer, editWritten, editExit}
-use Rattle.ledger.specs.Chains.{Header, Allowed}
+use Rattle.ledger.specs.Chains.{Allowed}
 use Rattle.ledger.specs.Histories.{correctionOf}
 use Rattle.ledger.proofs.Codecs.{entriesBytes, Good, entries-back}
 use Rattle.ledger.proofs.Headers.{header-words}
 use Rattle.ledger.proofs.Judging.{verdict-parts}
 use Rattle.ledger.proofs.Edits.{frameOf, entriesMade, entries-good}
 use Rattle.ledger.proofs.Holding.{Holds, holds-reads, holds-frame, holds-entries, holds-rest, holds-bytes, holds-judged}
-use Rattle.ledger.proofs.Editing.{edit-judged, edit-exactly, edit-holds, edit-rest, exit-written, exit-found}
+use Rattle.ledger.proofs.Editing.{edit-judged, edit-exactly, edit-holds, edit-rest, exit-written}
 use Rattle.ledger.proofs.Backward.{accepted-holds}
 
 module _ (B : FrameBook) (F : Format) (L : Lawful B F) where
@@ -88,8 +85,10 @@ module _ (B : FrameBook) (F : Format) (L : Lawful B F) where
     pub edit-settable : Settable B (frameIn b) (c .word) (c .value) (allowed .spot)
     edit-settable = record { frame = verdict-parts B F b judged .1; stands = allowed .stands; legal = allowed .legal }
 
-    pub edit-there : B .spot (frameIn (editExit B F b c)) (c .word) ≡ some (revalued (allowed .spot) (c .value))
-    edit-there = rw edit-frame (L .book .put-there (frameIn b) (c .word) (c .value) (allowed .spot) edit-settable)
+    pub edit-there : (s : Spot) → B .spot (frameIn b) (c .word) ≡ some s → B .spot (frameIn (editExit B F b c)) (c .word) ≡ some (revalued s (c .value))
+    edit-there s q =
+        let k : s ≡ allowed .spot = Option·some-injective s (allowed .spot) (sym q ∙ allowed .stands) in
+        rw (edit-frame, k) (L .book .put-there (frameIn b) (c .word) (c .value) (allowed .spot) edit-settable)
 
     pub edit-elsewhere : (w : ℕ) → (w ≡ c .word → ⊥) → B .spot (frameIn (editExit B F b c)) w ≡ B .spot (frameIn b) w
     edit-elsewhere w n = rw edit-frame (L .book .put-elsewhere (frameIn b) (c .word) (c .value) (allowed .spot) w edit-settable n)

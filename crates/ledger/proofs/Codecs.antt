@@ -1,15 +1,15 @@
 -- T24. Header and entries: what is written is read back, and what is read from bytes that pass the tests is written as those bytes.
 -- Assumes nothing.
 use Prim.Native.Nat.{ℕ, zero, suc, _+_, _-_, _*_, _/_, _%_, _≤_, _<_}
-use mathlib.Core.Path.{_≡_, refl, sym, ap, ap₂, _∙_}
+use mathlib.Core.Path.{_≡_, refl, sym, ap, _∙_}
 use mathlib.Core.Bool.{true}
 use mathlib.Core.List.{List, [], _∷_, _++_, append-assoc}
 use native.Mathlib.Nat.{mul-suc, mul-zero, mul-le-mul}
 use native.Mathlib.Numerals.{add-one, add-two}
 use native.Mathlib.Omega.{arith}
-use lib.ListN.{length, getD, take, drop, length-append, length-drop, List·getD-append}
-use lib.Seq.{drop-at, drop-drop, drop-cons, take-add, getD-append-add}
-use Rattle.format.specs.Words.{Bytes, bytes, wordAt, longAt, longWords}
+use lib.ListN.{length, getD, take, drop, length-append, length-drop}
+use lib.Seq.{drop-at, drop-drop, drop-cons, take-add}
+use Rattle.format.specs.Words.{Bytes, bytes, wordAt, longWords}
 use Rattle.format.proofs.WordLaws.{word-below, below-drop, below-take, bytes-below}
 use Rattle.ledger.specs.Formats.{Entry, Format, LawfulFormat, size}
 use Rattle.ledger.specs.Records.{header, lengthIn, countIn, entryBytes, entryOf, numbered, entriesTo}

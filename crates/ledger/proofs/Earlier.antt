@@ -1,27 +1,26 @@
 -- Request 13. Earlier states of an accepted record are records too and restore as the whole one does; and two neighbouring accepted edits of
 -- different items may change places.
 -- Assumes nothing but the laws of the book and the format.
-use Prim.Native.Nat.{ℕ, zero, suc, _+_, _-_, _*_, _≤_, _<_}
+use Prim.Native.Nat.{ℕ, zero, suc, _+_, _-_, _*_, _≤_}
 use mathlib.Core.Path.{_≡_, refl, sym, ap, _∙_}
-use mathlib.Core.Bool.{Bool, true}
-use mathlib.Core.List.{List, [], _∷_, _++_, append-nil, map}
+use mathlib.Core.Bool.{true}
+use mathlib.Core.List.{List, [], _∷_, append-nil, map}
 use native.Mathlib.Nat.{mul-le-mul-left}
 use native.Mathlib.Omega.{arith}
 use lib.ListN.{length, take, drop, length-drop}
 use lib.Seq.{drop-drop}
 use Rattle.format.specs.Words.{Bytes}
-use Rattle.format.specs.Answers.{Outcome, accepted, refused, Done}
-use Rattle.ledger.specs.Frames.{Spot, FrameBook, Settable}
+use Rattle.format.specs.Answers.{accepted}
+use Rattle.ledger.specs.Frames.{FrameBook}
 use Rattle.ledger.specs.Formats.{Entry, Correction, Format, Lawful, size}
-use Rattle.ledger.specs.Records.{header, lengthIn, countIn, totalIn, frameIn, entriesTo, entriesIn, length-entries, recordVerdict}
-use Rattle.ledger.specs.Calls.{entryFor, kindOf, valueOf, restored, editAnswer, editWritten, editExit}
-use Rattle.ledger.specs.Histories.{correctionOf, earlier}
+use Rattle.ledger.specs.Records.{lengthIn, countIn, entriesTo, entriesIn, recordVerdict}
+use Rattle.ledger.specs.Calls.{restored}
+use Rattle.ledger.specs.Histories.{correctionOf, earlierRecord}
 use Rattle.ledger.proofs.Codecs.{entriesBytes, Good, entries-back}
 use Rattle.ledger.proofs.Headers.{header-words}
 use Rattle.ledger.proofs.Judging.{verdict-parts}
-use Rattle.ledger.proofs.Edits.{frameOf, entriesMade, Legal, Valid, valid-drop, valid-newest, settable, frame-judged, entries-good}
-use Rattle.ledger.proofs.Holding.{Holds, recordOf, holds-reads, holds-frame, holds-entries, holds-judged, holds-restored}
-use Rattle.ledger.proofs.Editing.{edit-judged, edit-exactly, edit-legal, legal-edit, edit-room, edit-holds, edit-rest, exit-written}
+use Rattle.ledger.proofs.Edits.{frameOf, entriesMade, valid-drop, entries-good}
+use Rattle.ledger.proofs.Holding.{Holds, recordOf, holds-reads, holds-entries, holds-judged, holds-restored}
 use Rattle.ledger.proofs.Backward.{accepted-holds}
 
 made-drop : (B : FrameBook) (f : List ℕ) (h : List Correction) (m : ℕ) → entriesMade B f (drop m h) ≡ drop m (entriesMade B f h)
@@ -74,8 +73,8 @@ module _ (B : FrameBook) (F : Format) (L : Lawful B F) where
     unfolding old
     old-good = rw (← old-entries) (entries-good B F L f old (valid-drop B F f h (length h - k) (H .valid)))
 
-    is-old : earlier B F b k ≡ recordOf B F f old
-    unfolding earlier old
+    is-old : earlierRecord B F b k ≡ recordOf B F f old
+    unfolding earlierRecord old
     is-old =
         let hr = header-words F b (verdict-parts B F b e .0) in
         let m : size F * k ≤ size F * countIn b = mul-le-mul-left (size F) le in
@@ -83,7 +82,7 @@ module _ (B : FrameBook) (F : Format) (L : Lawful B F) where
         let t : entriesBytes F (entriesMade B f old) ≡ take (size F * k) (drop (16 + lengthIn b) b) = rw old-entries (entries-back F (L .format) b k y r old-good) in
         rw (t, old-length, holds-restored B F L f h b H k, holds-reads B F L f h b H .length-is)
 
-    old-holds : Holds B F f old (earlier B F b k)
+    old-holds : Holds B F f old (earlierRecord B F b k)
     unfolding old
     old-holds = record {
       rest = [];
@@ -94,16 +93,16 @@ module _ (B : FrameBook) (F : Format) (L : Lawful B F) where
       limit = rw (made-drop B f h (length h - k)) (limit-drop B F L (entriesMade B f h) (length h - k) (H .limit));
     }
 
-    pub earlier-accepted : recordVerdict B F (earlier B F b k) ≡ accepted tt
-    earlier-accepted = holds-judged B F L f old (earlier B F b k) old-holds
+    pub earlier-accepted : recordVerdict B F (earlierRecord B F b k) ≡ accepted tt
+    earlier-accepted = holds-judged B F L f old (earlierRecord B F b k) old-holds
 
-    pub earlier-count : countIn (earlier B F b k) ≡ k
-    earlier-count = holds-reads B F L f old (earlier B F b k) old-holds .count-is ∙ old-length
+    pub earlier-count : countIn (earlierRecord B F b k) ≡ k
+    earlier-count = holds-reads B F L f old (earlierRecord B F b k) old-holds .count-is ∙ old-length
 
-    pub earlier-restores : (j : ℕ) → j ≤ k → restored B F (earlier B F b k) j ≡ restored B F b j
+    pub earlier-restores : (j : ℕ) → j ≤ k → restored B F (earlierRecord B F b k) j ≡ restored B F b j
     unfolding old
     earlier-restores j lj =
         let n = count in
         let q : length h - k + (k - j) ≡ length h - j = omega arith in
         let d : drop (length old - j) old ≡ drop (length h - j) h = rw (old-length, drop-drop (k - j) (length h - k) h, q) in
-        holds-restored B F L f old (earlier B F b k) old-holds j ∙ ap (frameOf B f) d ∙ sym (holds-restored B F L f h b H j)
+        holds-restored B F L f old (earlierRecord B F b k) old-holds j ∙ ap (frameOf B f) d ∙ sym (holds-restored B F L f h b H j)

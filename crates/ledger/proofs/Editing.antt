@@ -1,10 +1,10 @@
 -- T28. An edit of an accepted record: accepted exactly where no listed reason forbids it, else refused by the first; and every byte it leaves.
 -- Assumes nothing but the laws of the book and the format.
-use Prim.Native.Nat.{ℕ, zero, suc, _+_, _-_, _*_, _≤_, _<_}
-use mathlib.Core.Path.{_≡_, refl, sym, ap, _∙_}
+use Prim.Native.Nat.{ℕ, suc, _+_, _*_, _≤_}
+use mathlib.Core.Path.{_≡_, refl, sym, _∙_}
 use mathlib.Core.Logic.{_↔_}
-use mathlib.Core.Bool.{Bool, true, false, not, _&&_, true≢false}
-use mathlib.Core.List.{List, [], _∷_, _++_, append-assoc}
+use mathlib.Core.Bool.{true, not, _&&_, true≢false}
+use mathlib.Core.List.{List, _∷_, _++_, append-assoc}
 use mathlib.Core.Option.{Option, none, some}
 use native.Mathlib.Nat.{mul-suc}
 use native.Mathlib.Numerals.{add-one}
@@ -13,20 +13,20 @@ use lib.ListN.{length, take, drop, length-append, take-append-drop}
 use lib.Seq.{sets, length-take-le}
 use lib.Dec.{leb, eqb}
 use borrow.Author.Tests.{leb-true, eqb-false, le-leb, ne-eqb, not-true}
-use Rattle.format.specs.Words.{Bytes, bytes}
-use Rattle.format.specs.Answers.{accepted, refused, Done, firstOf}
+use Rattle.format.specs.Words.{bytes}
+use Rattle.format.specs.Answers.{accepted, refused, firstOf}
 use Rattle.format.proofs.PrefixLaws.{and-left, and-right}
 use Rattle.ledger.specs.Tests.{First}
-use Rattle.ledger.specs.Frames.{Spot, revalued, FrameBook}
-use Rattle.ledger.specs.Formats.{Entry, Correction, Format, Lawful, size}
-use Rattle.ledger.specs.Records.{header, lengthIn, countIn, totalIn, frameIn, entryBytes, entriesIn, signed, atSpot, recordVerdict}
+use Rattle.ledger.specs.Frames.{Spot, FrameBook}
+use Rattle.ledger.specs.Formats.{Correction, Format, Lawful, size}
+use Rattle.ledger.specs.Records.{header, totalIn, frameIn, entryBytes, entriesIn, signed, atSpot, recordVerdict}
 use Rattle.ledger.specs.Calls.{entryFor, setWord, editTests, editAnswer, editWritten, editExit}
 use Rattle.ledger.specs.Chains.{Allowed}
 use Rattle.ledger.proofs.Answering.{need-holds, first-at, refused-first, first-refused}
 use Rattle.ledger.proofs.Stores.{sets-mid}
 use Rattle.ledger.proofs.Codecs.{header-length, entriesBytes, entry-length}
 use Rattle.ledger.proofs.Judging.{signed-right, right-signed}
-use Rattle.ledger.proofs.Edits.{frameOf, entriesMade, Legal, Valid, valid-more, settable, frame-judged, frame-same}
+use Rattle.ledger.proofs.Edits.{frameOf, entriesMade, Legal, valid-more, settable, frame-judged, frame-same}
 use Rattle.ledger.proofs.Holding.{Holds, made-length, holds-reads, holds-frame, holds-entries, holds-total, holds-length, holds-judged}
 
 module _ (B : FrameBook) (F : Format) where

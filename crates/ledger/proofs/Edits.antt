@@ -1,18 +1,18 @@
 -- Edits of a frame, newest first: when each may be made, the frame and the entries that they leave, and that undoing the entries leads back.
 -- Assumes nothing but the laws of the book and the format.
-use Prim.Native.Nat.{ℕ, zero, suc, _+_, _*_, _≤_, _<_}
-use mathlib.Core.Path.{_≡_, refl, sym, ap, _∙_}
-use mathlib.Core.Bool.{Bool, true, false}
-use mathlib.Core.List.{List, [], _∷_, _++_}
-use mathlib.Core.Option.{Option, none, some}
+use Prim.Native.Nat.{ℕ, zero, suc, _≤_}
+use mathlib.Core.Path.{_≡_, refl, ap, _∙_}
+use mathlib.Core.Bool.{true}
+use mathlib.Core.List.{List, [], _∷_}
+use mathlib.Core.Option.{some}
 use native.Mathlib.Omega.{arith}
 use lib.ListN.{length, take, drop}
 use Rattle.format.specs.Words.{Bytes}
-use Rattle.format.specs.Answers.{accepted, Done}
+use Rattle.format.specs.Answers.{accepted}
 use Rattle.ledger.specs.Frames.{Spot, revalued, FrameBook, Settable}
-use Rattle.ledger.specs.Formats.{Entry, Correction, Format, Lawful, size}
+use Rattle.ledger.specs.Formats.{Entry, Correction, Format, Lawful}
 use Rattle.ledger.specs.Records.{before, historyVerdict, history-none, history-fits}
-use Rattle.ledger.specs.Calls.{entryFor, kindOf, valueOf, undone}
+use Rattle.ledger.specs.Calls.{entryFor, undone}
 use Rattle.ledger.specs.Chains.{Fits}
 use Rattle.ledger.proofs.Codecs.{Small, Good, entriesBytes, entry-bytes, bytes-join}
 use Rattle.ledger.proofs.Judging.{right-fits}

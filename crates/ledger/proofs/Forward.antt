@@ -3,26 +3,24 @@
 -- Assumes nothing but the laws of the book and the format.
 use Prim.Native.Nat.{ℕ, zero, suc, _+_, _-_, _*_, _≤_, _<_}
 use mathlib.Core.Path.{_≡_, refl, sym, ap, _∙_}
-use mathlib.Core.Logic.{_↔_}
 use mathlib.Core.List.{List, [], _∷_, _++_}
 use native.Mathlib.Nat.{mul-suc, mul-zero}
 use native.Mathlib.Omega.{arith}
-use lib.ListN.{length, take, drop, length-drop}
-use lib.Seq.{drop-drop}
+use lib.ListN.{length, take, drop, length-append}
+use lib.Seq.{drop-drop, take-append-seam}
 use Rattle.format.specs.Words.{Bytes}
-use Rattle.format.specs.Answers.{Outcome, accepted, refused, Done, leaves}
+use Rattle.format.specs.Answers.{accepted, refused, Done, leaves}
 use Rattle.format.proofs.WordLaws.{below-drop}
 use Rattle.ledger.specs.Frames.{FrameBook}
-use Rattle.ledger.specs.Formats.{Entry, Correction, Format, Lawful, size}
-use Rattle.ledger.specs.Records.{header, lengthIn, countIn, totalIn, frameIn, entriesIn, recordVerdict}
+use Rattle.ledger.specs.Formats.{Correction, Format, Lawful, size}
+use Rattle.ledger.specs.Records.{countIn, totalIn, frameIn, entriesIn, recordVerdict}
 use Rattle.ledger.specs.Calls.{openAnswer, openExit, editAnswer, editWritten, editExit, restoreAnswer, restoreExit}
-use Rattle.ledger.specs.Chains.{Allowed}
-use Rattle.ledger.specs.Histories.{oldestFirst, keep, frameAfter, entriesOf, run, made}
-use Rattle.ledger.proofs.Edits.{frameOf, entriesMade}
+use Rattle.ledger.specs.Histories.{oldestFirst, keep, frameAfter, entriesOf, run, made, Point}
+use Rattle.ledger.proofs.Edits.{frameOf}
 use Rattle.ledger.proofs.Holding.{Holds, holds-reads, holds-frame, holds-entries, holds-total, holds-rest, holds-bytes, holds-judged, holds-restores, holds-no-entry, holds-no-room, holds-exit}
 use Rattle.ledger.proofs.Opening.{open-holds, open-rest}
 use Rattle.ledger.proofs.Editing.{edit-judged, edit-exactly, edit-holds, edit-rest}
-use Rattle.ledger.proofs.Orders.{oldest-length, oldest-drop, frame-order, entries-order, gather, gather-order}
+use Rattle.ledger.proofs.Orders.{oldest-length, oldest-drop, frame-order, entries-order, gather, gather-order, made-append}
 
 module _ (B : FrameBook) (F : Format) (L : Lawful B F) where
   -- the record of f with the edits h stands at the start of what was `own`, and the rest is as it was there
@@ -127,3 +125,56 @@ module _ (B : FrameBook) (F : Format) (L : Lawful B F) where
     pub forward-no-room : (k : ℕ) (out : List ℕ) → k ≤ length (made B F (openExit B F f buf) cs) → length out < length f → restoreAnswer B F (run B F (openExit B F f buf) cs) k out ≡ refused 12 0
     unfolding last
     forward-no-room k out h room = holds-no-room B F L f edits last (stands .holds) k out (rw as-many h) room
+
+    -- k = 0: the frame as recorded
+    pub forward-first : (out : List ℕ) → length f ≤ length out → restoreExit B F (run B F (openExit B F f buf) cs) 0 out ≡ f ++ drop (length f) out
+    unfolding frameAfter
+    forward-first out room = forward-restores 0 out (omega arith) room .1
+
+  -- ---- the frame that stood: at a point of the calls with k accepted before it, the record's frame is the one that restoring to k gives later
+  pub stood : (f buf : List ℕ) (y : Bytes f) (e : openAnswer B F f buf ≡ accepted tt) (cs ds : List Correction) (out : List ℕ) → length f ≤ length out
+      → (restoreAnswer B F (run B F (openExit B F f buf) (cs ++ ds)) (length (made B F (openExit B F f buf) cs)) out ≡ accepted tt)
+      × (restoreExit B F (run B F (openExit B F f buf) (cs ++ ds)) (length (made B F (openExit B F f buf) cs)) out ≡ frameIn (run B F (openExit B F f buf) cs) ++ drop (length f) out)
+  stood f buf y e cs ds out room =
+      let b = openExit B F f buf in
+      let m = made B F b cs in
+      let t = made B F (run B F b cs) ds in
+      let q : made B F b (cs ++ ds) ≡ m ++ t = made-append B F b cs ds in
+      let l : length m ≤ length (made B F b (cs ++ ds)) = rw (q, length-append m t) (omega arith) in
+      let k : take (length m) (made B F b (cs ++ ds)) ≡ m = rw q (take-append-seam m t) in
+      let r = forward-restores f buf y e (cs ++ ds) (length m) out l room in
+      (r .0, r .1 ∙ rw (k, forward-frame f buf y e cs))
+
+module _ (B : FrameBook) (F : Format) where
+  -- there is such a point for every k up to the number of accepted calls
+  point-after : (b : List ℕ) (c : Correction) (cs : List Correction) (k : ℕ) (o : Done) → editAnswer B F b c ≡ o → Point B F (editExit B F b c) cs k
+      → Point B F b (c ∷ cs) (length (keep o c []) + k)
+  unfolding made
+  point-after b c cs k (accepted u) q P = record {
+    earlier = c ∷ P .earlier;
+    later = P .later;
+    parts = ap (λ (l : List Correction). c ∷ l) (P .parts);
+    count = rw q (let h = P .count in omega arith);
+  }
+  point-after b c cs k (refused n p) q P = record {
+    earlier = c ∷ P .earlier;
+    later = P .later;
+    parts = ap (λ (l : List Correction). c ∷ l) (P .parts);
+    count = rw q (let h = P .count in omega arith);
+  }
+
+  pub point : (b : List ℕ) (cs : List Correction) (k : ℕ) → k ≤ length (made B F b cs) → Point B F b cs k
+  unfolding made
+  point b [] k h = record { earlier = []; later = []; parts = refl; count = omega arith }
+  point b (c ∷ cs) k h = go (editAnswer B F b c) refl (point (editExit B F b c) cs) k h
+    where
+      go : (o : Done) → editAnswer B F b c ≡ o → ((j : ℕ) → j ≤ length (made B F (editExit B F b c) cs) → Point B F (editExit B F b c) cs j)
+          → (k : ℕ) → k ≤ length (keep (editAnswer B F b c) c (made B F (editExit B F b c) cs)) → Point B F b (c ∷ cs) k
+      go o q P zero h = record { earlier = []; later = c ∷ cs; parts = refl; count = refl }
+      go (accepted u) q P (suc k) h =
+          let l : suc k ≤ suc (length (made B F (editExit B F b c) cs)) = rw q at h in
+          let z : 1 + k ≡ suc k = omega arith in
+          rw z at (point-after b c cs k (accepted u) q (P k (omega arith)))
+      go (refused n p) q P (suc k) h =
+          let z : 0 + suc k ≡ suc k = omega arith in
+          rw z at (point-after b c cs (suc k) (refused n p) q (P (suc k) (rw q at h)))

@@ -1,20 +1,19 @@
 -- A buffer that holds the record of a frame with a history: what each question reads from it. Opening makes such a buffer and every edit
 -- call keeps it one, so demand 3's sentences are read off here.
 -- Assumes nothing but the laws of the book and the format.
-use Prim.Native.Nat.{ℕ, zero, suc, _+_, _-_, _*_, _≤_, _<_}
-use mathlib.Core.Path.{_≡_, refl, sym, ap, _∙_}
-use mathlib.Core.Bool.{Bool, true}
-use mathlib.Core.List.{List, [], _∷_, _++_, append-assoc}
-use native.Mathlib.Nat.{add-zero}
+use Prim.Native.Nat.{ℕ, _+_, _-_, _*_, _≤_, _<_}
+use mathlib.Core.Path.{_≡_, sym, ap, _∙_}
+use mathlib.Core.Bool.{true}
+use mathlib.Core.List.{List, _++_, append-assoc}
 use native.Mathlib.Omega.{arith}
-use lib.ListN.{length, take, drop, length-append, drop-of-length-le}
-use lib.Seq.{sets, sets-eq, take-at, drop-at, take-all, drop-length}
+use lib.ListN.{length, take, drop, length-append}
+use lib.Seq.{sets-eq, take-at, drop-at}
 use borrow.Author.Tests.{le-leb, lt-leb}
 use Rattle.format.specs.Words.{Bytes}
-use Rattle.format.specs.Answers.{Outcome, accepted, refused, Done, firstOf}
+use Rattle.format.specs.Answers.{accepted, refused, firstOf}
 use Rattle.ledger.specs.Frames.{FrameBook}
-use Rattle.ledger.specs.Formats.{Entry, Correction, Format, Lawful, size}
-use Rattle.ledger.specs.Records.{header, lengthIn, countIn, totalIn, frameIn, entriesIn, recordVerdict}
+use Rattle.ledger.specs.Formats.{Correction, Format, Lawful, size}
+use Rattle.ledger.specs.Records.{header, lengthIn, totalIn, frameIn, entriesIn, recordVerdict}
 use Rattle.ledger.specs.Calls.{restored, restoreAnswer, restoreExit}
 use Rattle.ledger.specs.Chains.{Header}
 use Rattle.ledger.proofs.Codecs.{Reads, header-reads, header-length, header-bytes, bytes-join, entriesBytes, entries-length, entries-there}

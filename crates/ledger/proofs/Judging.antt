@@ -1,25 +1,24 @@
 -- T26. The record judge as the chain of frames: accepted exactly where a right header, an accepted frame and a chain f_0 .. f_c stand; the
 -- frames are the only ones; refused 21 at j exactly where the chain holds above entry j and fails there.
 -- Assumes nothing.
-use Prim.Native.Nat.{ℕ, zero, suc, _+_, _-_, _≤_, _<_}
+use Prim.Native.Nat.{ℕ, zero, suc, _-_, _≤_, _<_}
 use mathlib.Core.Path.{_≡_, refl, sym, ap, _∙_}
 use mathlib.Core.Logic.{_↔_, _⊎_, inl, inr, ⊎-elim}
 use mathlib.Core.Bool.{Bool, true, false, not, true≢false}
-use mathlib.Core.List.{List, [], _∷_, _++_}
+use mathlib.Core.List.{List, [], _∷_}
 use mathlib.Core.Option.{Option, none, some}
 use native.Mathlib.Omega.{arith}
 use lib.ListN.{length, getD, take}
-use lib.Seq.{take-suc}
-use lib.Dec.{leb, eqb}
+use lib.Dec.{eqb}
 use borrow.Author.Tests.{leb-true, eqb-true, eqb-false, le-leb, eq-eqb, ne-eqb, not-true}
-use Rattle.format.specs.Answers.{Outcome, accepted, refused, Done, andThen, need, firstOf}
+use Rattle.format.specs.Answers.{accepted, refused, Done, andThen, need, firstOf}
 use Rattle.ledger.specs.Tests.{all}
 use Rattle.ledger.specs.Frames.{Spot, FrameBook}
 use Rattle.ledger.specs.Formats.{Entry, Format}
 use Rattle.ledger.specs.Records.{countIn, frameIn, numbered, entriesTo, entriesIn, length-entries, headerRight, signed, atSpot, fits, before, historyVerdict, history-none, history-fits, history-unfit, recordVerdict}
 use Rattle.ledger.specs.Calls.{undone, restored}
 use Rattle.ledger.specs.Chains.{Header, Fits, Chain}
-use Rattle.ledger.proofs.Answering.{all-at, need-holds, need-refuses, not-both, first-at, first-all, first-refused}
+use Rattle.ledger.proofs.Answering.{all-at, need-holds, not-both, first-at}
 use Rattle.ledger.proofs.Headers.{header-words, header-right}
 
 -- ---- operator and reason

@@ -17,3 +17,4 @@ pub mod Writes
 pub mod Refusals
 pub mod Earlier
 pub mod Swapping
+pub mod Demand3

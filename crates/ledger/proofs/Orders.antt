@@ -1,13 +1,13 @@
 -- Newest first and oldest first: the same edits, frames and entries either way.
 -- Assumes nothing.
-use Prim.Native.Nat.{ℕ, zero, suc, _+_, _-_, _≤_, _<_}
+use Prim.Native.Nat.{ℕ, zero, suc, _-_, _≤_}
 use mathlib.Core.Path.{_≡_, refl, sym, ap, _∙_}
 use mathlib.Core.List.{List, [], _∷_, _++_, append-assoc, append-nil, map}
 use native.Mathlib.Numerals.{add-one}
 use native.Mathlib.Omega.{arith}
 use lib.ListN.{length, take, drop, length-append}
-use lib.Seq.{take-append-le, take-all, drop-length}
-use Rattle.format.specs.Answers.{Outcome, accepted, refused, Done}
+use lib.Seq.{take-append-le, take-all}
+use Rattle.format.specs.Answers.{accepted, refused, Done}
 use Rattle.ledger.specs.Frames.{FrameBook}
 use Rattle.ledger.specs.Formats.{Entry, Correction, Format}
 use Rattle.ledger.specs.Calls.{entryFor, editAnswer, editExit}

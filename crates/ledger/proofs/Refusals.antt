@@ -1,8 +1,8 @@
 -- T35, and the places of T37: the refusals that each call on a record can give. Frame refusals keep their number and place; 21 has the number
 -- of an entry; every other place is 0.
 -- Assumes nothing.
-use Prim.Native.Nat.{ℕ, zero, suc, _+_, _-_, _≤_, _<_}
-use mathlib.Core.Path.{_≡_, refl, sym, ap, _∙_}
+use Prim.Native.Nat.{ℕ, _+_, _≤_}
+use mathlib.Core.Path.{_≡_, refl, sym}
 use mathlib.Core.Logic.{_⊎_, inl, inr, ⊎-elim, ⊎-map}
 use mathlib.Core.Bool.{Bool, true, false, not, _&&_}
 use mathlib.Core.List.{List, [], _∷_}
@@ -10,10 +10,11 @@ use native.Mathlib.Omega.{arith}
 use lib.ListN.{length}
 use lib.Dec.{leb, eqb}
 use Rattle.format.specs.Words.{pick}
-use Rattle.format.specs.Answers.{Outcome, accepted, refused, Done, andThen, need, firstOf}
+use Rattle.format.specs.Answers.{accepted, refused, Done, andThen, need, firstOf}
+use Rattle.ledger.specs.Tests.{Plain}
 use Rattle.ledger.specs.Frames.{FrameBook}
 use Rattle.ledger.specs.Formats.{Entry, Correction, Format, size}
-use Rattle.ledger.specs.Records.{lengthIn, countIn, totalIn, frameIn, numbered, entriesIn, length-entries, headerRight, signed, atSpot, fits, before, historyVerdict, history-none, recordVerdict}
+use Rattle.ledger.specs.Records.{lengthIn, countIn, totalIn, frameIn, numbered, entriesIn, length-entries, headerRight, signed, atSpot, before, historyVerdict, history-none, recordVerdict}
 use Rattle.ledger.specs.Calls.{Summary, entryFor, recordAnswer, entryAnswer, openAnswer, editTests, editAnswer, restoreAnswer}
 use Rattle.ledger.proofs.Answering.{need-refuses, not-both}
 use Rattle.ledger.proofs.Judging.{step-refused}
@@ -28,10 +29,6 @@ unfolding firstOf
 among [] n p e = not-both (firstOf []) tt n p refl e
 among (accepted u ∷ os) n p e = inr (among os n p e)
 among (refused m q ∷ os) n p e = inl e
-
--- the number m, at place 0
-abbrev pub Plain : ℕ → ℕ → ℕ → Type 0
-Plain m n p = (n ≡ m) × (p ≡ 0)
 
 plain : (t : Bool) (m n p : ℕ) → need t m 0 ≡ refused n p → Plain m n p
 plain t m n p e = let w = need-refuses t m 0 n p e in (sym (w .1), sym (w .2))

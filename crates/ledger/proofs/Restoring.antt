@@ -1,23 +1,21 @@
 -- T32. Restoring and the questions of an accepted record: accepted exactly where the number is one of the record's and there is room; the frame
 -- at the start of the second buffer and the rest of it as it was. The record is only read.
 -- Assumes nothing but the laws of the book and the format.
-use Prim.Native.Nat.{ℕ, zero, suc, _+_, _-_, _*_, _≤_, _<_}
-use mathlib.Core.Path.{_≡_, refl, sym, ap, _∙_}
+use Prim.Native.Nat.{ℕ, zero, suc, _+_, _≤_, _<_}
+use mathlib.Core.Path.{_≡_, sym, ap, _∙_}
 use mathlib.Core.Logic.{_↔_, by-cases}
 use native.Mathlib.Decide.{decLt}
-use mathlib.Core.Bool.{Bool, true, false, _&&_}
 use mathlib.Core.List.{List, [], _∷_, _++_, map}
 use native.Mathlib.Omega.{arith}
-use lib.ListN.{length, getD, take, drop, List·getD-append}
-use lib.Seq.{sets, sets-eq, drop-at, getD-at}
-use lib.Dec.{leb}
+use lib.ListN.{length, getD, drop, List·getD-append}
+use lib.Seq.{sets-eq, drop-at, getD-at}
 use borrow.Author.Tests.{leb-true, le-leb, lt-leb}
-use Rattle.format.specs.Words.{Bytes, pick}
-use Rattle.format.specs.Answers.{Outcome, accepted, refused, Done, andThen, firstOf}
+use Rattle.format.specs.Words.{Bytes}
+use Rattle.format.specs.Answers.{accepted, refused, firstOf}
 use Rattle.ledger.specs.Frames.{FrameBook}
-use Rattle.ledger.specs.Formats.{Entry, Correction, Format, Lawful, size}
+use Rattle.ledger.specs.Formats.{Entry, Format, Lawful}
 use Rattle.ledger.specs.Records.{lengthIn, countIn, totalIn, numbered, entriesTo, entriesIn, length-entries, recordVerdict}
-use Rattle.ledger.specs.Calls.{Summary, recordAnswer, entryAnswer, restored, restoreAnswer, restoreExit}
+use Rattle.ledger.specs.Calls.{recordAnswer, entryAnswer, restored, restoreAnswer, restoreExit}
 use Rattle.ledger.specs.Histories.{correctionOf, oldestFirst}
 use Rattle.ledger.proofs.Answering.{need-holds, first-at}
 use Rattle.ledger.proofs.Holding.{holds-reads, restored-length}
@@ -74,6 +72,10 @@ numbered-nth F b (suc n) j d h =
     let w : j < n → ⊥ = m in
     let q : j ≡ n = omega arith in
     rw q (getD-at (oldestFirst (entriesTo F b n)) (numbered F b (suc n)) [] d n len))
+
+pub entry-tells : (B : FrameBook) (F : Format) (b : List ℕ) (j : ℕ) (d : Entry) → recordVerdict B F b ≡ accepted tt → j < countIn b
+    → entryAnswer B F b (suc j) ≡ accepted (getD (oldestFirst (entriesIn F b)) j d)
+entry-tells B F b j d v h = entry-answers B F b (suc j) v (omega arith) h ∙ ap accepted (sym (numbered-nth F b (countIn b) j d h))
 
 module _ (B : FrameBook) (F : Format) (L : Lawful B F) where
   module _ (b : List ℕ) (y : Bytes b) (j : recordVerdict B F b ≡ accepted tt) where

@@ -1,15 +1,15 @@
 -- Request 13, second sentence. Two neighbouring accepted edits of different items are accepted in the other order too, and leave the same frame.
 -- Assumes nothing but the laws of the book and the format.
-use Prim.Native.Nat.{ℕ, suc, _≤_}
-use mathlib.Core.Path.{_≡_, refl, sym, ap, _∙_}
+use Prim.Native.Nat.{ℕ, _≤_}
+use mathlib.Core.Path.{_≡_, sym, _∙_}
 use mathlib.Core.Bool.{true}
 use mathlib.Core.List.{List, _∷_, map}
-use lib.ListN.{length, drop}
+use lib.ListN.{length}
 use Rattle.format.specs.Words.{Bytes}
 use Rattle.format.specs.Answers.{accepted}
 use Rattle.ledger.specs.Frames.{Spot, FrameBook, Settable}
-use Rattle.ledger.specs.Formats.{Entry, Correction, Format, Lawful, size}
-use Rattle.ledger.specs.Records.{frameIn, entriesIn, recordVerdict}
+use Rattle.ledger.specs.Formats.{Correction, Format, Lawful, size}
+use Rattle.ledger.specs.Records.{frameIn, entriesIn}
 use Rattle.ledger.specs.Calls.{entryFor, restored, editAnswer, editWritten, editExit}
 use Rattle.ledger.specs.Chains.{Allowed}
 use Rattle.ledger.specs.Histories.{correctionOf}

@@ -1,27 +1,24 @@
 -- T33 to T35 for the calls on a record: a refused call leaves what it found, an accepted one writes nothing but the bytes named, and each call
 -- refuses by no other numbers and places than those listed.
 -- Assumes nothing but the laws of the book and the format.
-use Prim.Native.Nat.{ℕ, zero, suc, _+_, _-_, _*_, _≤_, _<_}
+use Prim.Native.Nat.{ℕ, _+_, _*_, _≤_, _<_}
 use mathlib.Core.Path.{_≡_, refl, sym, ap, _∙_}
-use mathlib.Core.Logic.{_⊎_, inl, inr, ⊎-elim}
-use mathlib.Core.Bool.{Bool, true, false, _&&_}
 use mathlib.Core.List.{List, [], _∷_, _++_, append-assoc}
 use native.Mathlib.Omega.{arith}
-use lib.ListN.{length, getD, take, drop, length-append}
+use lib.ListN.{length, getD, drop, length-append}
 use lib.Seq.{sets, length-sets, drop-at}
-use Rattle.format.specs.Words.{Bytes, bytes, pick}
-use Rattle.format.specs.Answers.{Outcome, accepted, refused, Done, andThen, need, firstOf, leaves}
-use Rattle.ledger.specs.Frames.{FrameBook, Settable}
-use Rattle.ledger.specs.Formats.{Entry, Correction, Format, Lawful, size}
-use Rattle.ledger.specs.Records.{header, lengthIn, countIn, totalIn, frameIn, entryBytes, numbered, entriesIn, length-entries, headerRight, historyVerdict, recordVerdict}
-use Rattle.ledger.specs.Calls.{entryFor, setWord, recordAnswer, entryAnswer, openAnswer, openExit, editTests, editAnswer, editWritten, editExit, restored, restoreAnswer, restoreExit}
+use Rattle.format.specs.Words.{bytes}
+use Rattle.format.specs.Answers.{accepted, refused, Done, leaves}
+use Rattle.ledger.specs.Frames.{FrameBook}
+use Rattle.ledger.specs.Formats.{Correction, Format, Lawful, size}
+use Rattle.ledger.specs.Records.{header, lengthIn, countIn, totalIn, frameIn, entryBytes, recordVerdict}
+use Rattle.ledger.specs.Calls.{entryFor, setWord, openAnswer, openExit, editAnswer, editWritten, editExit, restored, restoreAnswer, restoreExit}
 use Rattle.ledger.specs.Chains.{Header, Allowed}
-use Rattle.ledger.proofs.Answering.{need-refuses, not-both}
 use Rattle.ledger.proofs.Stores.{sets-outside, sets-inside}
 use Rattle.ledger.proofs.Codecs.{entry-length, header-length}
 use Rattle.ledger.proofs.Headers.{header-words, frame-length}
 use Rattle.ledger.proofs.Judging.{verdict-parts}
-use Rattle.ledger.proofs.Opening.{open-exactly, open-whole}
+use Rattle.ledger.proofs.Opening.{open-whole}
 use Rattle.ledger.proofs.Editing.{edit-judged, edit-exactly, exit-written, exit-found}
 
 module _ (B : FrameBook) (F : Format) where

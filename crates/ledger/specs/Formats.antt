@@ -7,7 +7,7 @@ use mathlib.Core.Bool.{Bool, true}
 use mathlib.Core.List.{List, [], _∷_, _++_}
 use lib.ListN.{length, take}
 use Rattle.format.specs.Words.{Bytes}
-use Rattle.format.specs.Answers.{Outcome, accepted, Done}
+use Rattle.format.specs.Answers.{accepted, Done}
 use Rattle.ledger.specs.Frames.{Spot, revalued, FrameBook, LawfulBook}
 
 -- an entry of the history; `extra` is the content of the fields after the reason, a list of numbers

@@ -8,7 +8,7 @@ use mathlib.Core.List.{List}
 use mathlib.Core.Option.{Option, some}
 use lib.ListN.{length}
 use Rattle.format.specs.Words.{Bytes}
-use Rattle.format.specs.Answers.{Outcome, accepted, Done}
+use Rattle.format.specs.Answers.{accepted, Done}
 
 -- an item that may be corrected: its kind (1 sample, 2 bin), its value, and the order key of the header it stands under
 pub record Spot : Type 0 where

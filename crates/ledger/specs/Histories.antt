@@ -5,7 +5,7 @@ use mathlib.Core.Path.{_≡_, refl}
 use mathlib.Core.List.{List, [], _∷_, _++_}
 use lib.ListN.{length, take, drop}
 use Rattle.format.specs.Words.{Bytes}
-use Rattle.format.specs.Answers.{Outcome, accepted, refused, Done}
+use Rattle.format.specs.Answers.{accepted, refused, Done}
 use Rattle.ledger.specs.Frames.{FrameBook}
 use Rattle.ledger.specs.Formats.{Entry, Correction, Format, size}
 use Rattle.ledger.specs.Records.{header, lengthIn, totalIn}
@@ -71,6 +71,13 @@ module _ (B : FrameBook) (F : Format) where
   unfolding made
   made-refused b c cs n p e = rw e
 
+  -- a point in a run of calls on b: those before it and those after it, with k accepted before it
+  pub record Point (b : List ℕ) (cs : List Correction) (k : ℕ) : Type 0 where
+    pub earlier : List Correction
+    pub later : List Correction
+    pub parts : cs ≡ earlier ++ later
+    pub count : length (made b earlier) ≡ k
+
   -- opening a frame in some buffer and making some calls on it makes the bytes that b begins with
   pub record Sequence (b : List ℕ) : Type 0 where
     pub origin : List ℕ
@@ -82,5 +89,5 @@ module _ (B : FrameBook) (F : Format) where
     pub same : take (totalIn F (run (openExit B F origin buffer) calls)) b ≡ take (totalIn F (run (openExit B F origin buffer) calls)) (run (openExit B F origin buffer) calls)
 
   -- the record as it stood after its first k entries: their header, the frame restored to k, and those entries
-  unfoldable pub earlier : List ℕ → ℕ → List ℕ
-  earlier b k = header F (lengthIn b) k ++ (restored B F b k ++ take (size F * k) (drop (16 + lengthIn b) b))
+  unfoldable pub earlierRecord : List ℕ → ℕ → List ℕ
+  earlierRecord b k = header F (lengthIn b) k ++ (restored B F b k ++ take (size F * k) (drop (16 + lengthIn b) b))

@@ -8,7 +8,7 @@ use mathlib.Core.Option.{Option, none, some}
 use lib.ListN.{length, take, drop}
 use lib.Dec.{leb, eqb}
 use Rattle.format.specs.Words.{bytes, wordAt, longAt, longWords}
-use Rattle.format.specs.Answers.{Outcome, accepted, refused, Done, andThen, need, firstOf}
+use Rattle.format.specs.Answers.{accepted, refused, Done, andThen, need, firstOf}
 use Rattle.ledger.specs.Tests.{all}
 use Rattle.ledger.specs.Frames.{Spot, FrameBook}
 use Rattle.ledger.specs.Formats.{Entry, Format, size}

@@ -21,3 +21,7 @@ pub record First (os : List Done) (n p : ℕ) : Type 0 where
   pub at : ℕ
   pub refuses : getD os at (accepted tt) ≡ refused n p
   pub earlier : (j : ℕ) → j < at → getD os j (accepted tt) ≡ accepted tt
+
+-- the refusal n at p is m at place 0
+abbrev pub Plain : ℕ → ℕ → ℕ → Type 0
+Plain m n p = (n ≡ m) × (p ≡ 0)
