@@ -5,7 +5,7 @@ use mathlib.Core.Path.{_≡_, refl, sym, _∙_}
 use mathlib.Core.Logic.{_↔_}
 use mathlib.Core.Bool.{true, not, _&&_, true≢false}
 use mathlib.Core.List.{List, _∷_, _++_, append-assoc}
-use mathlib.Core.Option.{Option, none, some}
+use mathlib.Core.Option.{some, Option·some-injective}
 use native.Mathlib.Nat.{mul-suc}
 use native.Mathlib.Numerals.{add-one}
 use native.Mathlib.Omega.{arith}
@@ -20,12 +20,12 @@ use Rattle.ledger.specs.Tests.{First}
 use Rattle.ledger.specs.Frames.{Spot, FrameBook}
 use Rattle.ledger.specs.Formats.{Correction, Format, Lawful, size}
 use Rattle.ledger.specs.Records.{header, totalIn, frameIn, entryBytes, entriesIn, signed, atSpot, recordVerdict}
-use Rattle.ledger.specs.Calls.{entryFor, setWord, editTests, editAnswer, editWritten, editExit}
+use Rattle.ledger.specs.Calls.{entryFor, newValue, setWord, editTests, editAnswer, editWritten, editExit}
 use Rattle.ledger.specs.Chains.{Allowed}
 use Rattle.ledger.proofs.Answering.{need-holds, first-at, refused-first, first-refused}
 use Rattle.ledger.proofs.Stores.{sets-mid}
 use Rattle.ledger.proofs.Codecs.{header-length, entriesBytes, entry-length}
-use Rattle.ledger.proofs.Judging.{signed-right, right-signed}
+use Rattle.ledger.proofs.Judging.{signed-right, right-signed, at-spot}
 use Rattle.ledger.proofs.Edits.{frameOf, entriesMade, Legal, valid-more, settable, frame-judged, frame-same}
 use Rattle.ledger.proofs.Holding.{Holds, made-length, holds-reads, holds-frame, holds-entries, holds-total, holds-length, holds-judged}
 
@@ -35,33 +35,41 @@ module _ (B : FrameBook) (F : Format) where
   unfolding editAnswer editTests
   edit-judged b c e = first-at _ 0 e
 
-  allowed-by : (b : List ℕ) (c : Correction) (o : Option Spot) → B .spot (frameIn b) (c .word) ≡ o → F .asked (c .extra) ≡ accepted tt → atSpot o (λ s. F .suits (c .extra) s) ≡ true
-      → atSpot o (λ s. B .legal (s .kind) (c .value) && not (eqb (s .value) (c .value))) ≡ true → (signed (c .operator) (c .reason) && F .good (c .extra)) ≡ true
-      → F .limit (entryFor B (frameIn b) c ∷ entriesIn F b) ≡ true → leb (totalIn F b + size F) (length b) ≡ true → Allowed B F b c
-  allowed-by b c none q a t v s l r = absurd (true≢false (sym t))
-  allowed-by b c (some x) q a t v s l r = record {
-    asked = a;
-    spot = x;
-    stands = q;
-    suits = t;
-    legal = and-left (B .legal (x .kind) (c .value)) (not (eqb (x .value) (c .value))) v;
-    changed = eqb-false _ _ (not-true _ (and-right (B .legal (x .kind) (c .value)) (not (eqb (x .value) (c .value))) v));
-    operator = signed-right _ _ (and-left (signed (c .operator) (c .reason)) (F .good (c .extra)) s) .0;
-    reason = signed-right _ _ (and-left (signed (c .operator) (c .reason)) (F .good (c .extra)) s) .1;
-    good = and-right (signed (c .operator) (c .reason)) (F .good (c .extra)) s;
-    limit = l;
-    room = leb-true _ _ r;
-  }
+  new-right : (c : Correction) (s : Spot) → newValue B c s ≡ true → (B .legal (s .kind) (c .value) ≡ true) × (s .value ≡ c .value → ⊥)
+  unfolding newValue
+  new-right c s v = (and-left _ _ v, eqb-false _ _ (not-true _ (and-right (B .legal (s .kind) (c .value)) _ v)))
+
+  right-new : (c : Correction) (s : Spot) → B .legal (s .kind) (c .value) ≡ true → (s .value ≡ c .value → ⊥) → newValue B c s ≡ true
+  unfolding newValue
+  right-new c s l n = rw (l, ne-eqb _ _ n)
 
   edit-allowed : (b : List ℕ) (c : Correction) → editAnswer B F b c ≡ accepted tt → Allowed B F b c
   unfolding editAnswer editTests
   edit-allowed b c e =
-      allowed-by b c (B .spot (frameIn b) (c .word)) refl (first-at _ 1 e) (need-holds _ 22 0 (first-at _ 2 e)) (need-holds _ 23 0 (first-at _ 3 e)) (need-holds _ 24 0 (first-at _ 4 e)) (need-holds _ 25 0 (first-at _ 5 e)) (need-holds _ 12 0 (first-at _ 6 e))
+      let o = B .spot (frameIn b) (c .word) in
+      let t = at-spot o (F .suits (c .extra)) (need-holds _ 22 0 (first-at _ 2 e)) in
+      let v = at-spot o (newValue B c) (need-holds _ 23 0 (first-at _ 3 e)) in
+      let q : t .spot ≡ v .spot = Option·some-injective (t .spot) (v .spot) (sym (t .stands) ∙ v .stands) in
+      let w = new-right c (v .spot) (v .passes) in
+      let s : (signed (c .operator) (c .reason) && F .good (c .extra)) ≡ true = need-holds _ 24 0 (first-at _ 4 e) in
+      record {
+        asked = first-at _ 1 e;
+        spot = v .spot;
+        stands = v .stands;
+        suits = rw q at (t .passes);
+        legal = w .0;
+        changed = w .1;
+        operator = signed-right _ _ (and-left _ _ s) .0;
+        reason = signed-right _ _ (and-left _ _ s) .1;
+        good = and-right (signed (c .operator) (c .reason)) _ s;
+        limit = need-holds _ 25 0 (first-at _ 5 e);
+        room = leb-true _ _ (need-holds _ 12 0 (first-at _ 6 e));
+      }
 
   allowed-edit : (b : List ℕ) (c : Correction) → recordVerdict B F b ≡ accepted tt → Allowed B F b c → editAnswer B F b c ≡ accepted tt
   unfolding editAnswer editTests firstOf
   allowed-edit b c j a =
-      rw (j, a .asked, a .limit, a .stands, a .suits, a .legal, ne-eqb _ _ (a .changed), right-signed _ _ (a .operator) (a .reason), a .good, le-leb _ _ (a .room))
+      rw (j, a .asked, a .limit, a .stands, a .suits, right-new c (a .spot) (a .legal) (a .changed), right-signed _ _ (a .operator) (a .reason), a .good, le-leb _ _ (a .room))
 
   -- T28: accepted exactly where no listed reason stands
   pub edit-exactly : (b : List ℕ) (c : Correction) → recordVerdict B F b ≡ accepted tt → (editAnswer B F b c ≡ accepted tt) ↔ Allowed B F b c
@@ -139,6 +147,8 @@ module _ (B : FrameBook) (F : Format) (L : Lawful B F) where
         let lx : length x ≡ size F = entry-length F (L .format) (entryFor B g c) (l .good) in
         let lr : length (take (size F) r) ≡ size F = length-take-le (size F) r (edit-room c a) in
         let s₁ : sets b 16 g₂ ≡ hd ++ (g₂ ++ (eb ++ r)) = rw (H .is) (sets-mid hd g (eb ++ r) g₂ 16 (header-length F (length f) (length h)) lg) in
+        let w : editWritten B F b c ≡ sets (setWord (setWord (hd ++ (g₂ ++ (eb ++ r))) 5 (length h + 1)) 6 (16 + length f + size F * length h + size F)) (16 + length f + size F * length h) x
+        = rw (holds-frame B F L f h b H, holds-reads B F L f h b H .count-is, holds-reads B F L f h b H .length-is, s₁) in
         let m : 16 + length f + size F * length h + size F ≡ 16 + length f + size F * suc (length h) = rw (mul-suc (size F) (length h)) (omega arith) in
         let lp : length ((hd₂ ++ g₂) ++ eb) ≡ 16 + length f + size F * length h
         = length-append (hd₂ ++ g₂) eb ∙ rw (length-append hd₂ g₂, header-length F (length f) (suc (length h)), lg, frame-same B F L f h (H .first) (H .valid), made-length B F L f h b H) in
@@ -147,7 +157,7 @@ module _ (B : FrameBook) (F : Format) (L : Lawful B F) where
         = sets-mid ((hd₂ ++ g₂) ++ eb) (take (size F) r) (drop (size F) r) x (16 + length f + size F * length h) lp (lx ∙ sym lr) in
         record {
           rest = drop (size F) r;
-          is = rw (holds-frame B F L f h b H, holds-reads B F L f h b H .count-is, holds-reads B F L f h b H .length-is, s₁, m, add-one (length h), header-put F (length f) (length h) (suc (length h)) (g₂ ++ (eb ++ r)), q) (s₃ ∙ simp append-assoc);
+          is = w ∙ rw (m, add-one (length h), header-put F (length f) (length h) (suc (length h)) (g₂ ++ (eb ++ r)), q) (s₃ ∙ simp append-assoc);
           bytes = H .bytes;
           first = H .first;
           valid = valid-more B F f c h l (H .valid);

@@ -79,6 +79,11 @@ module _ (B : FrameBook) (F : Format) (L : Lawful B F) where
     pub settable : Settable B f (c .word) (c .value) (l .spot)
     settable = record { frame = j; stands = l .stands; legal = l .legal }
 
+    -- the entry that it makes: the value that stands as the old one, the value asked for as the new one
+    pub entry-is : entryFor B f c
+        ≡ record { word = c .word; kind = l .spot .kind; old = l .spot .value; new = c .value; operator = c .operator; reason = c .reason; extra = c .extra }
+    entry-is = rw (l .stands)
+
     standing : Settable B f (c .word) (l .spot .value) (l .spot)
     standing = record { frame = j; stands = l .stands; legal = L .book .standing f (c .word) (l .spot) j (l .stands) }
 

@@ -7,12 +7,24 @@ use mathlib.Core.List.{List, [], _∷_}
 use native.Mathlib.Omega.{arith}
 use lib.ListN.{length}
 use borrow.Author.Tests.{leb-true, le-leb}
-use Rattle.ledger.specs.Formats.{LawfulFormat}
+use Rattle.ledger.specs.Formats.{Entry, LawfulFormat}
 use Rattle.ledger.specs.First.{first, nothing}
 
 empty : (x : List ℕ) → nothing x ≡ true → [] ≡ x
 empty [] e = refl
 empty (a ∷ x) e = absurd (true≢false (sym e))
+
+-- at most 512 entries, each older part of them too
+few : (es : List Entry) → first .limit es ≡ true → length es ≤ 512
+unfolding first
+few es h = leb-true _ _ h
+
+within : (es : List Entry) → length es ≤ 512 → first .limit es ≡ true
+unfolding first
+within es h = le-leb _ _ h
+
+older : (e : Entry) (es : List Entry) → first .limit (e ∷ es) ≡ true → first .limit es ≡ true
+older e es h = let k = few (e ∷ es) h in within es (omega arith)
 
 pub first-lawful : LawfulFormat first
 unfolding first
@@ -25,8 +37,8 @@ first-lawful = record {
   written-read = λ s y l g. refl;
   suits-revalued = λ x s v. refl;
   asked-suits = λ x s g t. refl;
-  limit-none = le-leb 0 512 (omega arith);
-  limit-older = λ e es h. let k : suc (length es) ≤ 512 = leb-true (suc (length es)) 512 h in le-leb (length es) 512 (omega arith);
+  limit-none = within [] (omega arith);
+  limit-older = older;
   limit-swap = λ d e es h. h;
-  limit-few = λ es h. leb-true (length es) 512 h;
+  limit-few = few;
 }

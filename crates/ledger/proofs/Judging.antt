@@ -15,7 +15,7 @@ use Rattle.format.specs.Answers.{accepted, refused, Done, andThen, need, firstO
 use Rattle.ledger.specs.Tests.{all}
 use Rattle.ledger.specs.Frames.{Spot, FrameBook}
 use Rattle.ledger.specs.Formats.{Entry, Format}
-use Rattle.ledger.specs.Records.{countIn, frameIn, numbered, entriesTo, entriesIn, length-entries, headerRight, signed, atSpot, fits, before, historyVerdict, history-none, history-fits, history-unfit, recordVerdict}
+use Rattle.ledger.specs.Records.{countIn, frameIn, numbered, entriesTo, entriesIn, length-entries, headerRight, signed, atSpot, fitsItem, fits, before, historyVerdict, history-none, history-fits, history-unfit, recordVerdict}
 use Rattle.ledger.specs.Calls.{undone, restored}
 use Rattle.ledger.specs.Chains.{Header, Fits, Chain}
 use Rattle.ledger.proofs.Answering.{all-at, need-holds, not-both, first-at}
@@ -30,31 +30,39 @@ pub right-signed : (o r : ℕ) → (1 ≤ o) × (o ≤ 65535) → (1 ≤ r) × (
 unfolding signed all
 right-signed o r p q = rw (le-leb _ _ (p .0), le-leb _ _ (p .1), le-leb _ _ (q .0), le-leb _ _ (q .1))
 
+-- ---- the item that a test is passed at
+pub record Passed (o : Option Spot) (p : Spot → Bool) : Type 0 where
+  pub spot : Spot
+  pub stands : o ≡ some spot
+  pub passes : p spot ≡ true
+
+pub at-spot : (o : Option Spot) (p : Spot → Bool) → atSpot o p ≡ true → Passed o p
+at-spot none p h = absurd (true≢false (sym h))
+at-spot (some s) p h = record { spot = s; stands = refl; passes = h }
+
 module _ (B : FrameBook) (F : Format) where
   -- ---- one entry
+  item-right : (f : List ℕ) (e : Entry) (s : Spot) → B .spot f (e .word) ≡ some s → fitsItem B F e s ≡ true → Fits B F f e
+  unfolding fitsItem
+  item-right f e s q k = record {
+    spot = s;
+    stands = q;
+    kind = eqb-true _ _ (all-at _ 0 k);
+    new = eqb-true _ _ (all-at _ 1 k);
+    old = all-at _ 2 k;
+    changed = eqb-false _ _ (not-true _ (all-at _ 3 k));
+    operator = signed-right _ _ (all-at _ 4 k) .0;
+    reason = signed-right _ _ (all-at _ 4 k) .1;
+    good = all-at _ 5 k;
+    suits = all-at _ 6 k;
+  }
+
   pub fits-right : (f : List ℕ) (e : Entry) → fits B F f e ≡ true → Fits B F f e
   unfolding fits
-  fits-right f e h = go (B .spot f (e .word)) refl h
-    where
-      go : (o : Option Spot) → B .spot f (e .word) ≡ o
-          → atSpot o (λ s. all (eqb (s .kind) (e .kind) ∷ eqb (s .value) (e .new) ∷ B .legal (e .kind) (e .old) ∷ not (eqb (e .old) (e .new)) ∷ signed (e .operator) (e .reason) ∷ F .good (e .extra) ∷ F .suits (e .extra) s ∷ [])) ≡ true
-          → Fits B F f e
-      go none q k = absurd (true≢false (sym k))
-      go (some s) q k = record {
-        spot = s;
-        stands = q;
-        kind = eqb-true _ _ (all-at _ 0 k);
-        new = eqb-true _ _ (all-at _ 1 k);
-        old = all-at _ 2 k;
-        changed = eqb-false _ _ (not-true _ (all-at _ 3 k));
-        operator = signed-right _ _ (all-at _ 4 k) .0;
-        reason = signed-right _ _ (all-at _ 4 k) .1;
-        good = all-at _ 5 k;
-        suits = all-at _ 6 k;
-      }
+  fits-right f e h = let a = at-spot (B .spot f (e .word)) (fitsItem B F e) h in item-right f e (a .spot) (a .stands) (a .passes)
 
   pub right-fits : (f : List ℕ) (e : Entry) → Fits B F f e → fits B F f e ≡ true
-  unfolding fits all
+  unfolding fits fitsItem all
   right-fits f e h =
       rw (h .stands, eq-eqb _ _ (h .kind), eq-eqb _ _ (h .new), h .old, ne-eqb _ _ (h .changed), right-signed _ _ (h .operator) (h .reason), h .good, h .suits)
 

@@ -15,7 +15,7 @@ use Rattle.ledger.specs.Tests.{Plain}
 use Rattle.ledger.specs.Frames.{FrameBook}
 use Rattle.ledger.specs.Formats.{Entry, Correction, Format, size}
 use Rattle.ledger.specs.Records.{lengthIn, countIn, totalIn, frameIn, numbered, entriesIn, length-entries, headerRight, signed, atSpot, before, historyVerdict, history-none, recordVerdict}
-use Rattle.ledger.specs.Calls.{Summary, entryFor, recordAnswer, entryAnswer, openAnswer, editTests, editAnswer, restoreAnswer}
+use Rattle.ledger.specs.Calls.{Summary, entryFor, newValue, recordAnswer, entryAnswer, openAnswer, editTests, editAnswer, restoreAnswer}
 use Rattle.ledger.proofs.Answering.{need-refuses, not-both}
 use Rattle.ledger.proofs.Judging.{step-refused}
 
@@ -66,8 +66,8 @@ module _ (B : FrameBook) (F : Format) where
   edit-refusals b c n p e =
       ⊎-map (λ w. w)
       (⊎-map (λ w. w)
-      (⊎-map (plain (atSpot (B .spot (frameIn b) (c .word)) (λ s. F .suits (c .extra) s)) 22 n p)
-      (⊎-map (plain (atSpot (B .spot (frameIn b) (c .word)) (λ s. B .legal (s .kind) (c .value) && not (eqb (s .value) (c .value)))) 23 n p)
+      (⊎-map (plain (atSpot (B .spot (frameIn b) (c .word)) (F .suits (c .extra))) 22 n p)
+      (⊎-map (plain (atSpot (B .spot (frameIn b) (c .word)) (newValue B c)) 23 n p)
       (⊎-map (plain (signed (c .operator) (c .reason) && F .good (c .extra)) 24 n p)
       (⊎-map (plain (F .limit (entryFor B (frameIn b) c ∷ entriesIn F b)) 25 n p)
       (⊎-elim (plain (leb (totalIn F b + size F) (length b)) 12 n p) (λ z. absurd z)))))))

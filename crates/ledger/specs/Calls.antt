@@ -3,7 +3,7 @@
 -- Assumes nothing.
 use Prim.Native.Nat.{ℕ, _+_, _-_, _*_}
 use mathlib.Core.Path.{_≡_, refl}
-use mathlib.Core.Bool.{not, _&&_}
+use mathlib.Core.Bool.{Bool, not, _&&_}
 use mathlib.Core.List.{List, [], _∷_, _++_}
 use mathlib.Core.Option.{Option, none, some}
 use lib.ListN.{length, take}
@@ -31,6 +31,10 @@ setWord b i v = sets b (2 * i) (bytes (v ∷ []))
 -- the entry that a correction of a frame makes
 abbrev pub entryFor : FrameBook → List ℕ → Correction → Entry
 entryFor B f c = record { word = c .word; kind = kindOf (B .spot f (c .word)); old = valueOf (B .spot f (c .word)); new = c .value; operator = c .operator; reason = c .reason; extra = c .extra }
+
+-- the value asked for is legal for the item, and not the present one
+unfoldable pub newValue : FrameBook → Correction → Spot → Bool
+newValue B c s = B .legal (s .kind) (c .value) && not (eqb (s .value) (c .value))
 
 module _ (B : FrameBook) where
   -- the frame before some entries, newest first
@@ -74,8 +78,8 @@ module _ (B : FrameBook) (F : Format) where
   editTests b c =
       recordVerdict B F b
       ∷ F .asked (c .extra)
-      ∷ need (atSpot (B .spot (frameIn b) (c .word)) (λ s. F .suits (c .extra) s)) 22 0
-      ∷ need (atSpot (B .spot (frameIn b) (c .word)) (λ s. B .legal (s .kind) (c .value) && not (eqb (s .value) (c .value)))) 23 0
+      ∷ need (atSpot (B .spot (frameIn b) (c .word)) (F .suits (c .extra))) 22 0
+      ∷ need (atSpot (B .spot (frameIn b) (c .word)) (newValue B c)) 23 0
       ∷ need (signed (c .operator) (c .reason) && F .good (c .extra)) 24 0
       ∷ need (F .limit (entryFor B (frameIn b) c ∷ entriesIn F b)) 25 0
       ∷ need (leb (totalIn F b + size F) (length b)) 12 0

@@ -92,12 +92,11 @@ abbrev pub before : FrameBook → List ℕ → Entry → List ℕ
 before B f e = B .put f (e .word) (e .old)
 
 module _ (B : FrameBook) (F : Format) where
-  -- an entry fits a frame: the item stands at that index and is of that kind, the new value is the one standing, the old one is legal and
-  -- different, operator and reason are legal, and so is what the format adds
-  unfoldable pub fits : List ℕ → Entry → Bool
-  fits f e =
-      atSpot (B .spot f (e .word))
-      (λ s. all
+  -- an entry against the item at its word: it is of that kind, the new value is the one standing, the old one is legal and different,
+  -- operator and reason are legal, and so is what the format adds
+  unfoldable pub fitsItem : Entry → Spot → Bool
+  fitsItem e s =
+      all
       (eqb (s .kind) (e .kind)
       ∷ eqb (s .value) (e .new)
       ∷ B .legal (e .kind) (e .old)
@@ -105,7 +104,11 @@ module _ (B : FrameBook) (F : Format) where
       ∷ signed (e .operator) (e .reason)
       ∷ F .good (e .extra)
       ∷ F .suits (e .extra) s
-      ∷ []))
+      ∷ [])
+
+  -- an entry fits a frame: the item stands at that index and passes those tests
+  unfoldable pub fits : List ℕ → Entry → Bool
+  fits f e = atSpot (B .spot f (e .word)) (fitsItem e)
 
   -- 21: entries from the newest back, each against the frame that the newer ones leave; the place is the entry's number from the oldest, 1
   unfoldable pub historyVerdict : List ℕ → List Entry → Done
