@@ -12,7 +12,7 @@ use lib.ListN.{length, drop, length-append, take-append-drop}
 use lib.Seq.{drop-at, drop-length, take-all}
 use Rattle.format.specs.Words.{Bytes}
 use Rattle.format.specs.Answers.{accepted}
-use Rattle.ledger.specs.Frames.{revalued, FrameBook, Settable}
+use Rattle.ledger.specs.Frames.{revalued, FrameBook, Accepted, Settable}
 use Rattle.ledger.specs.Formats.{Entry, Correction, Format, Lawful, size}
 use Rattle.ledger.specs.Records.{header, lengthIn, countIn, totalIn, frameIn, entryBytes, entriesIn, length-entries, before, historyVerdict, recordVerdict}
 use Rattle.ledger.specs.Calls.{entryFor, undone, restored, openAnswer, openExit, editAnswer, editExit}
@@ -31,13 +31,12 @@ use Rattle.ledger.proofs.Forward.{opened-stands, run-stands}
 module _ (B : FrameBook) (F : Format) (L : Lawful B F) where
   -- ---- entries that fit, undone: the frame they lead back to, and their corrections as a history of it
   record Undone (g : List ℕ) (es : List Entry) : Type 0 where
-    bytes : Bytes (undone B g es)
-    first : B .judge (undone B g es) ≡ accepted tt
+    first : Accepted B (undone B g es)
     valid : Valid B F (undone B g es) (map correctionOf es)
     frame : g ≡ frameOf B (undone B g es) (map correctionOf es)
     entries : es ≡ entriesMade B (undone B g es) (map correctionOf es)
 
-  module _ (g : List ℕ) (e : Entry) (j : B .judge g ≡ accepted tt) (t : Fits B F g e) where
+  module _ (g : List ℕ) (e : Entry) (j : Accepted B g) (t : Fits B F g e) where
     before-settable : Settable B g (e .word) (e .old) (t .spot)
     before-settable = record { frame = j; stands = t .stands; legal = rw (t .kind) (t .old) }
 
@@ -63,29 +62,28 @@ module _ (B : FrameBook) (F : Format) (L : Lawful B F) where
     before-entry : entryFor B (before B g e) (correctionOf e) ≡ e
     before-entry = rw (before-spot, t .kind)
 
-    before-again : Bytes g → B .put (before B g e) (e .word) (e .new) ≡ g
-    before-again y =
+    before-again : B .put (before B g e) (e .word) (e .new) ≡ g
+    before-again =
         let s : Settable B g (e .word) (e .new) (t .spot) = record { frame = j; stands = t .stands; legal = new-legal } in
-        L .book .put-again g (e .word) (e .old) (e .new) (t .spot) before-settable s ∙ rw (← t .new) (L .book .put-back g (e .word) (t .spot) y j (t .stands))
+        L .book .put-again g (e .word) (e .old) (e .new) (t .spot) before-settable s ∙ rw (← t .new) (L .book .put-back g (e .word) (t .spot) j (t .stands))
 
-  undone-step : (g : List ℕ) (e : Entry) (es : List Entry) → Bytes g → B .judge g ≡ accepted tt → Fits B F g e → Undone (before B g e) es → Undone g (e ∷ es)
+  undone-step : (g : List ℕ) (e : Entry) (es : List Entry) → Accepted B g → Fits B F g e → Undone (before B g e) es → Undone g (e ∷ es)
   unfolding undone frameOf entriesMade
-  undone-step g e es y j t U = record {
-    bytes = U .bytes;
+  undone-step g e es j t U = record {
     first = U .first;
     valid = valid-more B F _ (correctionOf e) (map correctionOf es) (rw (U .frame) at (before-legal g e j t)) (U .valid);
-    frame = rw (← U .frame) (sym (before-again g e j t y));
+    frame = rw (← U .frame) (sym (before-again g e j t));
     entries = rw (← U .frame, before-entry g e j t, ← U .entries);
   }
 
-  all-undone : (g : List ℕ) (es : List Entry) → Bytes g → B .judge g ≡ accepted tt → historyVerdict B F g es ≡ accepted tt → Undone g es
+  all-undone : (g : List ℕ) (es : List Entry) → Accepted B g → historyVerdict B F g es ≡ accepted tt → Undone g es
   unfolding undone frameOf entriesMade
-  all-undone g [] y j h = record { bytes = y; first = j; valid = valid-none B F g; frame = refl; entries = refl }
-  all-undone g (e ∷ es) y j h =
+  all-undone g [] j h = record { first = j; valid = valid-none B F g; frame = refl; entries = refl }
+  all-undone g (e ∷ es) j h =
       let s = step-accepted B F g e es h in
       let t = fits-right B F g e (s .0) in
       let p = before-settable g e j t in
-      undone-step g e es y j t (all-undone (before B g e) es (L .book .put-bytes g (e .word) (e .old) (t .spot) p y) (L .book .put-accepted g (e .word) (e .old) (t .spot) p) (s .1))
+      undone-step g e es j t (all-undone (before B g e) es (L .book .put-accepted g (e .word) (e .old) (t .spot) p) (s .1))
 
   -- ---- an accepted record holds the frame that it restores to, with its entries' corrections
   restored-all : (b : List ℕ) → restored B F b 0 ≡ undone B (frameIn b) (entriesIn F b)
@@ -96,7 +94,7 @@ module _ (B : FrameBook) (F : Format) (L : Lawful B F) where
   accepted-holds b y e =
       let p = verdict-parts B F b e in
       let hr = header-words F b (p .0) in
-      let U = all-undone (frameIn b) (entriesIn F b) (bytes-part b 16 (lengthIn b) y) (p .1) (p .2) in
+      let U = all-undone (frameIn b) (entriesIn F b) (record { bytes = bytes-part b 16 (lengthIn b) y; judged = p .1 }) (p .2) in
       let f = undone B (frameIn b) (entriesIn F b) in
       let h = map correctionOf (entriesIn F b) in
       let len : length f ≡ lengthIn b = sym (frame-same B F L f h (U .first) (U .valid)) ∙ rw (← U .frame) (frame-length F b hr) in
@@ -106,7 +104,6 @@ module _ (B : FrameBook) (F : Format) (L : Lawful B F) where
       (record {
         rest = drop (totalIn F b) b;
         is = rw (len, n, ← U .frame, ← U .entries) (record-bytes F (L .format) b hr y g);
-        bytes = U .bytes;
         first = U .first;
         valid = U .valid;
         limit = rw (← U .entries) (hr .limit);
@@ -133,16 +130,16 @@ module _ (B : FrameBook) (F : Format) (L : Lawful B F) where
   unfolding made
   made-one b c e = rw e
 
-  one-more : (f : List ℕ) (c : Correction) (h : List Correction) (b r : List ℕ) → Bytes f → B .judge f ≡ accepted tt → Valid B F f (c ∷ h) → F .limit (entriesMade B f (c ∷ h)) ≡ true
+  one-more : (f : List ℕ) (c : Correction) (h : List Correction) (b r : List ℕ) → Accepted B f → Valid B F f (c ∷ h) → F .limit (entriesMade B f (c ∷ h)) ≡ true
       → Replayed f h b (entryBytes F (entryFor B (frameOf B f h) c) ++ r) → Replayed f (c ∷ h) b r
   unfolding oldestFirst
-  one-more f c h b r y j v m R =
+  one-more f c h b r j v m R =
       let x = entryBytes F (entryFor B (frameOf B f h) c) in
       let l = valid-newest B F f c h v in
       let lx : length x ≡ size F = entry-length F (L .format) (entryFor B (frameOf B f h) c) (l .good) in
       let lr : size F ≤ length (x ++ r) = rw (length-append x r) (omega arith) in
       let b₂ = run B F b (oldestFirst h) in
-      let H : Holds B F f h b₂ = record { rest = x ++ r; is = R .bytes; bytes = y; first = j; valid = valid-older B F f c h v; limit = older-limit f c h m } in
+      let H : Holds B F f h b₂ = record { rest = x ++ r; is = R .bytes; first = j; valid = valid-older B F f c h v; limit = older-limit f c h m } in
       let D : editAnswer B F b₂ c ≡ accepted tt = legal-edit B F L f h b₂ H c l m lr in
       let a = edit-exactly B F b₂ c (holds-judged B F L f h b₂ H) .0 D in
       record {
@@ -150,20 +147,20 @@ module _ (B : FrameBook) (F : Format) (L : Lawful B F) where
         all = made-append B F b (oldestFirst h) (c ∷ []) ∙ rw (R .all) (ap (λ (d : List Correction). oldestFirst h ++ d) (made-one b₂ c D));
       }
 
-  replay : (f : List ℕ) (h : List Correction) (b r : List ℕ) → Bytes f → B .judge f ≡ accepted tt → Valid B F f h → F .limit (entriesMade B f h) ≡ true
+  replay : (f : List ℕ) (h : List Correction) (b r : List ℕ) → Accepted B f → Valid B F f h → F .limit (entriesMade B f h) ≡ true
       → b ≡ header F (length f) 0 ++ (f ++ (entriesBytes F (entriesMade B f h) ++ r)) → Replayed f h b r
   unfolding oldestFirst run made frameOf
-  replay f [] b r y j v m e = record { bytes = e; all = refl }
-  replay f (c ∷ h) b r y j v m e =
+  replay f [] b r j v m e = record { bytes = e; all = refl }
+  replay f (c ∷ h) b r j v m e =
       let eb = entriesBytes F (entriesMade B f h) in
       let x = entryBytes F (entryFor B (frameOf B f h) c) in
       let e₂ : b ≡ header F (length f) 0 ++ (f ++ (eb ++ (x ++ r))) = rw (entries-cons f c h, append-assoc eb x r) at e in
-      one-more f c h b r y j v m (replay f h b (x ++ r) y j (valid-older B F f c h v) (older-limit f c h m) e₂)
+      one-more f c h b r j v m (replay f h b (x ++ r) j (valid-older B F f c h v) (older-limit f c h m) e₂)
 
   -- ---- T30: opening the restored frame in the very buffer, and making the entries again
   module _ (f : List ℕ) (h : List Correction) (b : List ℕ) (H : Holds B F f h b) where
     holds-opens : openAnswer B F f b ≡ accepted tt
-    holds-opens = let q = holds-length B F L f h b H in open-exactly B F f b .1 (H .first, omega arith)
+    holds-opens = let q = holds-length B F L f h b H in open-exactly B F f b .1 (H .first .judged, omega arith)
 
     holds-replays : Replayed f h (openExit B F f b) (H .rest)
     holds-replays =
@@ -171,14 +168,14 @@ module _ (B : FrameBook) (F : Format) (L : Lawful B F) where
         let g = frameOf B f h in
         let q = entriesBytes F (entriesMade B f h) ++ H .rest in
         let d : drop (16 + length f) b ≡ q = ap (drop (16 + length f)) (H .is ∙ sym (append-assoc hd g q)) ∙ drop-at (hd ++ g) q (16 + length f) (holds-head B F L f h b H) in
-        replay f h (openExit B F f b) (H .rest) (H .bytes) (H .first) (H .valid) (H .limit) (rw d at (open-whole B F f b holds-opens))
+        replay f h (openExit B F f b) (H .rest) (H .first) (H .valid) (H .limit) (rw d at (open-whole B F f b holds-opens))
 
     holds-makes : run B F (openExit B F f b) (oldestFirst h) ≡ b
     holds-makes = holds-replays .bytes ∙ sym (H .is)
 
   module _ (b : List ℕ) (y : Bytes b) (e : recordVerdict B F b ≡ accepted tt) where
-    pub restored-first : (Bytes (restored B F b 0)) × (B .judge (restored B F b 0) ≡ accepted tt)
-    restored-first = let H = accepted-holds b y e in (H .bytes, H .first)
+    pub restored-first : Accepted B (restored B F b 0)
+    restored-first = accepted-holds b y e .first
 
     pub backward-opens : openAnswer B F (restored B F b 0) b ≡ accepted tt
     backward-opens = holds-opens (restored B F b 0) (map correctionOf (entriesIn F b)) b (accepted-holds b y e)
@@ -194,7 +191,7 @@ module _ (B : FrameBook) (F : Format) (L : Lawful B F) where
       origin = restored B F b 0;
       buffer = b;
       calls = map correctionOf (oldestFirst (entriesIn F b));
-      bytes = restored-first .0;
+      bytes = restored-first .bytes;
       opened = backward-opens;
       whole = rw backward-makes (header-words F b (verdict-parts B F b e .0) .room);
       same = rw backward-makes;
@@ -211,7 +208,6 @@ module _ (B : FrameBook) (F : Format) (L : Lawful B F) where
       record {
         rest = drop (totalIn F b₂) b;
         is = sym (take-append-drop (totalIn F b₂) b) ∙ rw (S .same, holds-taken B F L f h b₂ H) (simp append-assoc);
-        bytes = H .bytes;
         first = H .first;
         valid = H .valid;
         limit = H .limit;

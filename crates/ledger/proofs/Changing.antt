@@ -16,7 +16,7 @@ use Rattle.ledger.specs.Records.{header, lengthIn, countIn, totalIn, fra
 use Rattle.ledger.specs.Calls.{entryFor, restored, editAnswer, editWritten, editExit}
 use Rattle.ledger.specs.Chains.{Allowed}
 use Rattle.ledger.specs.Histories.{correctionOf}
-use Rattle.ledger.proofs.Codecs.{entriesBytes, Good, entries-back}
+use Rattle.ledger.proofs.Codecs.{bytes-part, entriesBytes, Good, entries-back}
 use Rattle.ledger.proofs.Headers.{header-words}
 use Rattle.ledger.proofs.Judging.{verdict-parts}
 use Rattle.ledger.proofs.Edits.{frameOf, entriesMade, entries-good}
@@ -83,7 +83,7 @@ module _ (B : FrameBook) (F : Format) (L : Lawful B F) where
     edit-frame = rw (exit-written B F b c e) (holds-frame B F L origin (c ∷ edits) (editWritten B F b c) new-holds ∙ rw (holds-frame B F L origin edits b old-holds))
 
     pub edit-settable : Settable B (frameIn b) (c .word) (c .value) (allowed .spot)
-    edit-settable = record { frame = verdict-parts B F b judged .1; stands = allowed .stands; legal = allowed .legal }
+    edit-settable = record { frame = record { bytes = bytes-part b 16 (lengthIn b) y; judged = verdict-parts B F b judged .1 }; stands = allowed .stands; legal = allowed .legal }
 
     pub edit-there : (s : Spot) → B .spot (frameIn b) (c .word) ≡ some s → B .spot (frameIn (editExit B F b c)) (c .word) ≡ some (revalued s (c .value))
     edit-there s q =

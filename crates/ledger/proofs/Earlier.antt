@@ -87,7 +87,6 @@ module _ (B : FrameBook) (F : Format) (L : Lawful B F) where
     old-holds = record {
       rest = [];
       is = is-old ∙ rw (append-nil (entriesBytes F (entriesMade B f old)));
-      bytes = H .bytes;
       first = H .first;
       valid = valid-drop B F f h (length h - k) (H .valid);
       limit = rw (made-drop B f h (length h - k)) (limit-drop B F L (entriesMade B f h) (length h - k) (H .limit));

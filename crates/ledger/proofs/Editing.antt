@@ -26,7 +26,7 @@ use Rattle.ledger.proofs.Answering.{need-holds, first-at, refused-first
 use Rattle.ledger.proofs.Stores.{sets-mid}
 use Rattle.ledger.proofs.Codecs.{header-length, entriesBytes, entry-length}
 use Rattle.ledger.proofs.Judging.{signed-right, right-signed, at-spot}
-use Rattle.ledger.proofs.Edits.{frameOf, entriesMade, Legal, valid-more, settable, frame-judged, frame-same}
+use Rattle.ledger.proofs.Edits.{frameOf, entriesMade, Legal, valid-more, settable, frame-accepted, frame-same}
 use Rattle.ledger.proofs.Holding.{Holds, made-length, holds-reads, holds-frame, holds-entries, holds-total, holds-length, holds-judged}
 
 module _ (B : FrameBook) (F : Format) where
@@ -141,7 +141,7 @@ module _ (B : FrameBook) (F : Format) (L : Lawful B F) where
         let hd = header F (length f) (length h) in
         let hd₂ = header F (length f) (suc (length h)) in
         let x = entryBytes F (entryFor B g c) in
-        let j = frame-judged B F L f h (H .first) (H .valid) in
+        let j = frame-accepted B F L f h (H .first) (H .valid) in
         let l = edit-legal c a in
         let lg : length g₂ ≡ length g = L .book .put-length g (c .word) (c .value) (l .spot) (settable B F L g c j l) in
         let lx : length x ≡ size F = entry-length F (L .format) (entryFor B g c) (l .good) in
@@ -158,7 +158,6 @@ module _ (B : FrameBook) (F : Format) (L : Lawful B F) where
         record {
           rest = drop (size F) r;
           is = w ∙ rw (m, add-one (length h), header-put F (length f) (length h) (suc (length h)) (g₂ ++ (eb ++ r)), q) (s₃ ∙ simp append-assoc);
-          bytes = H .bytes;
           first = H .first;
           valid = valid-more B F f c h l (H .valid);
           limit = rw (holds-frame B F L f h b H, holds-entries B F L f h b H) at (a .limit);

@@ -9,7 +9,7 @@ use native.Mathlib.Omega.{arith}
 use lib.ListN.{length, take, drop}
 use Rattle.format.specs.Words.{Bytes}
 use Rattle.format.specs.Answers.{accepted}
-use Rattle.ledger.specs.Frames.{Spot, revalued, FrameBook, Settable}
+use Rattle.ledger.specs.Frames.{Spot, revalued, FrameBook, Accepted, Settable}
 use Rattle.ledger.specs.Formats.{Entry, Correction, Format, Lawful}
 use Rattle.ledger.specs.Records.{before, historyVerdict, history-none, history-fits}
 use Rattle.ledger.specs.Calls.{entryFor, undone}
@@ -75,22 +75,22 @@ module _ (B : FrameBook) (F : Format) where
 
 module _ (B : FrameBook) (F : Format) (L : Lawful B F) where
   -- ---- one edit of an accepted frame
-  module _ (f : List ℕ) (c : Correction) (j : B .judge f ≡ accepted tt) (l : Legal B F f c) where
+  module _ (f : List ℕ) (c : Correction) (a : Accepted B f) (l : Legal B F f c) where
     pub settable : Settable B f (c .word) (c .value) (l .spot)
-    settable = record { frame = j; stands = l .stands; legal = l .legal }
+    settable = record { frame = a; stands = l .stands; legal = l .legal }
+
+    standing : Settable B f (c .word) (l .spot .value) (l .spot)
+    standing = record { frame = a; stands = l .stands; legal = L .book .standing f (c .word) (l .spot) a (l .stands) }
 
     -- the entry that it makes: the value that stands as the old one, the value asked for as the new one
     pub entry-is : entryFor B f c
         ≡ record { word = c .word; kind = l .spot .kind; old = l .spot .value; new = c .value; operator = c .operator; reason = c .reason; extra = c .extra }
     entry-is = rw (l .stands)
 
-    standing : Settable B f (c .word) (l .spot .value) (l .spot)
-    standing = record { frame = j; stands = l .stands; legal = L .book .standing f (c .word) (l .spot) j (l .stands) }
-
     pub entry-small : Small F (entryFor B f c)
     entry-small = record {
-      word = L .book .index-fits f (c .word) (l .spot) j (l .stands);
-      kind = rw (l .stands) (L .book .kind-fits f (c .word) (l .spot) j (l .stands));
+      word = L .book .index-fits f (c .word) (l .spot) a (l .stands);
+      kind = rw (l .stands) (L .book .kind-fits f (c .word) (l .spot) a (l .stands));
       old = rw (l .stands) (L .book .value-fits (l .spot .kind) (l .spot .value) (standing .legal));
       new = L .book .value-fits (l .spot .kind) (c .value) (l .legal);
       operator = let h = l .operator in omega arith;
@@ -98,7 +98,7 @@ module _ (B : FrameBook) (F : Format) (L : Lawful B F) where
       good = l .good;
     }
 
-    -- the entry that it makes fits the frame that it leaves, and undone gives back the frame it found
+    -- it fits the frame that the edit leaves, and undone gives back the frame that the edit found
     pub edited-fits : Fits B F (B .put f (c .word) (c .value)) (entryFor B f c)
     edited-fits = record {
       spot = revalued (l .spot) (c .value);
@@ -113,62 +113,53 @@ module _ (B : FrameBook) (F : Format) (L : Lawful B F) where
       suits = rw (L .format .suits-revalued (c .extra) (l .spot) (c .value)) (l .suits);
     }
 
-    pub edited-undone : Bytes f → before B (B .put f (c .word) (c .value)) (entryFor B f c) ≡ f
-    edited-undone y = rw (l .stands) (L .book .put-again f (c .word) (c .value) (l .spot .value) (l .spot) settable standing ∙ L .book .put-back f (c .word) (l .spot) y j (l .stands))
+    pub edited-undone : before B (B .put f (c .word) (c .value)) (entryFor B f c) ≡ f
+    edited-undone = rw (l .stands) (L .book .put-again f (c .word) (c .value) (l .spot .value) (l .spot) settable standing ∙ L .book .put-back f (c .word) (l .spot) a (l .stands))
 
   -- ---- any number of them
-  pub frame-judged : (f : List ℕ) (h : List Correction) → B .judge f ≡ accepted tt → Valid B F f h → B .judge (frameOf B f h) ≡ accepted tt
+  pub frame-accepted : (f : List ℕ) (h : List Correction) → Accepted B f → Valid B F f h → Accepted B (frameOf B f h)
   unfolding frameOf
-  frame-judged f [] j v = j
-  frame-judged f (c ∷ h) j v =
-      let g = frame-judged f h j (valid-older B F f c h v) in
+  frame-accepted f [] a v = a
+  frame-accepted f (c ∷ h) a v =
+      let g = frame-accepted f h a (valid-older B F f c h v) in
       L .book .put-accepted (frameOf B f h) (c .word) (c .value) _ (settable (frameOf B f h) c g (valid-newest B F f c h v))
 
-  pub frame-same : (f : List ℕ) (h : List Correction) → B .judge f ≡ accepted tt → Valid B F f h → length (frameOf B f h) ≡ length f
+  pub frame-same : (f : List ℕ) (h : List Correction) → Accepted B f → Valid B F f h → length (frameOf B f h) ≡ length f
   unfolding frameOf
-  frame-same f [] j v = refl
-  frame-same f (c ∷ h) j v =
-      let g = frame-judged f h j (valid-older B F f c h v) in
-      L .book .put-length (frameOf B f h) (c .word) (c .value) _ (settable (frameOf B f h) c g (valid-newest B F f c h v)) ∙ frame-same f h j (valid-older B F f c h v)
-
-  pub frame-bytes : (f : List ℕ) (h : List Correction) → Bytes f → B .judge f ≡ accepted tt → Valid B F f h → Bytes (frameOf B f h)
-  unfolding frameOf
-  frame-bytes f [] y j v = y
-  frame-bytes f (c ∷ h) y j v =
-      let g = frame-judged f h j (valid-older B F f c h v) in
-      L .book .put-bytes (frameOf B f h) (c .word) (c .value) _ (settable (frameOf B f h) c g (valid-newest B F f c h v)) (frame-bytes f h y j (valid-older B F f c h v))
+  frame-same f [] a v = refl
+  frame-same f (c ∷ h) a v =
+      let g = frame-accepted f h a (valid-older B F f c h v) in
+      L .book .put-length (frameOf B f h) (c .word) (c .value) _ (settable (frameOf B f h) c g (valid-newest B F f c h v)) ∙ frame-same f h a (valid-older B F f c h v)
 
   pub entries-good : (f : List ℕ) (h : List Correction) → Valid B F f h → Good F (entriesMade B f h)
   unfolding entriesMade
   entries-good f [] v = tt
   entries-good f (c ∷ h) v = (valid-newest B F f c h v .good, entries-good f h (valid-older B F f c h v))
 
-  pub made-bytes : (f : List ℕ) (h : List Correction) → B .judge f ≡ accepted tt → Valid B F f h → Bytes (entriesBytes F (entriesMade B f h))
+  pub made-bytes : (f : List ℕ) (h : List Correction) → Accepted B f → Valid B F f h → Bytes (entriesBytes F (entriesMade B f h))
   unfolding entriesMade entriesBytes
-  made-bytes f [] j v = λ i. omega arith
-  made-bytes f (c ∷ h) j v =
+  made-bytes f [] a v = λ i. omega arith
+  made-bytes f (c ∷ h) a v =
       let o = valid-older B F f c h v in
       let g = frameOf B f h in
       let x = entryFor B g c in
-      bytes-join (entriesBytes F (entriesMade B f h)) _ (made-bytes f h j o) (entry-bytes F (L .format) x (entry-small g c (frame-judged f h j o) (valid-newest B F f c h v)))
+      bytes-join (entriesBytes F (entriesMade B f h)) _ (made-bytes f h a o) (entry-bytes F (L .format) x (entry-small g c (frame-accepted f h a o) (valid-newest B F f c h v)))
 
   -- the entries fit, and undoing the newest m of them leaves the frame after the others
-  pub history-made : (f : List ℕ) (h : List Correction) → Bytes f → B .judge f ≡ accepted tt → Valid B F f h → historyVerdict B F (frameOf B f h) (entriesMade B f h) ≡ accepted tt
+  pub history-made : (f : List ℕ) (h : List Correction) → Accepted B f → Valid B F f h → historyVerdict B F (frameOf B f h) (entriesMade B f h) ≡ accepted tt
   unfolding frameOf entriesMade
-  history-made f [] y j v = history-none B F f
-  history-made f (c ∷ h) y j v =
+  history-made f [] a v = history-none B F f
+  history-made f (c ∷ h) a v =
       let o = valid-older B F f c h v in
       let g = frameOf B f h in
-      let jg = frame-judged f h j o in
+      let ag = frame-accepted f h a o in
       let l = valid-newest B F f c h v in
-      history-fits B F (B .put g (c .word) (c .value)) (entryFor B g c) (entriesMade B f h) (right-fits B F _ _ (edited-fits g c jg l))
-      ∙ rw (edited-undone g c jg l (frame-bytes f h y j o)) (history-made f h y j o)
+      history-fits B F (B .put g (c .word) (c .value)) (entryFor B g c) (entriesMade B f h) (right-fits B F _ _ (edited-fits g c ag l)) ∙ rw (edited-undone g c ag l) (history-made f h a o)
 
-  pub undone-made : (f : List ℕ) (h : List Correction) (m : ℕ) → Bytes f → B .judge f ≡ accepted tt → Valid B F f h → undone B (frameOf B f h) (take m (entriesMade B f h)) ≡ frameOf B f (drop m h)
+  pub undone-made : (f : List ℕ) (h : List Correction) (m : ℕ) → Accepted B f → Valid B F f h → undone B (frameOf B f h) (take m (entriesMade B f h)) ≡ frameOf B f (drop m h)
   unfolding frameOf entriesMade undone
-  undone-made f h zero y j v = refl
-  undone-made f [] (suc m) y j v = refl
-  undone-made f (c ∷ h) (suc m) y j v =
+  undone-made f h zero a v = refl
+  undone-made f [] (suc m) a v = refl
+  undone-made f (c ∷ h) (suc m) a v =
       let o = valid-older B F f c h v in
-      let g = frameOf B f h in
-      rw (edited-undone g c (frame-judged f h j o) (valid-newest B F f c h v) (frame-bytes f h y j o)) (undone-made f h m y j o)
+      rw (edited-undone (frameOf B f h) c (frame-accepted f h a o) (valid-newest B F f c h v)) (undone-made f h m a o)

@@ -11,7 +11,7 @@ use lib.Seq.{sets-eq, take-at, drop-at}
 use borrow.Author.Tests.{le-leb, lt-leb}
 use Rattle.format.specs.Words.{Bytes}
 use Rattle.format.specs.Answers.{accepted, refused, firstOf}
-use Rattle.ledger.specs.Frames.{FrameBook}
+use Rattle.ledger.specs.Frames.{FrameBook, Accepted}
 use Rattle.ledger.specs.Formats.{Correction, Format, Lawful, size}
 use Rattle.ledger.specs.Records.{header, lengthIn, totalIn, frameIn, entriesIn, recordVerdict}
 use Rattle.ledger.specs.Calls.{restored, restoreAnswer, restoreExit}
@@ -19,7 +19,7 @@ use Rattle.ledger.specs.Chains.{Header}
 use Rattle.ledger.proofs.Codecs.{Reads, header-reads, header-length, header-bytes, bytes-join, entriesBytes, entries-length, entries-there}
 use Rattle.ledger.proofs.Headers.{header-right}
 use Rattle.ledger.proofs.Judging.{parts-verdict}
-use Rattle.ledger.proofs.Edits.{frameOf, entriesMade, entries-count, Valid, valid-drop, frame-judged, frame-same, frame-bytes, entries-good, made-bytes, history-made, undone-made}
+use Rattle.ledger.proofs.Edits.{frameOf, entriesMade, entries-count, Valid, valid-drop, frame-accepted, frame-same, entries-good, made-bytes, history-made, undone-made}
 
 module _ (B : FrameBook) (F : Format) where
   -- the bytes of the record of f with the edits h, newest first
@@ -29,8 +29,7 @@ module _ (B : FrameBook) (F : Format) where
   pub record Holds (f : List ℕ) (h : List Correction) (b : List ℕ) : Type 0 where
     pub rest : List ℕ
     pub is : b ≡ header F (length f) (length h) ++ (frameOf B f h ++ (entriesBytes F (entriesMade B f h) ++ rest))
-    pub bytes : Bytes f
-    pub first : B .judge f ≡ accepted tt
+    pub first : Accepted B f
     pub valid : Valid B F f h
     pub limit : F .limit (entriesMade B f h) ≡ true
 
@@ -105,8 +104,8 @@ module _ (B : FrameBook) (F : Format) (L : Lawful B F) where
 
     pub holds-judged : recordVerdict B F b ≡ accepted tt
     holds-judged =
-        let j : B .judge (frameIn b) ≡ accepted tt = rw holds-frame (frame-judged B F L f h (H .first) (H .valid)) in
-        parts-verdict B F b (header-right F b holds-header) j ∙ rw (holds-frame, holds-entries) (history-made B F L f h (H .bytes) (H .first) (H .valid))
+        let j : B .judge (frameIn b) ≡ accepted tt = rw holds-frame (frame-accepted B F L f h (H .first) (H .valid) .judged) in
+        parts-verdict B F b (header-right F b holds-header) j ∙ rw (holds-frame, holds-entries) (history-made B F L f h (H .first) (H .valid))
 
     -- the whole buffer is bytes where what stands beyond the record is
     pub holds-bytes : Bytes (H .rest) → Bytes b
@@ -116,12 +115,12 @@ module _ (B : FrameBook) (F : Format) (L : Lawful B F) where
         let eb = entriesBytes F (entriesMade B f h) in
         rw (H .is)
         (bytes-join hd (g ++ (eb ++ H .rest)) (header-bytes F (length f) (length h) (L .format) (L .book .short f (H .first)) holds-few)
-        (bytes-join g (eb ++ H .rest) (frame-bytes B F L f h (H .bytes) (H .first) (H .valid)) (bytes-join eb (H .rest) (made-bytes B F L f h (H .first) (H .valid)) y)))
+        (bytes-join g (eb ++ H .rest) (frame-accepted B F L f h (H .first) (H .valid) .bytes) (bytes-join eb (H .rest) (made-bytes B F L f h (H .first) (H .valid)) y)))
 
     -- ---- restoring
     pub holds-restored : (k : ℕ) → restored B F b k ≡ frameOf B f (drop (length h - k) h)
     unfolding restored
-    holds-restored k = rw (holds-frame, holds-entries, holds-reads .count-is) (undone-made B F L f h (length h - k) (H .bytes) (H .first) (H .valid))
+    holds-restored k = rw (holds-frame, holds-entries, holds-reads .count-is) (undone-made B F L f h (length h - k) (H .first) (H .valid))
 
     pub restored-length : (k : ℕ) → length (restored B F b k) ≡ length f
     restored-length k = rw (holds-restored k) (frame-same B F L f (drop (length h - k) h) (H .first) (valid-drop B F f h (length h - k) (H .valid)))

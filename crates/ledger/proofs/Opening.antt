@@ -54,8 +54,7 @@ module _ (B : FrameBook) (F : Format) where
   open-holds L f b y e = record {
     rest = drop (16 + length f) b;
     is = open-whole f b e;
-    bytes = y;
-    first = open-exactly f b .0 e .0;
+    first = record { bytes = y; judged = open-exactly f b .0 e .0 };
     valid = valid-none B F f;
     limit = L .format .limit-none;
   }

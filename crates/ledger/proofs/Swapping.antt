@@ -7,13 +7,13 @@ use mathlib.Core.List.{List, _∷_, map}
 use lib.ListN.{length}
 use Rattle.format.specs.Words.{Bytes}
 use Rattle.format.specs.Answers.{accepted}
-use Rattle.ledger.specs.Frames.{Spot, FrameBook, Settable}
+use Rattle.ledger.specs.Frames.{Spot, FrameBook, Accepted, Settable}
 use Rattle.ledger.specs.Formats.{Correction, Format, Lawful, size}
 use Rattle.ledger.specs.Records.{frameIn, entriesIn}
 use Rattle.ledger.specs.Calls.{entryFor, restored, editAnswer, editWritten, editExit}
 use Rattle.ledger.specs.Chains.{Allowed}
 use Rattle.ledger.specs.Histories.{correctionOf}
-use Rattle.ledger.proofs.Edits.{frameOf, entriesMade, Legal, settable, frame-judged}
+use Rattle.ledger.proofs.Edits.{frameOf, entriesMade, Legal, settable, frame-accepted}
 use Rattle.ledger.proofs.Holding.{Holds, holds-frame}
 use Rattle.ledger.proofs.Editing.{edit-judged, edit-exactly, edit-legal, legal-edit, edit-room, edit-holds, edit-rest, exit-written}
 use Rattle.ledger.proofs.Backward.{accepted-holds}
@@ -38,9 +38,9 @@ module _ (B : FrameBook) (F : Format) (L : Lawful B F) where
     g : List ℕ
     g = frameOf B f h
 
-    judged : B .judge g ≡ accepted tt
+    judged : Accepted B g
     unfolding g
-    judged = frame-judged B F L f h (H .first) (H .valid)
+    judged = frame-accepted B F L f h (H .first) (H .valid)
 
     H₁ : Holds B F f (c ∷ h) (editWritten B F b c)
     H₁ = edit-holds B F L f h b H c a

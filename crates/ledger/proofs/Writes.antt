@@ -7,7 +7,7 @@ use mathlib.Core.List.{List, [], _∷_, _++_, append-assoc}
 use native.Mathlib.Omega.{arith}
 use lib.ListN.{length, getD, drop, length-append}
 use lib.Seq.{sets, length-sets, drop-at}
-use Rattle.format.specs.Words.{bytes}
+use Rattle.format.specs.Words.{Bytes, bytes}
 use Rattle.format.specs.Answers.{accepted, refused, Done, leaves}
 use Rattle.ledger.specs.Frames.{FrameBook}
 use Rattle.ledger.specs.Formats.{Correction, Format, Lawful, size}
@@ -15,7 +15,7 @@ use Rattle.ledger.specs.Records.{header, lengthIn, countIn, totalIn, fra
 use Rattle.ledger.specs.Calls.{entryFor, setWord, openAnswer, openExit, editAnswer, editWritten, editExit, restored, restoreAnswer, restoreExit}
 use Rattle.ledger.specs.Chains.{Header, Allowed}
 use Rattle.ledger.proofs.Stores.{sets-outside, sets-inside}
-use Rattle.ledger.proofs.Codecs.{entry-length, header-length}
+use Rattle.ledger.proofs.Codecs.{bytes-part, entry-length, header-length}
 use Rattle.ledger.proofs.Headers.{header-words, frame-length}
 use Rattle.ledger.proofs.Judging.{verdict-parts}
 use Rattle.ledger.proofs.Opening.{open-whole}
@@ -66,7 +66,7 @@ module _ (B : FrameBook) (F : Format) where
       ap (drop (16 + length f)) (open-whole B F f b e ∙ sym (append-assoc hd f (drop (16 + length f) b))) ∙ drop-at (hd ++ f) (drop (16 + length f) b) (16 + length f) l
 
 module _ (B : FrameBook) (F : Format) (L : Lawful B F) where
-  module _ (b : List ℕ) (c : Correction) (e : editAnswer B F b c ≡ accepted tt) where
+  module _ (b : List ℕ) (c : Correction) (y : Bytes b) (e : editAnswer B F b c ≡ accepted tt) where
     judged : recordVerdict B F b ≡ accepted tt
     judged = edit-judged B F b c e
 
@@ -77,7 +77,7 @@ module _ (B : FrameBook) (F : Format) (L : Lawful B F) where
     allowed = edit-exactly B F b c judged .0 e
 
     put-long : length (B .put (frameIn b) (c .word) (c .value)) ≡ lengthIn b
-    put-long = L .book .put-length (frameIn b) (c .word) (c .value) (allowed .spot) (record { frame = verdict-parts B F b judged .1; stands = allowed .stands; legal = allowed .legal }) ∙ frame-length F b right
+    put-long = L .book .put-length (frameIn b) (c .word) (c .value) (allowed .spot) (record { frame = record { bytes = bytes-part b 16 (lengthIn b) y; judged = verdict-parts B F b judged .1 }; stands = allowed .stands; legal = allowed .legal }) ∙ frame-length F b right
 
     entry-long : length (entryBytes F (entryFor B (frameIn b) c)) ≡ size F
     entry-long = entry-length F (L .format) (entryFor B (frameIn b) c) (allowed .good)
