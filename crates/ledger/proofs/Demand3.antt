@@ -55,6 +55,9 @@ module _ (B : FrameBook) (F : Format) (L : Lawful B F) where
   pub too-short : (f buf : List ℕ) → B .judge f ≡ accepted tt → length buf < 16 + length f → openAnswer B F f buf ≡ refused 12 0
   too-short f buf = opening.open-no-room B F f buf
 
+  pub refused-opening : (f buf : List ℕ) (n p : ℕ) → openAnswer B F f buf ≡ refused n p → openExit B F f buf ≡ buf
+  refused-opening f buf n p = writes.open-found B F f buf n p
+
   -- > "and an edit only for a listed reason;"
   -- on an accepted record it is accepted exactly where no listed reason forbids it (specs/Chains.antt, `Allowed`); and any refusal is that of the
   -- first of the tests, in document 01's order (specs/Calls.antt, `editTests`), that refuses

@@ -18,3 +18,5 @@ pub mod Refusals
 pub mod Earlier
 pub mod Swapping
 pub mod Demand3
+pub mod Walking
+pub mod Figures

@@ -9,7 +9,7 @@ use mathlib.Core.List.{List, [], _∷_}
 use native.Mathlib.Omega.{arith}
 use lib.ListN.{length}
 use lib.Dec.{leb, eqb}
-use Rattle.format.specs.Words.{pick}
+use Rattle.format.specs.Words.{Bytes, pick}
 use Rattle.format.specs.Answers.{accepted, refused, Done, andThen, need, firstOf}
 use Rattle.ledger.specs.Tests.{Plain}
 use Rattle.ledger.specs.Frames.{FrameBook}
@@ -17,6 +17,7 @@ use Rattle.ledger.specs.Formats.{Entry, Correction, Format, size}
 use Rattle.ledger.specs.Records.{lengthIn, countIn, totalIn, frameIn, numbered, entriesIn, length-entries, headerRight, signed, atSpot, before, historyVerdict, history-none, recordVerdict}
 use Rattle.ledger.specs.Calls.{Summary, entryFor, newValue, recordAnswer, entryAnswer, openAnswer, editTests, editAnswer, restoreAnswer}
 use Rattle.ledger.proofs.Answering.{need-refuses, not-both}
+use Rattle.ledger.proofs.Codecs.{bytes-part}
 use Rattle.ledger.proofs.Judging.{step-refused}
 
 -- a refusal that is one of some answers'
@@ -96,22 +97,22 @@ module _ (B : FrameBook) (F : Format) where
       go (refused m r) t q = inl (cc)
 
   -- ---- the closed lists of numbers, where the book refuses by 1 to 11 and the format by a number of its own
-  module _ (own : (f : List ℕ) (n p : ℕ) → B .judge f ≡ refused n p → (1 ≤ n) × (n ≤ 11)) where
-    pub record-numbers : (b : List ℕ) (n p : ℕ) → recordVerdict B F b ≡ refused n p → ((1 ≤ n) × (n ≤ 11)) ⊎ ((20 ≤ n) × (n ≤ 21))
-    record-numbers b n p e =
+  module _ (own : (f : List ℕ) (n p : ℕ) → Bytes f → B .judge f ≡ refused n p → (1 ≤ n) × (n ≤ 11)) where
+    pub record-numbers : (b : List ℕ) (n p : ℕ) → Bytes b → recordVerdict B F b ≡ refused n p → ((1 ≤ n) × (n ≤ 11)) ⊎ ((20 ≤ n) × (n ≤ 21))
+    record-numbers b n p y e =
         ⊎-elim (λ w. let q = w .0 in inr (omega arith, omega arith))
-        (⊎-elim (λ w. inl (own (frameIn b) n p w)) (λ w. let q = w .0 in inr (omega arith, omega arith)))
+        (⊎-elim (λ w. inl (own (frameIn b) n p (bytes-part b 16 (lengthIn b) y) w)) (λ w. let q = w .0 in inr (omega arith, omega arith)))
         (record-refusals b n p e)
 
-    pub open-numbers : (f b : List ℕ) (n p : ℕ) → openAnswer B F f b ≡ refused n p → (1 ≤ n) × (n ≤ 12)
-    open-numbers f b n p e = ⊎-elim (λ w. let q = own f n p w in (omega arith, omega arith)) (λ w. let q = w .0 in (omega arith, omega arith)) (open-refusals f b n p e)
+    pub open-numbers : (f b : List ℕ) (n p : ℕ) → Bytes f → openAnswer B F f b ≡ refused n p → (1 ≤ n) × (n ≤ 12)
+    open-numbers f b n p y e = ⊎-elim (λ w. let q = own f n p y w in (omega arith, omega arith)) (λ w. let q = w .0 in (omega arith, omega arith)) (open-refusals f b n p e)
 
     -- 1 to 12, 20 to 25, or the format's own
-    pub edit-numbers : (b : List ℕ) (c : Correction) (n p : ℕ) → editAnswer B F b c ≡ refused n p → (((1 ≤ n) × (n ≤ 12)) ⊎ ((20 ≤ n) × (n ≤ 25))) ⊎ (F .asked (c .extra) ≡ refused n p)
-    edit-numbers b c n p e =
+    pub edit-numbers : (b : List ℕ) (c : Correction) (n p : ℕ) → Bytes b → editAnswer B F b c ≡ refused n p → (((1 ≤ n) × (n ≤ 12)) ⊎ ((20 ≤ n) × (n ≤ 25))) ⊎ (F .asked (c .extra) ≡ refused n p)
+    edit-numbers b c n p y e =
         let high : (m : ℕ) → 22 ≤ m → m ≤ 25 → Plain m n p → (((1 ≤ n) × (n ≤ 12)) ⊎ ((20 ≤ n) × (n ≤ 25))) ⊎ (F .asked (c .extra) ≡ refused n p) = λ m h k w. let q : n ≡ m = w .0 in inl (inr (omega arith, omega arith)) in
         ⊎-elim
-        (λ w. inl (⊎-map (λ q. (q .0, let h = q .1 in omega arith)) (λ q. (q .0, let h = q .1 in omega arith)) (record-numbers b n p w)))
+        (λ w. inl (⊎-map (λ q. (q .0, let h = q .1 in omega arith)) (λ q. (q .0, let h = q .1 in omega arith)) (record-numbers b n p y w)))
         (⊎-elim inr
         (⊎-elim (high 22 (omega arith) (omega arith))
         (⊎-elim (high 23 (omega arith) (omega arith))
@@ -120,9 +121,12 @@ module _ (B : FrameBook) (F : Format) where
         (λ w. let q = w .0 in inl (inl (omega arith, omega arith))))))))
         (edit-refusals b c n p e)
 
-    pub restore-numbers : (b : List ℕ) (k : ℕ) (out : List ℕ) (n p : ℕ) → restoreAnswer B F b k out ≡ refused n p → ((1 ≤ n) × (n ≤ 12)) ⊎ (((20 ≤ n) × (n ≤ 21)) ⊎ (n ≡ 26))
-    restore-numbers b k out n p e =
+    pub restore-numbers : (b : List ℕ) (k : ℕ) (out : List ℕ) (n p : ℕ) → Bytes b → restoreAnswer B F b k out ≡ refused n p → ((1 ≤ n) × (n ≤ 12)) ⊎ (((20 ≤ n) × (n ≤ 21)) ⊎ (n ≡ 26))
+    restore-numbers b k out n p y e =
         ⊎-elim
-        (λ w. ⊎-map (λ q. (q .0, let h = q .1 in omega arith)) inl (record-numbers b n p w))
+        (λ w. ⊎-map (λ q. (q .0, let h = q .1 in omega arith)) inl (record-numbers b n p y w))
         (⊎-elim (λ w. inr (inr (w .0))) (λ w. let q = w .0 in inl (omega arith, omega arith)))
         (restore-refusals b k out n p e)
+
+    pub entry-numbers : (b : List ℕ) (j n p : ℕ) → Bytes b → entryAnswer B F b j ≡ refused n p → ((1 ≤ n) × (n ≤ 11)) ⊎ (((20 ≤ n) × (n ≤ 21)) ⊎ (n ≡ 26))
+    entry-numbers b j n p y e = ⊎-elim (λ w. ⊎-map (λ q. q) inl (record-numbers b n p y w)) (λ w. inr (inr (w .0))) (entry-refusals b j n p e)
