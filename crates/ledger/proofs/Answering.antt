@@ -67,7 +67,8 @@ refused-first (accepted u ∷ os) n p e =
     record { at = suc (r .at); refuses = r .refuses; earlier = λ j. elim j [ zero ↦ λ h. refl | suc i ↦ λ h. r .earlier i (let k : suc i < suc (r .at) = h in omega arith) ] }
 refused-first (refused m q ∷ os) n p e = record { at = 0; refuses = e; earlier = λ j h. absurd (omega arith) }
 
-pub first-refused : (os : List Done) (n p i : ℕ) → getD os i (accepted tt) ≡ refused n p → ((j : ℕ) → j < i → getD os j (accepted tt) ≡ accepted tt) → firstOf os ≡ refused n p
+pub first-refused : (os : List Done) (n p i : ℕ) → getD os i (accepted tt) ≡ refused n p → ((j : ℕ) → j < i → getD os j (accepted tt) ≡ accepted tt)
+    → firstOf os ≡ refused n p
 unfolding firstOf
 first-refused [] n p i r h = r
 first-refused (accepted u ∷ os) n p zero r h = let z : accepted u ≡ refused n p = r in let y : _≡_ {A = ℕ} 0 1 = cc in absurd (omega arith)

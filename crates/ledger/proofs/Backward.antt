@@ -118,7 +118,8 @@ module _ (B : FrameBook) (F : Format) (L : Lawful B F) where
   unfolding entriesMade
   older-limit f c h m = L .format .limit-older (entryFor B (frameOf B f h) c) (entriesMade B f h) m
 
-  entries-cons : (f : List ℕ) (c : Correction) (h : List Correction) → entriesBytes F (entriesMade B f (c ∷ h)) ≡ entriesBytes F (entriesMade B f h) ++ entryBytes F (entryFor B (frameOf B f h) c)
+  entries-cons : (f : List ℕ) (c : Correction) (h : List Correction)
+      → entriesBytes F (entriesMade B f (c ∷ h)) ≡ entriesBytes F (entriesMade B f h) ++ entryBytes F (entryFor B (frameOf B f h) c)
   unfolding entriesMade entriesBytes
   entries-cons f c h = refl
 
@@ -143,7 +144,11 @@ module _ (B : FrameBook) (F : Format) (L : Lawful B F) where
       let D : editAnswer B F b₂ c ≡ accepted tt = legal-edit B F L f h b₂ H c l m lr in
       let a = edit-exactly B F b₂ c (holds-judged B F L f h b₂ H) .0 D in
       record {
-        bytes = run-append B F b (oldestFirst h) (c ∷ []) ∙ run-one b₂ c ∙ exit-written B F b₂ c D ∙ rw (edit-rest B F L f h b₂ H c a, drop-at x r (size F) lx) at (edit-holds B F L f h b₂ H c a .is);
+        bytes =
+            run-append B F b (oldestFirst h) (c ∷ [])
+            ∙ run-one b₂ c
+            ∙ exit-written B F b₂ c D
+            ∙ rw (edit-rest B F L f h b₂ H c a, drop-at x r (size F) lx) at (edit-holds B F L f h b₂ H c a .is);
         all = made-append B F b (oldestFirst h) (c ∷ []) ∙ rw (R .all) (ap (λ (d : List Correction). oldestFirst h ++ d) (made-one b₂ c D));
       }
 

@@ -34,7 +34,7 @@ high : (x y : ℕ) → x < 256 → (x + 256 * y) / 256 ≡ y
 high x y h = omega arith
 
 -- two bytes are their word's
-word-bytes : (b : List ℕ) (i : ℕ) → Bytes b → i + 2 ≤ length b → drop i b ≡ bytes ((getD b i 0 + 256 * getD b (i + 1) 0) ∷ []) ++ drop (i + 2) b
+pub word-bytes : (b : List ℕ) (i : ℕ) → Bytes b → i + 2 ≤ length b → drop i b ≡ bytes ((getD b i 0 + 256 * getD b (i + 1) 0) ∷ []) ++ drop (i + 2) b
 unfolding bytes
 word-bytes b i y h =
     let a : i < length b = omega arith in
@@ -117,7 +117,9 @@ pub header-bytes : (F : Format) (len n : ℕ) → LawfulFormat F → len ≤ 819
 unfolding header
 header-bytes F len n L l c =
     let ws = F .version ∷ 1 ∷ 16 ∷ len ∷ (16 + len) ∷ n ∷ (16 + len + size F * n) ∷ 0 ∷ [] in
-    bytes-below ws (eight-below (F .version) 1 16 len (16 + len) n (16 + len + size F * n) 0 (L .version-fits) (omega arith) (omega arith) (omega arith) (omega arith) (omega arith) (total-fits F len n (L .extra-small) l c) (omega arith))
+    let t = total-fits F len n (L .extra-small) l c in
+    bytes-below ws
+    (eight-below (F .version) 1 16 len (16 + len) n (16 + len + size F * n) 0 (L .version-fits) (omega arith) (omega arith) (omega arith) (omega arith) (omega arith) t (omega arith))
 
 -- ---- one entry
 long-there : (n : ℕ) → n % 65536 % 256 + 256 * (n % 65536 / 256) + 65536 * (n / 65536 % 256 + 256 * (n / 65536 / 256)) ≡ n
@@ -147,13 +149,16 @@ unfolding bytes
 first-eight s y h = ap (take 16) (eight-words s y h)
 
 -- T24: and its bytes are those it was read from
-pub entry-back : (F : Format) → LawfulFormat F → (s : List ℕ) → Bytes s → size F ≤ length s → F .good (F .read (drop 16 s)) ≡ true → entryBytes F (entryOf F s) ≡ take (size F) s
+pub entry-back : (F : Format) → LawfulFormat F → (s : List ℕ) → Bytes s → size F ≤ length s → F .good (F .read (drop 16 s)) ≡ true
+    → entryBytes F (entryOf F s) ≡ take (size F) s
 unfolding entryBytes entryOf
 entry-back F L s y h g =
     let l : F .extra ≤ length (drop 16 s) = rw (length-drop 16 s) (omega arith) in
     let w = L .written-read (drop 16 s) (bytes-drop s 16 y) l g in
     let e : take 16 s ≡ bytes (eight s) = first-eight s y (omega arith) in
-    rw (long-low (wordAt s 2) (wordAt s 3) (word-below s y 2), long-high (wordAt s 2) (wordAt s 3) (word-below s y 2), long-low (wordAt s 4) (wordAt s 5) (word-below s y 4), long-high (wordAt s 4) (wordAt s 5) (word-below s y 4), w)
+    let w₂ = word-below s y 2 in
+    let w₄ = word-below s y 4 in
+    rw (long-low (wordAt s 2) (wordAt s 3) w₂, long-high (wordAt s 2) (wordAt s 3) w₂, long-low (wordAt s 4) (wordAt s 5) w₄, long-high (wordAt s 4) (wordAt s 5) w₄, w)
     (sym (take-add 16 (F .extra) s ∙ ap (λ (r : List ℕ). r ++ take (F .extra) (drop 16 s)) e))
 
 pub entry-length : (F : Format) → LawfulFormat F → (e : Entry) → F .good (e .extra) ≡ true → length (entryBytes F e) ≡ size F
@@ -180,7 +185,11 @@ pub entry-bytes : (F : Format) → LawfulFormat F → (e : Entry) → Small F e 
 unfolding entryBytes
 entry-bytes F L e s =
     let ws = (e .word ∷ e .kind ∷ []) ++ longWords (e .old) ++ longWords (e .new) ++ (e .operator ∷ e .reason ∷ []) in
-    bytes-join (bytes ws) (F .written (e .extra)) (bytes-below ws (eight-below _ _ _ _ _ _ _ _ (s .word) (s .kind) (low-half (e .old)) (high-half (e .old) (s .old)) (low-half (e .new)) (high-half (e .new) (s .new)) (s .operator) (s .reason))) (L .written-bytes (e .extra) (s .good))
+    let o = high-half (e .old) (s .old) in
+    let n = high-half (e .new) (s .new) in
+    bytes-join (bytes ws) (F .written (e .extra))
+    (bytes-below ws (eight-below _ _ _ _ _ _ _ _ (s .word) (s .kind) (low-half (e .old)) o (low-half (e .new)) n (s .operator) (s .reason)))
+    (L .written-bytes (e .extra) (s .good))
 
 -- ---- entries, newest first; in a record they stand oldest first
 unfoldable pub entriesBytes : Format → List Entry → List ℕ
@@ -230,4 +239,6 @@ entries-back F L b (suc n) y r g =
     let s = drop (h + size F * n) b in
     let l : size F ≤ length s = rw (length-drop (h + size F * n) b) (omega arith) in
     let g₀ : F .good (entryOf F s .extra) ≡ true = rw (numbered-suc F b n) at (g .0) in
-    rw (numbered-suc F b n, entries-back F L b n y (omega arith) (g .1), entry-back F L s (bytes-drop b (h + size F * n) y) l (good-read F s g₀), m, take-add (size F * n) (size F) (drop h b), drop-drop (size F * n) h b)
+    let older = entries-back F L b n y (omega arith) (g .1) in
+    let newest = entry-back F L s (bytes-drop b (h + size F * n) y) l (good-read F s g₀) in
+    rw (numbered-suc F b n, older, newest, m, take-add (size F * n) (size F) (drop h b), drop-drop (size F * n) h b)

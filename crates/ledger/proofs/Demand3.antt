@@ -38,7 +38,8 @@ module _ (B : FrameBook) (F : Format) (L : Lawful B F) where
 
   -- > "then make any sequence of edit calls on it, some refused, with nothing else writing to it."
   -- the record is accepted after any of them; a refused call leaves it as it was; and the bytes beyond it are the caller's own
-  pub after-any-calls : (f buf : List ℕ) → Bytes f → openAnswer B F f buf ≡ accepted tt → (cs : List Correction) → recordVerdict B F (run B F (openExit B F f buf) cs) ≡ accepted tt
+  pub after-any-calls : (f buf : List ℕ) → Bytes f → openAnswer B F f buf ≡ accepted tt → (cs : List Correction)
+      → recordVerdict B F (run B F (openExit B F f buf) cs) ≡ accepted tt
   after-any-calls f buf y e cs = forward.forward-accepted B F L f buf y e cs
 
   pub refused-leaves : (b : List ℕ) (c : Correction) (n p : ℕ) → editAnswer B F b c ≡ refused n p → editExit B F b c ≡ b
@@ -96,7 +97,8 @@ module _ (B : FrameBook) (F : Format) (L : Lawful B F) where
   pub a-point-for-every-k : (b : List ℕ) (cs : List Correction) (k : ℕ) → k ≤ length (made B F b cs) → Point B F b cs k
   a-point-for-every-k b cs k = forward.point B F b cs k
 
-  pub restores-what-stood : (f buf : List ℕ) → Bytes f → openAnswer B F f buf ≡ accepted tt → (earlier later : List Correction) (out : List ℕ) → length f ≤ length out
+  pub restores-what-stood : (f buf : List ℕ) → Bytes f → openAnswer B F f buf ≡ accepted tt → (earlier later : List Correction) (out : List ℕ)
+      → length f ≤ length out
       → (restoreAnswer B F (run B F (openExit B F f buf) (earlier ++ later)) (length (made B F (openExit B F f buf) earlier)) out ≡ accepted tt)
       × (restoreExit B F (run B F (openExit B F f buf) (earlier ++ later)) (length (made B F (openExit B F f buf) earlier)) out
       ≡ frameIn (run B F (openExit B F f buf) earlier) ++ drop (length f) out)
@@ -137,7 +139,8 @@ module _ (B : FrameBook) (F : Format) (L : Lawful B F) where
   history-in-order f buf y e cs = forward.forward-entries B F L f buf y e cs
 
   -- and the entry question tells them by their numbers, from 1
-  pub entry-told : (b : List ℕ) (j : ℕ) (d : Entry) → recordVerdict B F b ≡ accepted tt → j < countIn b → entryAnswer B F b (suc j) ≡ accepted (getD (oldestFirst (entriesIn F b)) j d)
+  pub entry-told : (b : List ℕ) (j : ℕ) (d : Entry) → recordVerdict B F b ≡ accepted tt → j < countIn b
+      → entryAnswer B F b (suc j) ≡ accepted (getD (oldestFirst (entriesIn F b)) j d)
   entry-told b j d v h = restoring.entry-tells B F b j d v h
 
   -- > "And a record is accepted exactly when some such sequence makes its bytes."

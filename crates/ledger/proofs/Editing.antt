@@ -108,7 +108,8 @@ module _ (B : FrameBook) (F : Format) (L : Lawful B F) where
     }
 
     -- the other way round: what may be made on the frame is allowed, if there is room for it
-    pub legal-edit : (c : Correction) → Legal B F (frameOf B f h) c → F .limit (entriesMade B f (c ∷ h)) ≡ true → size F ≤ length (H .rest) → editAnswer B F b c ≡ accepted tt
+    pub legal-edit : (c : Correction) → Legal B F (frameOf B f h) c → F .limit (entriesMade B f (c ∷ h)) ≡ true → size F ≤ length (H .rest)
+        → editAnswer B F b c ≡ accepted tt
     unfolding entriesMade
     legal-edit c l m r = allowed-edit B F b c (holds-judged B F L f h b H) (record {
       asked = L .format .asked-suits (c .extra) (l .spot) (l .good) (l .suits);

@@ -156,7 +156,8 @@ module _ (B : FrameBook) (F : Format) (L : Lawful B F) where
       let l = valid-newest B F f c h v in
       history-fits B F (B .put g (c .word) (c .value)) (entryFor B g c) (entriesMade B f h) (right-fits B F _ _ (edited-fits g c ag l)) ∙ rw (edited-undone g c ag l) (history-made f h a o)
 
-  pub undone-made : (f : List ℕ) (h : List Correction) (m : ℕ) → Accepted B f → Valid B F f h → undone B (frameOf B f h) (take m (entriesMade B f h)) ≡ frameOf B f (drop m h)
+  pub undone-made : (f : List ℕ) (h : List Correction) (m : ℕ) → Accepted B f → Valid B F f h
+      → undone B (frameOf B f h) (take m (entriesMade B f h)) ≡ frameOf B f (drop m h)
   unfolding frameOf entriesMade undone
   undone-made f h zero a v = refl
   undone-made f [] (suc m) a v = refl

@@ -46,7 +46,8 @@ module _ (B : FrameBook) (F : Format) (L : Lawful B F) where
       }
   edited-stands f h own b c (refused n p) q S = S
 
-  pub call-stands : (f : List ℕ) (h : List Correction) (own b : List ℕ) (c : Correction) → Stands f h own b → Stands f (keep (editAnswer B F b c) c h) own (editExit B F b c)
+  pub call-stands : (f : List ℕ) (h : List Correction) (own b : List ℕ) (c : Correction) → Stands f h own b
+      → Stands f (keep (editAnswer B F b c) c h) own (editExit B F b c)
   unfolding editExit
   call-stands f h own b c S = edited-stands f h own b c (editAnswer B F b c) refl S
 
@@ -112,17 +113,20 @@ module _ (B : FrameBook) (F : Format) (L : Lawful B F) where
         frame-order B f (drop (length edits - k) edits) ∙ ap (frameAfter B f) (oldest-drop edits (length edits - k) (omega arith) ∙ rw (m, in-order))
 
     pub forward-restores : (k : ℕ) (out : List ℕ) → k ≤ length (made B F (openExit B F f buf) cs) → length f ≤ length out
-        → (restoreAnswer B F (run B F (openExit B F f buf) cs) k out ≡ accepted tt) × (restoreExit B F (run B F (openExit B F f buf) cs) k out ≡ frameAfter B f (take k (made B F (openExit B F f buf) cs)) ++ drop (length f) out)
+        → (restoreAnswer B F (run B F (openExit B F f buf) cs) k out ≡ accepted tt)
+        × (restoreExit B F (run B F (openExit B F f buf) cs) k out ≡ frameAfter B f (take k (made B F (openExit B F f buf) cs)) ++ drop (length f) out)
     unfolding last
     forward-restores k out h room =
         let m : k ≤ length edits = rw as-many h in
         (holds-restores B F L f edits last (stands .holds) k out m room, holds-exit B F L f edits last (stands .holds) k out m room ∙ ap (λ (g : List ℕ). g ++ drop (length f) out) (frame-k k m))
 
-    pub forward-no-entry : (k : ℕ) (out : List ℕ) → length (made B F (openExit B F f buf) cs) < k → restoreAnswer B F (run B F (openExit B F f buf) cs) k out ≡ refused 26 0
+    pub forward-no-entry : (k : ℕ) (out : List ℕ) → length (made B F (openExit B F f buf) cs) < k
+        → restoreAnswer B F (run B F (openExit B F f buf) cs) k out ≡ refused 26 0
     unfolding last
     forward-no-entry k out h = holds-no-entry B F L f edits last (stands .holds) k out (rw as-many h)
 
-    pub forward-no-room : (k : ℕ) (out : List ℕ) → k ≤ length (made B F (openExit B F f buf) cs) → length out < length f → restoreAnswer B F (run B F (openExit B F f buf) cs) k out ≡ refused 12 0
+    pub forward-no-room : (k : ℕ) (out : List ℕ) → k ≤ length (made B F (openExit B F f buf) cs) → length out < length f
+        → restoreAnswer B F (run B F (openExit B F f buf) cs) k out ≡ refused 12 0
     unfolding last
     forward-no-room k out h room = holds-no-room B F L f edits last (stands .holds) k out (rw as-many h) room
 

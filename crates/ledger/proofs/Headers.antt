@@ -34,7 +34,8 @@ module _ (F : Format) where
   pub header-right : (b : List ℕ) → Header F b → headerRight F b ≡ true
   unfolding headerRight all
   header-right b h =
-      rw (le-leb 16 (length b) (h .long), eq-eqb _ _ (h .version), eq-eqb _ _ (h .one), eq-eqb _ _ (h .sixteen), eq-eqb _ _ (h .history), eq-eqb _ _ (h .total), eq-eqb _ _ (h .nought), le-leb _ _ (h .room), h .limit)
+      rw (le-leb 16 (length b) (h .long), eq-eqb _ _ (h .version), eq-eqb _ _ (h .one), eq-eqb _ _ (h .sixteen), eq-eqb _ _ (h .history))
+      (rw (eq-eqb _ _ (h .total), eq-eqb _ _ (h .nought), le-leb _ _ (h .room), h .limit))
 
   pub frame-length : (b : List ℕ) → Header F b → length (frameIn b) ≡ lengthIn b
   frame-length b h = length-take-le (lengthIn b) (drop 16 b) (rw (length-drop 16 b) (let r = h .room in omega arith))

@@ -137,7 +137,8 @@ module _ (B : FrameBook) (F : Format) (L : Lawful B F) where
     unfolding restoreAnswer firstOf
     holds-no-room k out le lt = rw (holds-judged, holds-reads .count-is, holds-reads .length-is, le-leb k (length h) le, lt-leb (length f) (length out) lt)
 
-    pub holds-exit : (k : ℕ) (out : List ℕ) → k ≤ length h → length f ≤ length out → restoreExit B F b k out ≡ frameOf B f (drop (length h - k) h) ++ drop (length f) out
+    pub holds-exit : (k : ℕ) (out : List ℕ) → k ≤ length h → length f ≤ length out
+        → restoreExit B F b k out ≡ frameOf B f (drop (length h - k) h) ++ drop (length f) out
     unfolding restoreExit
     holds-exit k out le room =
         let g = restored B F b k in

@@ -73,7 +73,8 @@ module _ (B : FrameBook) (F : Format) where
   undone-take f (e ∷ es) zero d h = refl
   undone-take f (e ∷ es) (suc m) d h = undone-take (before B f e) es m d (omega arith)
 
-  pub step-accepted : (f : List ℕ) (e : Entry) (es : List Entry) → historyVerdict B F f (e ∷ es) ≡ accepted tt → (fits B F f e ≡ true) × (historyVerdict B F (before B f e) es ≡ accepted tt)
+  pub step-accepted : (f : List ℕ) (e : Entry) (es : List Entry) → historyVerdict B F f (e ∷ es) ≡ accepted tt
+      → (fits B F f e ≡ true) × (historyVerdict B F (before B f e) es ≡ accepted tt)
   step-accepted f e es h = go (fits B F f e) refl
     where
       go : (t : Bool) → fits B F f e ≡ t → (fits B F f e ≡ true) × (historyVerdict B F (before B f e) es ≡ accepted tt)
@@ -88,13 +89,15 @@ module _ (B : FrameBook) (F : Format) where
       go true q = inr (q, sym (history-fits B F f e es q) ∙ h)
       go false q = let z = sym (history-unfit B F f e es q) ∙ h in inl (q, cc, cc)
 
-  each-fits : (f : List ℕ) (es : List Entry) (d : Entry) → historyVerdict B F f es ≡ accepted tt → (m : ℕ) → m < length es → fits B F (undone B f (take m es)) (getD es m d) ≡ true
+  each-fits : (f : List ℕ) (es : List Entry) (d : Entry) → historyVerdict B F f es ≡ accepted tt → (m : ℕ) → m < length es
+      → fits B F (undone B f (take m es)) (getD es m d) ≡ true
   unfolding undone
   each-fits f [] d h m l = absurd (omega arith)
   each-fits f (e ∷ es) d h zero l = step-accepted f e es h .0
   each-fits f (e ∷ es) d h (suc m) l = each-fits (before B f e) es d (step-accepted f e es h .1) m (omega arith)
 
-  all-fit : (f : List ℕ) (es : List Entry) (d : Entry) → ((m : ℕ) → m < length es → fits B F (undone B f (take m es)) (getD es m d) ≡ true) → historyVerdict B F f es ≡ accepted tt
+  all-fit : (f : List ℕ) (es : List Entry) (d : Entry) → ((m : ℕ) → m < length es → fits B F (undone B f (take m es)) (getD es m d) ≡ true)
+      → historyVerdict B F f es ≡ accepted tt
   unfolding undone
   all-fit f [] d h = history-none B F f
   all-fit f (e ∷ es) d h = history-fits B F f e es (h 0 (omega arith)) ∙ all-fit (before B f e) es d (λ m l. h (suc m) (omega arith))
@@ -161,7 +164,8 @@ module _ (B : FrameBook) (F : Format) where
       rw (k, ← e) (undone-take (frameIn b) (entriesIn F b) m d l)
 
   -- T26: the frames of a chain are the only ones
-  chain-down : (b : List ℕ) (low : ℕ) (f : ℕ → List ℕ) → Chain B F b low f → (m : ℕ) → m ≤ countIn b → low ≤ countIn b - m → f (countIn b - m) ≡ restored B F b (countIn b - m)
+  chain-down : (b : List ℕ) (low : ℕ) (f : ℕ → List ℕ) → Chain B F b low f → (m : ℕ) → m ≤ countIn b → low ≤ countIn b - m
+      → f (countIn b - m) ≡ restored B F b (countIn b - m)
   chain-down b low f C zero h l = let k : countIn b - 0 ≡ countIn b = omega arith in rw k (C .standing ∙ sym (restored-standing b))
   chain-down b low f C (suc m) h l =
       let c = countIn b in
@@ -205,11 +209,13 @@ module _ (B : FrameBook) (F : Format) where
       rw (e, ← r₂) (right-fits _ _ (C .fit j (omega arith) (omega arith)))
 
   -- ---- the record
-  pub verdict-parts : (b : List ℕ) → recordVerdict B F b ≡ accepted tt → (headerRight F b ≡ true) × (B .judge (frameIn b) ≡ accepted tt) × (historyVerdict B F (frameIn b) (entriesIn F b) ≡ accepted tt)
+  pub verdict-parts : (b : List ℕ) → recordVerdict B F b ≡ accepted tt
+      → (headerRight F b ≡ true) × (B .judge (frameIn b) ≡ accepted tt) × (historyVerdict B F (frameIn b) (entriesIn F b) ≡ accepted tt)
   unfolding recordVerdict
   verdict-parts b e = (need-holds _ 20 0 (first-at _ 0 e), first-at _ 1 e, first-at _ 2 e)
 
-  pub parts-verdict : (b : List ℕ) → headerRight F b ≡ true → B .judge (frameIn b) ≡ accepted tt → recordVerdict B F b ≡ historyVerdict B F (frameIn b) (entriesIn F b)
+  pub parts-verdict : (b : List ℕ) → headerRight F b ≡ true → B .judge (frameIn b) ≡ accepted tt
+      → recordVerdict B F b ≡ historyVerdict B F (frameIn b) (entriesIn F b)
   unfolding recordVerdict firstOf
   parts-verdict b h j = rw (h, j) (last (historyVerdict B F (frameIn b) (entriesIn F b)))
     where
@@ -236,7 +242,8 @@ module _ (B : FrameBook) (F : Format) where
   unfolding recordVerdict firstOf
   header-refused b h = go (headerRight F b) refl
     where
-      go : (t : Bool) → headerRight F b ≡ t → firstOf (need (headerRight F b) 20 0 ∷ B .judge (frameIn b) ∷ historyVerdict B F (frameIn b) (entriesIn F b) ∷ []) ≡ refused 20 0
+      go : (t : Bool) → headerRight F b ≡ t
+          → firstOf (need (headerRight F b) 20 0 ∷ B .judge (frameIn b) ∷ historyVerdict B F (frameIn b) (entriesIn F b) ∷ []) ≡ refused 20 0
       go true q = absurd (h (header-words F b q))
       go false q = rw q
 

@@ -75,7 +75,8 @@ module _ (B : FrameBook) (F : Format) where
       (among _ n p e)
 
   -- restoring: a record refusal, 26 or 12; the questions: a record refusal or 26
-  pub restore-refusals : (b : List ℕ) (k : ℕ) (out : List ℕ) (n p : ℕ) → restoreAnswer B F b k out ≡ refused n p → (recordVerdict B F b ≡ refused n p) ⊎ (Plain 26 n p ⊎ Plain 12 n p)
+  pub restore-refusals : (b : List ℕ) (k : ℕ) (out : List ℕ) (n p : ℕ) → restoreAnswer B F b k out ≡ refused n p
+      → (recordVerdict B F b ≡ refused n p) ⊎ (Plain 26 n p ⊎ Plain 12 n p)
   unfolding restoreAnswer
   restore-refusals b k out n p e = ⊎-map (λ w. w) (⊎-map (plain (leb k (countIn b)) 26 n p) (⊎-elim (plain (leb (lengthIn b) (length out)) 12 n p) (λ z. absurd z))) (among _ n p e)
 
@@ -108,9 +109,11 @@ module _ (B : FrameBook) (F : Format) where
     open-numbers f b n p y e = ⊎-elim (λ w. let q = own f n p y w in (omega arith, omega arith)) (λ w. let q = w .0 in (omega arith, omega arith)) (open-refusals f b n p e)
 
     -- 1 to 12, 20 to 25, or the format's own
-    pub edit-numbers : (b : List ℕ) (c : Correction) (n p : ℕ) → Bytes b → editAnswer B F b c ≡ refused n p → (((1 ≤ n) × (n ≤ 12)) ⊎ ((20 ≤ n) × (n ≤ 25))) ⊎ (F .asked (c .extra) ≡ refused n p)
+    pub edit-numbers : (b : List ℕ) (c : Correction) (n p : ℕ) → Bytes b → editAnswer B F b c ≡ refused n p
+        → (((1 ≤ n) × (n ≤ 12)) ⊎ ((20 ≤ n) × (n ≤ 25))) ⊎ (F .asked (c .extra) ≡ refused n p)
     edit-numbers b c n p y e =
-        let high : (m : ℕ) → 22 ≤ m → m ≤ 25 → Plain m n p → (((1 ≤ n) × (n ≤ 12)) ⊎ ((20 ≤ n) × (n ≤ 25))) ⊎ (F .asked (c .extra) ≡ refused n p) = λ m h k w. let q : n ≡ m = w .0 in inl (inr (omega arith, omega arith)) in
+        let high : (m : ℕ) → 22 ≤ m → m ≤ 25 → Plain m n p → (((1 ≤ n) × (n ≤ 12)) ⊎ ((20 ≤ n) × (n ≤ 25))) ⊎ (F .asked (c .extra) ≡ refused n p)
+        = λ m h k w. let q : n ≡ m = w .0 in inl (inr (omega arith, omega arith)) in
         ⊎-elim
         (λ w. inl (⊎-map (λ q. (q .0, let h = q .1 in omega arith)) (λ q. (q .0, let h = q .1 in omega arith)) (record-numbers b n p y w)))
         (⊎-elim inr
@@ -121,7 +124,8 @@ module _ (B : FrameBook) (F : Format) where
         (λ w. let q = w .0 in inl (inl (omega arith, omega arith))))))))
         (edit-refusals b c n p e)
 
-    pub restore-numbers : (b : List ℕ) (k : ℕ) (out : List ℕ) (n p : ℕ) → Bytes b → restoreAnswer B F b k out ≡ refused n p → ((1 ≤ n) × (n ≤ 12)) ⊎ (((20 ≤ n) × (n ≤ 21)) ⊎ (n ≡ 26))
+    pub restore-numbers : (b : List ℕ) (k : ℕ) (out : List ℕ) (n p : ℕ) → Bytes b → restoreAnswer B F b k out ≡ refused n p
+        → ((1 ≤ n) × (n ≤ 12)) ⊎ (((20 ≤ n) × (n ≤ 21)) ⊎ (n ≡ 26))
     restore-numbers b k out n p y e =
         ⊎-elim
         (λ w. ⊎-map (λ q. (q .0, let h = q .1 in omega arith)) inl (record-numbers b n p y w))

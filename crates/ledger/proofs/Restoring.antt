@@ -24,27 +24,32 @@ use Rattle.ledger.proofs.Backward.{accepted-holds}
 
 module _ (B : FrameBook) (F : Format) where
   -- ---- restoring
-  pub restore-parts : (b : List ℕ) (k : ℕ) (out : List ℕ) → restoreAnswer B F b k out ≡ accepted tt → (recordVerdict B F b ≡ accepted tt) × (k ≤ countIn b) × (lengthIn b ≤ length out)
+  pub restore-parts : (b : List ℕ) (k : ℕ) (out : List ℕ) → restoreAnswer B F b k out ≡ accepted tt
+      → (recordVerdict B F b ≡ accepted tt) × (k ≤ countIn b) × (lengthIn b ≤ length out)
   unfolding restoreAnswer
   restore-parts b k out e = (first-at _ 0 e, leb-true _ _ (need-holds _ 26 0 (first-at _ 1 e)), leb-true _ _ (need-holds _ 12 0 (first-at _ 2 e)))
 
-  parts-restore : (b : List ℕ) (k : ℕ) (out : List ℕ) → recordVerdict B F b ≡ accepted tt → k ≤ countIn b → lengthIn b ≤ length out → restoreAnswer B F b k out ≡ accepted tt
+  parts-restore : (b : List ℕ) (k : ℕ) (out : List ℕ) → recordVerdict B F b ≡ accepted tt → k ≤ countIn b → lengthIn b ≤ length out
+      → restoreAnswer B F b k out ≡ accepted tt
   unfolding restoreAnswer firstOf
   parts-restore b k out j h r = rw (j, le-leb k (countIn b) h, le-leb (lengthIn b) (length out) r)
 
-  pub restore-exactly : (b : List ℕ) (k : ℕ) (out : List ℕ) → recordVerdict B F b ≡ accepted tt → (restoreAnswer B F b k out ≡ accepted tt) ↔ ((k ≤ countIn b) × (lengthIn b ≤ length out))
+  pub restore-exactly : (b : List ℕ) (k : ℕ) (out : List ℕ) → recordVerdict B F b ≡ accepted tt
+      → (restoreAnswer B F b k out ≡ accepted tt) ↔ ((k ≤ countIn b) × (lengthIn b ≤ length out))
   restore-exactly b k out j = (λ e. let p = restore-parts b k out e in (p .1, p .2), λ w. parts-restore b k out j (w .0) (w .1))
 
   pub restore-no-entry : (b : List ℕ) (k : ℕ) (out : List ℕ) → recordVerdict B F b ≡ accepted tt → countIn b < k → restoreAnswer B F b k out ≡ refused 26 0
   unfolding restoreAnswer firstOf
   restore-no-entry b k out j h = rw (j, lt-leb k (countIn b) h)
 
-  pub restore-no-room : (b : List ℕ) (k : ℕ) (out : List ℕ) → recordVerdict B F b ≡ accepted tt → k ≤ countIn b → length out < lengthIn b → restoreAnswer B F b k out ≡ refused 12 0
+  pub restore-no-room : (b : List ℕ) (k : ℕ) (out : List ℕ) → recordVerdict B F b ≡ accepted tt → k ≤ countIn b → length out < lengthIn b
+      → restoreAnswer B F b k out ≡ refused 12 0
   unfolding restoreAnswer firstOf
   restore-no-room b k out j h r = rw (j, le-leb k (countIn b) h, lt-leb (lengthIn b) (length out) r)
 
   -- ---- questions
-  pub record-answers : (b : List ℕ) → recordVerdict B F b ≡ accepted tt → recordAnswer B F b ≡ accepted (record { length = lengthIn b; count = countIn b; total = totalIn F b })
+  pub record-answers : (b : List ℕ) → recordVerdict B F b ≡ accepted tt
+      → recordAnswer B F b ≡ accepted (record { length = lengthIn b; count = countIn b; total = totalIn F b })
   unfolding recordAnswer
   record-answers b j = rw j
 

@@ -28,10 +28,28 @@ module _ (B : FrameBook) (F : Format) (L : Lawful B F) where
     same-entry = rw same-spot
 
     legal-before : Legal B F (B .put g w v) d → Legal B F g d
-    legal-before l = record { spot = l .spot; stands = sym same-spot ∙ l .stands; suits = l .suits; legal = l .legal; changed = l .changed; operator = l .operator; reason = l .reason; good = l .good }
+    legal-before l = record {
+      spot = l .spot;
+      stands = sym same-spot ∙ l .stands;
+      suits = l .suits;
+      legal = l .legal;
+      changed = l .changed;
+      operator = l .operator;
+      reason = l .reason;
+      good = l .good;
+    }
 
     legal-after : Legal B F g d → Legal B F (B .put g w v) d
-    legal-after l = record { spot = l .spot; stands = same-spot ∙ l .stands; suits = l .suits; legal = l .legal; changed = l .changed; operator = l .operator; reason = l .reason; good = l .good }
+    legal-after l = record {
+      spot = l .spot;
+      stands = same-spot ∙ l .stands;
+      suits = l .suits;
+      legal = l .legal;
+      changed = l .changed;
+      operator = l .operator;
+      reason = l .reason;
+      good = l .good;
+    }
 
   module _ (f : List ℕ) (h : List Correction) (b : List ℕ) (H : Holds B F f h b) (c d : Correction) (n : d .word ≡ c .word → ⊥)
       (a : Allowed B F b c) (a₂ : Allowed B F (editWritten B F b c) d) where
@@ -101,8 +119,11 @@ module _ (B : FrameBook) (F : Format) (L : Lawful B F) where
         ∙ L .book .put-apart g (d .word) (d .value) (legal-d .spot) (c .word) (c .value) (legal-c .spot) set-d set-c n′
         ∙ sym (holds-frame B F L f (d ∷ c ∷ h) (editWritten B F (editWritten B F b c) d) (edit-holds B F L f (c ∷ h) (editWritten B F b c) H₁ d a₂))
 
-  pub swapped : (b : List ℕ) (c d : Correction) → Bytes b → editAnswer B F b c ≡ accepted tt → editAnswer B F (editExit B F b c) d ≡ accepted tt → (d .word ≡ c .word → ⊥)
-      → (editAnswer B F b d ≡ accepted tt) × (editAnswer B F (editExit B F b d) c ≡ accepted tt) × (frameIn (editExit B F (editExit B F b d) c) ≡ frameIn (editExit B F (editExit B F b c) d))
+  pub swapped : (b : List ℕ) (c d : Correction) → Bytes b → editAnswer B F b c ≡ accepted tt → editAnswer B F (editExit B F b c) d ≡ accepted tt
+      → (d .word ≡ c .word → ⊥)
+      → (editAnswer B F b d ≡ accepted tt)
+      × (editAnswer B F (editExit B F b d) c ≡ accepted tt)
+      × (frameIn (editExit B F (editExit B F b d) c) ≡ frameIn (editExit B F (editExit B F b c) d))
   swapped b c d y e e₂ n =
       let f = restored B F b 0 in
       let h = map correctionOf (entriesIn F b) in

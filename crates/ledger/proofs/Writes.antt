@@ -19,7 +19,8 @@ use Rattle.ledger.proofs.Codecs.{bytes-part, entry-length, header-lengt
 use Rattle.ledger.proofs.Headers.{header-words, frame-length}
 use Rattle.ledger.proofs.Judging.{verdict-parts}
 use Rattle.ledger.proofs.Opening.{open-whole}
-use Rattle.ledger.proofs.Editing.{edit-judged, edit-exactly, exit-written, exit-found}
+use Rattle.ledger.proofs.Editing.{edit-judged, exit-written, exit-found}
+use Rattle.ledger.proofs.Changing.{allowed, edit-settable}
 
 module _ (B : FrameBook) (F : Format) where
   -- ---- T33: a refused call leaves what it found
@@ -51,7 +52,10 @@ module _ (B : FrameBook) (F : Format) where
       let b₂ = setWord b₁ 5 (countIn b + 1) in
       let b₃ = setWord b₂ 6 (totalIn F b + size F) in
       same-length (editAnswer B F b c) b (sets b₃ (totalIn F b) (entryBytes F (entryFor B (frameIn b) c)))
-      (length-sets b₃ (totalIn F b) (entryBytes F (entryFor B (frameIn b) c)) ∙ length-sets b₂ 12 (bytes ((totalIn F b + size F) ∷ [])) ∙ length-sets b₁ 10 (bytes ((countIn b + 1) ∷ [])) ∙ length-sets b 16 g)
+      (length-sets b₃ (totalIn F b) (entryBytes F (entryFor B (frameIn b) c))
+      ∙ length-sets b₂ 12 (bytes ((totalIn F b + size F) ∷ []))
+      ∙ length-sets b₁ 10 (bytes ((countIn b + 1) ∷ []))
+      ∙ length-sets b 16 g)
 
   pub restore-length : (b : List ℕ) (k : ℕ) (out : List ℕ) → length (restoreExit B F b k out) ≡ length out
   unfolding restoreExit
@@ -73,14 +77,11 @@ module _ (B : FrameBook) (F : Format) (L : Lawful B F) where
     right : Header F b
     right = header-words F b (verdict-parts B F b judged .0)
 
-    allowed : Allowed B F b c
-    allowed = edit-exactly B F b c judged .0 e
-
     put-long : length (B .put (frameIn b) (c .word) (c .value)) ≡ lengthIn b
-    put-long = L .book .put-length (frameIn b) (c .word) (c .value) (allowed .spot) (record { frame = record { bytes = bytes-part b 16 (lengthIn b) y; judged = verdict-parts B F b judged .1 }; stands = allowed .stands; legal = allowed .legal }) ∙ frame-length F b right
+    put-long = L .book .put-length (frameIn b) (c .word) (c .value) (allowed B F L b c y e .spot) (edit-settable B F L b c y e) ∙ frame-length F b right
 
     entry-long : length (entryBytes F (entryFor B (frameIn b) c)) ≡ size F
-    entry-long = entry-length F (L .format) (entryFor B (frameIn b) c) (allowed .good)
+    entry-long = entry-length F (L .format) (entryFor B (frameIn b) c) (allowed B F L b c y e .good)
 
     two : (v : ℕ) → length (bytes (v ∷ [])) ≡ 2
     unfolding bytes

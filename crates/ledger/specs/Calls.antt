@@ -30,7 +30,15 @@ setWord b i v = sets b (2 * i) (bytes (v ∷ []))
 
 -- the entry that a correction of a frame makes
 abbrev pub entryFor : FrameBook → List ℕ → Correction → Entry
-entryFor B f c = record { word = c .word; kind = kindOf (B .spot f (c .word)); old = valueOf (B .spot f (c .word)); new = c .value; operator = c .operator; reason = c .reason; extra = c .extra }
+entryFor B f c = record {
+  word = c .word;
+  kind = kindOf (B .spot f (c .word));
+  old = valueOf (B .spot f (c .word));
+  new = c .value;
+  operator = c .operator;
+  reason = c .reason;
+  extra = c .extra;
+}
 
 -- the value asked for is legal for the item, and not the present one
 unfoldable pub newValue : FrameBook → Correction → Spot → Bool

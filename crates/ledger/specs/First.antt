@@ -8,9 +8,19 @@ use lib.Dec.{leb}
 use Rattle.format.specs.Answers.{accepted}
 use Rattle.ledger.specs.Formats.{Format}
 
+-- no content
 abbrev pub nothing : List ℕ → Bool
 nothing [] = true
 nothing (x ∷ xs) = false
 
 unfoldable pub first : Format
-first = record { version = 1; extra = 0; written = λ x. []; read = λ s. []; good = nothing; suits = λ x s. true; asked = λ x. accepted tt; limit = λ es. leb (length es) 512 }
+first = record {
+  version = 1;
+  extra = 0;
+  written = λ x. [];
+  read = λ s. [];
+  good = nothing;
+  suits = λ x s. true;
+  asked = λ x. accepted tt;
+  limit = λ es. leb (length es) 512;
+}

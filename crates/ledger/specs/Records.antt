@@ -36,7 +36,15 @@ entryBytes F e = bytes ((e .word ∷ e .kind ∷ []) ++ longWords (e .old) ++ lo
 
 -- the entry that a list of bytes begins with
 unfoldable pub entryOf : Format → List ℕ → Entry
-entryOf F s = record { word = wordAt s 0; kind = wordAt s 1; old = longAt s 2; new = longAt s 4; operator = wordAt s 6; reason = wordAt s 7; extra = F .read (drop 16 s) }
+entryOf F s = record {
+  word = wordAt s 0;
+  kind = wordAt s 1;
+  old = longAt s 2;
+  new = longAt s 4;
+  operator = wordAt s 6;
+  reason = wordAt s 7;
+  extra = F .read (drop 16 s);
+}
 
 -- entry j of a record, from 1 as the oldest
 unfoldable pub numbered : Format → List ℕ → ℕ → Entry
