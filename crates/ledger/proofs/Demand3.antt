@@ -1,10 +1,10 @@
 -- Demand 3 in the client's words, sentence by sentence, each a theorem. They hold for ANY book of frames and ANY format of entries that have the
 -- laws of specs/Frames.antt and specs/Formats.antt; document 01's format is `first`, shown lawful in FirstLaws.antt. What a name means stands in
--- specs/; how a theorem is proved, in the file it cites.
+-- specs/; how a theorem is proved, in the file it cites. Nothing else is assumed.
 --
 -- Everywhere: `Bytes x` says that x is a list of bytes, as every lent slice is. `openAnswer`, `editAnswer`, `restoreAnswer` are what the calls
--- answer; `openExit`, `editExit`, `restoreExit` are the whole of what they leave in the buffer they may write. `run b cs` is the buffer after the
--- edit calls cs on it, accepted or refused, and `made b cs` are the accepted ones among them, in order.
+-- answer; `openExit`, `editExit`, `restoreExit` are the whole of what they leave in the buffer they may write. `recordAfter f buf cs` is the buffer
+-- buf after f was opened in it and the edit calls cs were made, accepted or refused; `acceptedEdits f buf cs` are the accepted ones, in order.
 use Prim.Native.Nat.{ℕ, suc, _+_, _*_, _≤_, _<_}
 use mathlib.Core.Path.{_≡_}
 use mathlib.Core.Logic.{_↔_, _⊎_}
@@ -19,7 +19,7 @@ use Rattle.ledger.specs.Formats.{Entry, Correction, Format, Lawful, size
 use Rattle.ledger.specs.Records.{header, lengthIn, countIn, totalIn, frameIn, entryBytes, numbered, entriesIn, recordVerdict}
 use Rattle.ledger.specs.Calls.{entryFor, entryAnswer, openAnswer, openExit, editTests, editAnswer, editExit, restored, restoreAnswer, restoreExit}
 use Rattle.ledger.specs.Chains.{Header, Fits, Chain, Allowed}
-use Rattle.ledger.specs.Histories.{oldestFirst, correctionOf, frameAfter, entriesOf, run, made, Point, Sequence}
+use Rattle.ledger.specs.Histories.{oldestFirst, correctionOf, frameAfter, entriesOf, recordAfter, acceptedEdits, Point, Sequence}
 use Rattle.ledger.proofs.Opening as opening
 use Rattle.ledger.proofs.Editing as editing
 use Rattle.ledger.proofs.Changing as changing
@@ -38,16 +38,15 @@ module _ (B : FrameBook) (F : Format) (L : Lawful B F) where
 
   -- > "then make any sequence of edit calls on it, some refused, with nothing else writing to it."
   -- the record is accepted after any of them; a refused call leaves it as it was; and the bytes beyond it are the caller's own
-  pub after-any-calls : (f buf : List ℕ) → Bytes f → openAnswer B F f buf ≡ accepted tt → (cs : List Correction)
-      → recordVerdict B F (run B F (openExit B F f buf) cs) ≡ accepted tt
-  after-any-calls f buf y e cs = forward.forward-accepted B F L f buf y e cs
+  pub accepted-after : (f buf : List ℕ) → Bytes f → openAnswer B F f buf ≡ accepted tt → (cs : List Correction) → recordVerdict B F (recordAfter B F f buf cs) ≡ accepted tt
+  accepted-after f buf y e cs = forward.forward-accepted B F L f buf y e cs
 
-  pub refused-leaves : (b : List ℕ) (c : Correction) (n p : ℕ) → editAnswer B F b c ≡ refused n p → editExit B F b c ≡ b
-  refused-leaves b c n p = writes.edit-found B F b c n p
+  pub refused-edit : (b : List ℕ) (c : Correction) (n p : ℕ) → editAnswer B F b c ≡ refused n p → editExit B F b c ≡ b
+  refused-edit b c n p = writes.edit-found B F b c n p
 
-  pub beyond-is-the-callers : (f buf : List ℕ) → Bytes f → openAnswer B F f buf ≡ accepted tt → (cs : List Correction)
-      → drop (totalIn F (run B F (openExit B F f buf) cs)) (run B F (openExit B F f buf) cs) ≡ drop (totalIn F (run B F (openExit B F f buf) cs)) buf
-  beyond-is-the-callers f buf y e cs = forward.forward-rest B F L f buf y e cs
+  pub own-beyond : (f buf : List ℕ) → Bytes f → openAnswer B F f buf ≡ accepted tt → (cs : List Correction)
+      → drop (totalIn F (recordAfter B F f buf cs)) (recordAfter B F f buf cs) ≡ drop (totalIn F (recordAfter B F f buf cs)) buf
+  own-beyond f buf y e cs = forward.forward-rest B F L f buf y e cs
 
   -- > "An accepted frame is refused a record only where the buffer is too short,"
   pub opened-exactly : (f buf : List ℕ) → B .judge f ≡ accepted tt → (openAnswer B F f buf ≡ accepted tt) ↔ (16 + length f ≤ length buf)
@@ -70,16 +69,17 @@ module _ (B : FrameBook) (F : Format) (L : Lawful B F) where
 
   -- so it is a record refusal (20, a frame's own, 21), one that the format asks first, or 22, 23, 24, 25, 12 at place 0
   pub listed-reasons : (b : List ℕ) (c : Correction) (n p : ℕ) → editAnswer B F b c ≡ refused n p
-      → (recordVerdict B F b ≡ refused n p) ⊎ ((F .asked (c .extra) ≡ refused n p) ⊎ (Plain 22 n p ⊎ (Plain 23 n p ⊎ (Plain 24 n p ⊎ (Plain 25 n p ⊎ Plain 12 n p)))))
+      → (recordVerdict B F b ≡ refused n p)
+      ⊎ ((F .asked (c .extra) ≡ refused n p) ⊎ (Plain 22 n p ⊎ (Plain 23 n p ⊎ (Plain 24 n p ⊎ (Plain 25 n p ⊎ Plain 12 n p)))))
   listed-reasons b c n p = refusals.edit-refusals B F b c n p
 
   -- > "otherwise the edit puts the value asked for in the item asked for and nowhere else in the frame."
-  pub value-there : (b : List ℕ) (c : Correction) → Bytes b → editAnswer B F b c ≡ accepted tt → (s : Spot) → B .spot (frameIn b) (c .word) ≡ some s
-      → B .spot (frameIn (editExit B F b c)) (c .word) ≡ some (revalued s (c .value))
+  pub value-there : (b : List ℕ) (c : Correction) → Bytes b → editAnswer B F b c ≡ accepted tt
+      → (s : Spot) → B .spot (frameIn b) (c .word) ≡ some s → B .spot (frameIn (editExit B F b c)) (c .word) ≡ some (revalued s (c .value))
   value-there b c y e s q = changing.edit-there B F L b c y e s q
 
-  pub nowhere-else : (b : List ℕ) (c : Correction) → Bytes b → editAnswer B F b c ≡ accepted tt → (w : ℕ) → (w ≡ c .word → ⊥)
-      → B .spot (frameIn (editExit B F b c)) w ≡ B .spot (frameIn b) w
+  pub nowhere-else : (b : List ℕ) (c : Correction) → Bytes b → editAnswer B F b c ≡ accepted tt
+      → (w : ℕ) → (w ≡ c .word → ⊥) → B .spot (frameIn (editExit B F b c)) w ≡ B .spot (frameIn b) w
   nowhere-else b c y e = changing.edit-elsewhere B F L b c y e
 
   -- every byte: header, the frame with the value put, the entries that stood, the new one, and the buffer's own beyond
@@ -92,37 +92,37 @@ module _ (B : FrameBook) (F : Format) (L : Lawful B F) where
 
   -- > "For every number k from 0 to the count of accepted edits, restoring to k, into a buffer with room, gives the exact frame that stood after
   -- > the k-th accepted edit;"
-  -- for every k there is a point among the calls with k accepted before it; and at every such point, whatever calls followed, restoring to k is
-  -- accepted and gives the frame that stood in the record at that point, and leaves the rest of the second buffer
-  pub a-point-for-every-k : (b : List ℕ) (cs : List Correction) (k : ℕ) → k ≤ length (made B F b cs) → Point B F b cs k
-  a-point-for-every-k b cs k = forward.point B F b cs k
+  -- for every such k there is a point among the calls with k accepted before it; and at every such point, whatever calls followed, restoring to
+  -- k is accepted and gives the frame that stood in the record at that point, and leaves the rest of the second buffer
+  pub point-for-every-k : (f buf : List ℕ) (cs : List Correction) (k : ℕ) → k ≤ length (acceptedEdits B F f buf cs) → Point B F (openExit B F f buf) cs k
+  point-for-every-k f buf cs k = forward.point B F (openExit B F f buf) cs k
 
   pub restores-what-stood : (f buf : List ℕ) → Bytes f → openAnswer B F f buf ≡ accepted tt → (earlier later : List Correction) (out : List ℕ)
       → length f ≤ length out
-      → (restoreAnswer B F (run B F (openExit B F f buf) (earlier ++ later)) (length (made B F (openExit B F f buf) earlier)) out ≡ accepted tt)
-      × (restoreExit B F (run B F (openExit B F f buf) (earlier ++ later)) (length (made B F (openExit B F f buf) earlier)) out
-      ≡ frameIn (run B F (openExit B F f buf) earlier) ++ drop (length f) out)
+      → (restoreAnswer B F (recordAfter B F f buf (earlier ++ later)) (length (acceptedEdits B F f buf earlier)) out ≡ accepted tt)
+      × (restoreExit B F (recordAfter B F f buf (earlier ++ later)) (length (acceptedEdits B F f buf earlier)) out
+      ≡ frameIn (recordAfter B F f buf earlier) ++ drop (length f) out)
   restores-what-stood f buf y e earlier later out r = forward.stood B F L f buf y e earlier later out r
 
   -- the same in other words: it is the frame f after the first k of the accepted edits
   pub restores-to-k : (f buf : List ℕ) → Bytes f → openAnswer B F f buf ≡ accepted tt → (cs : List Correction) (k : ℕ) (out : List ℕ)
-      → k ≤ length (made B F (openExit B F f buf) cs) → length f ≤ length out
-      → (restoreAnswer B F (run B F (openExit B F f buf) cs) k out ≡ accepted tt)
-      × (restoreExit B F (run B F (openExit B F f buf) cs) k out ≡ frameAfter B f (take k (made B F (openExit B F f buf) cs)) ++ drop (length f) out)
+      → k ≤ length (acceptedEdits B F f buf cs) → length f ≤ length out
+      → (restoreAnswer B F (recordAfter B F f buf cs) k out ≡ accepted tt)
+      × (restoreExit B F (recordAfter B F f buf cs) k out ≡ frameAfter B f (take k (acceptedEdits B F f buf cs)) ++ drop (length f) out)
   restores-to-k f buf y e cs k out h r = forward.forward-restores B F L f buf y e cs k out h r
 
   -- > "k = 0 gives the frame as recorded."
-  pub restores-as-recorded : (f buf : List ℕ) → Bytes f → openAnswer B F f buf ≡ accepted tt → (cs : List Correction) (out : List ℕ) → length f ≤ length out
-      → restoreExit B F (run B F (openExit B F f buf) cs) 0 out ≡ f ++ drop (length f) out
+  pub restores-as-recorded : (f buf : List ℕ) → Bytes f → openAnswer B F f buf ≡ accepted tt → (cs : List Correction) (out : List ℕ)
+      → length f ≤ length out → restoreExit B F (recordAfter B F f buf cs) 0 out ≡ f ++ drop (length f) out
   restores-as-recorded f buf y e cs out r = forward.forward-first B F L f buf y e cs out r
 
   -- above the count 26, into a buffer without room 12; and a refused restore leaves that buffer
   pub no-entry : (f buf : List ℕ) → Bytes f → openAnswer B F f buf ≡ accepted tt → (cs : List Correction) (k : ℕ) (out : List ℕ)
-      → length (made B F (openExit B F f buf) cs) < k → restoreAnswer B F (run B F (openExit B F f buf) cs) k out ≡ refused 26 0
+      → length (acceptedEdits B F f buf cs) < k → restoreAnswer B F (recordAfter B F f buf cs) k out ≡ refused 26 0
   no-entry f buf y e cs k out h = forward.forward-no-entry B F L f buf y e cs k out h
 
   pub no-room : (f buf : List ℕ) → Bytes f → openAnswer B F f buf ≡ accepted tt → (cs : List Correction) (k : ℕ) (out : List ℕ)
-      → k ≤ length (made B F (openExit B F f buf) cs) → length out < length f → restoreAnswer B F (run B F (openExit B F f buf) cs) k out ≡ refused 12 0
+      → k ≤ length (acceptedEdits B F f buf cs) → length out < length f → restoreAnswer B F (recordAfter B F f buf cs) k out ≡ refused 12 0
   no-room f buf y e cs k out h r = forward.forward-no-room B F L f buf y e cs k out h r
 
   pub refused-restore : (b : List ℕ) (k : ℕ) (out : List ℕ) (n p : ℕ) → restoreAnswer B F b k out ≡ refused n p → restoreExit B F b k out ≡ out
@@ -131,11 +131,11 @@ module _ (B : FrameBook) (F : Format) (L : Lawful B F) where
   -- > "The history holds those edits in order and nothing more."
   -- as many entries as accepted edits, and they are, oldest first, those that these make, each with the value that stood before it
   pub history-count : (f buf : List ℕ) → Bytes f → openAnswer B F f buf ≡ accepted tt → (cs : List Correction)
-      → countIn (run B F (openExit B F f buf) cs) ≡ length (made B F (openExit B F f buf) cs)
+      → countIn (recordAfter B F f buf cs) ≡ length (acceptedEdits B F f buf cs)
   history-count f buf y e cs = forward.forward-count B F L f buf y e cs
 
   pub history-in-order : (f buf : List ℕ) → Bytes f → openAnswer B F f buf ≡ accepted tt → (cs : List Correction)
-      → oldestFirst (entriesIn F (run B F (openExit B F f buf) cs)) ≡ entriesOf B f (made B F (openExit B F f buf) cs)
+      → oldestFirst (entriesIn F (recordAfter B F f buf cs)) ≡ entriesOf B f (acceptedEdits B F f buf cs)
   history-in-order f buf y e cs = forward.forward-entries B F L f buf y e cs
 
   -- and the entry question tells them by their numbers, from 1
@@ -150,13 +150,13 @@ module _ (B : FrameBook) (F : Format) (L : Lawful B F) where
   -- more than that: the frame that it restores to, opened in that very buffer, and its own entries as calls, all accepted, make every byte of it
   pub made-again : (b : List ℕ) → Bytes b → recordVerdict B F b ≡ accepted tt
       → (openAnswer B F (restored B F b 0) b ≡ accepted tt)
-      × (run B F (openExit B F (restored B F b 0) b) (map correctionOf (oldestFirst (entriesIn F b))) ≡ b)
-      × (made B F (openExit B F (restored B F b 0) b) (map correctionOf (oldestFirst (entriesIn F b))) ≡ map correctionOf (oldestFirst (entriesIn F b)))
+      × (recordAfter B F (restored B F b 0) b (map correctionOf (oldestFirst (entriesIn F b))) ≡ b)
+      × (acceptedEdits B F (restored B F b 0) b (map correctionOf (oldestFirst (entriesIn F b))) ≡ map correctionOf (oldestFirst (entriesIn F b)))
   made-again b y e = (backward.backward-opens B F L b y e, backward.backward-makes B F L b y e, backward.backward-all B F L b y e)
 
   -- and no other frame and no other accepted edits make it
   pub the-only-ones : (b : List ℕ) (S : Sequence B F b)
-      → (S .origin ≡ restored B F b 0) × (made B F (openExit B F (S .origin) (S .buffer)) (S .calls) ≡ map correctionOf (oldestFirst (entriesIn F b)))
+      → (S .origin ≡ restored B F b 0) × (acceptedEdits B F (S .origin) (S .buffer) (S .calls) ≡ map correctionOf (oldestFirst (entriesIn F b)))
   the-only-ones b S = backward.sequence-only B F L b S
 
   -- ---- what an accepted record is, with no word of calls (document 01, "A record is tested")

@@ -1,13 +1,15 @@
 -- Document 01's format has the laws that demand 3's theorems ask of a format.
 -- Assumes nothing.
-use Prim.Native.Nat.{ℕ, suc, _≤_}
+use Prim.Native.Nat.{ℕ, suc, _≤_, _<_}
 use mathlib.Core.Path.{_≡_, refl, sym}
+use mathlib.Core.Logic.{_↔_}
 use mathlib.Core.Bool.{true, true≢false}
 use mathlib.Core.List.{List, [], _∷_}
 use native.Mathlib.Omega.{arith}
 use lib.ListN.{length}
 use borrow.Author.Tests.{leb-true, le-leb}
 use Rattle.ledger.specs.Formats.{Entry, LawfulFormat}
+use Rattle.ledger.specs.Records.{countIn, entriesIn, length-entries}
 use Rattle.ledger.specs.First.{first, nothing}
 
 empty : (x : List ℕ) → nothing x ≡ true → [] ≡ x
@@ -42,3 +44,12 @@ first-lawful = record {
   limit-swap = λ d e es h. h;
   limit-few = few;
 }
+
+-- in document 01's words: the header's entry count is at most 512, and an edit is refused by 25 where 512 entries stand
+pub count-limit : (b : List ℕ) → (first .limit (entriesIn first b) ≡ true) ↔ (countIn b ≤ 512)
+count-limit b = (λ h. rw (length-entries first b (countIn b)) at (few (entriesIn first b) h), λ h. within (entriesIn first b) (rw (length-entries first b (countIn b)) h))
+
+pub full-limit : (b : List ℕ) (e : Entry) → (first .limit (e ∷ entriesIn first b) ≡ true) ↔ (countIn b < 512)
+full-limit b e =
+    let n = length-entries first b (countIn b) in
+    (λ h. let k = few (e ∷ entriesIn first b) h in omega arith, λ h. within (e ∷ entriesIn first b) (omega arith))

@@ -15,7 +15,7 @@ use Rattle.ledger.specs.Frames.{FrameBook}
 use Rattle.ledger.specs.Formats.{Correction, Format, Lawful, size}
 use Rattle.ledger.specs.Records.{countIn, totalIn, frameIn, entriesIn, recordVerdict}
 use Rattle.ledger.specs.Calls.{openAnswer, openExit, editAnswer, editWritten, editExit, restoreAnswer, restoreExit}
-use Rattle.ledger.specs.Histories.{oldestFirst, keep, frameAfter, entriesOf, run, made, Point}
+use Rattle.ledger.specs.Histories.{oldestFirst, keep, frameAfter, entriesOf, run, made, recordAfter, acceptedEdits, Point}
 use Rattle.ledger.proofs.Edits.{frameOf}
 use Rattle.ledger.proofs.Holding.{Holds, holds-reads, holds-frame, holds-entries, holds-total, holds-rest, holds-bytes, holds-judged, holds-restores, holds-no-entry, holds-no-room, holds-exit}
 use Rattle.ledger.proofs.Opening.{open-holds, open-rest}
@@ -63,82 +63,82 @@ module _ (B : FrameBook) (F : Format) (L : Lawful B F) where
     edits = gather B F (openExit B F f buf) [] cs
 
     last : List ℕ
-    last = run B F (openExit B F f buf) cs
+    last = recordAfter B F f buf cs
 
     stands : Stands f edits buf last
     unfolding edits last
     stands = run-stands f [] buf (openExit B F f buf) cs (opened-stands f buf y e)
 
-    in-order : oldestFirst edits ≡ made B F (openExit B F f buf) cs
+    in-order : oldestFirst edits ≡ acceptedEdits B F f buf cs
     unfolding edits oldestFirst
     in-order = gather-order B F (openExit B F f buf) [] cs
 
-    as-many : length edits ≡ length (made B F (openExit B F f buf) cs)
+    as-many : length edits ≡ length (acceptedEdits B F f buf cs)
     as-many = sym (oldest-length edits) ∙ ap length in-order
 
-    pub forward-accepted : recordVerdict B F (run B F (openExit B F f buf) cs) ≡ accepted tt
+    pub forward-accepted : recordVerdict B F (recordAfter B F f buf cs) ≡ accepted tt
     unfolding last
     forward-accepted = holds-judged B F L f edits last (stands .holds)
 
-    pub forward-count : countIn (run B F (openExit B F f buf) cs) ≡ length (made B F (openExit B F f buf) cs)
+    pub forward-count : countIn (recordAfter B F f buf cs) ≡ length (acceptedEdits B F f buf cs)
     unfolding last
     forward-count = holds-reads B F L f edits last (stands .holds) .count-is ∙ as-many
 
-    pub forward-frame : frameIn (run B F (openExit B F f buf) cs) ≡ frameAfter B f (made B F (openExit B F f buf) cs)
+    pub forward-frame : frameIn (recordAfter B F f buf cs) ≡ frameAfter B f (acceptedEdits B F f buf cs)
     unfolding last
     forward-frame = holds-frame B F L f edits last (stands .holds) ∙ frame-order B f edits ∙ ap (frameAfter B f) in-order
 
-    pub forward-entries : oldestFirst (entriesIn F (run B F (openExit B F f buf) cs)) ≡ entriesOf B f (made B F (openExit B F f buf) cs)
+    pub forward-entries : oldestFirst (entriesIn F (recordAfter B F f buf cs)) ≡ entriesOf B f (acceptedEdits B F f buf cs)
     unfolding last
     forward-entries = ap oldestFirst (holds-entries B F L f edits last (stands .holds)) ∙ entries-order B f edits ∙ ap (entriesOf B f) in-order
 
-    pub forward-total : totalIn F (run B F (openExit B F f buf) cs) ≡ 16 + length f + size F * length (made B F (openExit B F f buf) cs)
+    pub forward-total : totalIn F (recordAfter B F f buf cs) ≡ 16 + length f + size F * length (acceptedEdits B F f buf cs)
     unfolding last
     forward-total = holds-total B F L f edits last (stands .holds) ∙ ap (λ (n : ℕ). 16 + length f + size F * n) as-many
 
     -- bytes at and past the total are the caller's own
-    pub forward-rest : drop (totalIn F (run B F (openExit B F f buf) cs)) (run B F (openExit B F f buf) cs) ≡ drop (totalIn F (run B F (openExit B F f buf) cs)) buf
+    pub forward-rest : drop (totalIn F (recordAfter B F f buf cs)) (recordAfter B F f buf cs) ≡ drop (totalIn F (recordAfter B F f buf cs)) buf
     unfolding last
     forward-rest = holds-rest B F L f edits last (stands .holds) ∙ stands .rest ∙ ap (λ (n : ℕ). drop n buf) (sym (holds-total B F L f edits last (stands .holds)))
 
     -- and the buffer holds bytes again
-    pub forward-bytes : Bytes buf → Bytes (run B F (openExit B F f buf) cs)
+    pub forward-bytes : Bytes buf → Bytes (recordAfter B F f buf cs)
     unfolding last
     forward-bytes z = holds-bytes B F L f edits last (stands .holds) (rw (stands .rest) (below-drop (16 + length f + size F * length edits) buf 256 z))
 
     -- ---- restoring to k
-    frame-k : (k : ℕ) → k ≤ length edits → frameOf B f (drop (length edits - k) edits) ≡ frameAfter B f (take k (made B F (openExit B F f buf) cs))
+    frame-k : (k : ℕ) → k ≤ length edits → frameOf B f (drop (length edits - k) edits) ≡ frameAfter B f (take k (acceptedEdits B F f buf cs))
     frame-k k h =
         let m : length edits - (length edits - k) ≡ k = omega arith in
         frame-order B f (drop (length edits - k) edits) ∙ ap (frameAfter B f) (oldest-drop edits (length edits - k) (omega arith) ∙ rw (m, in-order))
 
-    pub forward-restores : (k : ℕ) (out : List ℕ) → k ≤ length (made B F (openExit B F f buf) cs) → length f ≤ length out
-        → (restoreAnswer B F (run B F (openExit B F f buf) cs) k out ≡ accepted tt)
-        × (restoreExit B F (run B F (openExit B F f buf) cs) k out ≡ frameAfter B f (take k (made B F (openExit B F f buf) cs)) ++ drop (length f) out)
+    pub forward-restores : (k : ℕ) (out : List ℕ) → k ≤ length (acceptedEdits B F f buf cs) → length f ≤ length out
+        → (restoreAnswer B F (recordAfter B F f buf cs) k out ≡ accepted tt)
+        × (restoreExit B F (recordAfter B F f buf cs) k out ≡ frameAfter B f (take k (acceptedEdits B F f buf cs)) ++ drop (length f) out)
     unfolding last
     forward-restores k out h room =
         let m : k ≤ length edits = rw as-many h in
         (holds-restores B F L f edits last (stands .holds) k out m room, holds-exit B F L f edits last (stands .holds) k out m room ∙ ap (λ (g : List ℕ). g ++ drop (length f) out) (frame-k k m))
 
-    pub forward-no-entry : (k : ℕ) (out : List ℕ) → length (made B F (openExit B F f buf) cs) < k
-        → restoreAnswer B F (run B F (openExit B F f buf) cs) k out ≡ refused 26 0
+    pub forward-no-entry : (k : ℕ) (out : List ℕ) → length (acceptedEdits B F f buf cs) < k
+        → restoreAnswer B F (recordAfter B F f buf cs) k out ≡ refused 26 0
     unfolding last
     forward-no-entry k out h = holds-no-entry B F L f edits last (stands .holds) k out (rw as-many h)
 
-    pub forward-no-room : (k : ℕ) (out : List ℕ) → k ≤ length (made B F (openExit B F f buf) cs) → length out < length f
-        → restoreAnswer B F (run B F (openExit B F f buf) cs) k out ≡ refused 12 0
+    pub forward-no-room : (k : ℕ) (out : List ℕ) → k ≤ length (acceptedEdits B F f buf cs) → length out < length f
+        → restoreAnswer B F (recordAfter B F f buf cs) k out ≡ refused 12 0
     unfolding last
     forward-no-room k out h room = holds-no-room B F L f edits last (stands .holds) k out (rw as-many h) room
 
     -- k = 0: the frame as recorded
-    pub forward-first : (out : List ℕ) → length f ≤ length out → restoreExit B F (run B F (openExit B F f buf) cs) 0 out ≡ f ++ drop (length f) out
+    pub forward-first : (out : List ℕ) → length f ≤ length out → restoreExit B F (recordAfter B F f buf cs) 0 out ≡ f ++ drop (length f) out
     unfolding frameAfter
     forward-first out room = forward-restores 0 out (omega arith) room .1
 
   -- ---- the frame that stood: at a point of the calls with k accepted before it, the record's frame is the one that restoring to k gives later
   pub stood : (f buf : List ℕ) (y : Bytes f) (e : openAnswer B F f buf ≡ accepted tt) (cs ds : List Correction) (out : List ℕ) → length f ≤ length out
-      → (restoreAnswer B F (run B F (openExit B F f buf) (cs ++ ds)) (length (made B F (openExit B F f buf) cs)) out ≡ accepted tt)
-      × (restoreExit B F (run B F (openExit B F f buf) (cs ++ ds)) (length (made B F (openExit B F f buf) cs)) out ≡ frameIn (run B F (openExit B F f buf) cs) ++ drop (length f) out)
+      → (restoreAnswer B F (recordAfter B F f buf (cs ++ ds)) (length (acceptedEdits B F f buf cs)) out ≡ accepted tt)
+      × (restoreExit B F (recordAfter B F f buf (cs ++ ds)) (length (acceptedEdits B F f buf cs)) out ≡ frameIn (recordAfter B F f buf cs) ++ drop (length f) out)
   stood f buf y e cs ds out room =
       let b = openExit B F f buf in
       let m = made B F b cs in

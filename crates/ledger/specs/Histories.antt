@@ -71,7 +71,14 @@ module _ (B : FrameBook) (F : Format) where
   unfolding made
   made-refused b c cs n p e = rw e
 
-  -- a point in a run of calls on b: those before it and those after it, with k accepted before it
+  -- a frame put into a record in a buffer, and then some calls: the buffer after them, and the edits that were accepted, in order
+  abbrev pub recordAfter : List ℕ → List ℕ → List Correction → List ℕ
+  recordAfter f buf cs = run (openExit B F f buf) cs
+
+  abbrev pub acceptedEdits : List ℕ → List ℕ → List Correction → List Correction
+  acceptedEdits f buf cs = made (openExit B F f buf) cs
+
+  -- a point among some calls on b: those before it, k of them accepted, and those after it
   pub record Point (b : List ℕ) (cs : List Correction) (k : ℕ) : Type 0 where
     pub earlier : List Correction
     pub later : List Correction
@@ -85,8 +92,8 @@ module _ (B : FrameBook) (F : Format) where
     pub calls : List Correction
     pub bytes : Bytes origin
     pub opened : openAnswer B F origin buffer ≡ accepted tt
-    pub whole : totalIn F (run (openExit B F origin buffer) calls) ≤ length b
-    pub same : take (totalIn F (run (openExit B F origin buffer) calls)) b ≡ take (totalIn F (run (openExit B F origin buffer) calls)) (run (openExit B F origin buffer) calls)
+    pub whole : totalIn F (recordAfter origin buffer calls) ≤ length b
+    pub same : take (totalIn F (recordAfter origin buffer calls)) b ≡ take (totalIn F (recordAfter origin buffer calls)) (recordAfter origin buffer calls)
 
   -- the record as it stood after its first k entries: their header, the frame restored to k, and those entries
   unfoldable pub earlierRecord : List ℕ → ℕ → List ℕ
