@@ -8,7 +8,7 @@ use native.Mathlib.Omega.{arith}
 use lib.ListN.{getD}
 use Rattle.format.specs.Answers.{Outcome, accepted, refused, Done, need, firstOf, leaves}
 use Rattle.format.proofs.PrefixLaws.{and-left, and-right}
-use Rattle.ledger.specs.Tests.{all, allFrom, First}
+use Rattle.ledger.specs.Tests.{all, allFrom, FirstRefusal}
 
 -- ---- tests
 all-first : (a : Bool) (ts : List Bool) → allFrom a ts ≡ true → a ≡ true
@@ -59,7 +59,7 @@ first-all [] h = refl
 first-all (accepted u ∷ os) h = first-all os (λ i. h (suc i))
 first-all (refused n p ∷ os) h = h 0
 
-pub refused-first : (os : List Done) (n p : ℕ) → firstOf os ≡ refused n p → First os n p
+pub refused-first : (os : List Done) (n p : ℕ) → firstOf os ≡ refused n p → FirstRefusal os n p
 unfolding firstOf
 refused-first [] n p e = let z : accepted tt ≡ refused n p = e in let y : _≡_ {A = ℕ} 0 1 = cc in absurd (omega arith)
 refused-first (accepted u ∷ os) n p e =

@@ -191,6 +191,11 @@ module _ (B : FrameBook) (F : Format) (L : Lawful B F) where
     pub backward-all : made B F (openExit B F (restored B F b 0) b) (map correctionOf (oldestFirst (entriesIn F b))) ≡ map correctionOf (oldestFirst (entriesIn F b))
     backward-all = rw (← oldest-map correctionOf (entriesIn F b)) (holds-replays (restored B F b 0) (map correctionOf (entriesIn F b)) b (accepted-holds b y e) .all)
 
+    -- so calls on any accepted record are calls that follow its own
+    pub backward-continues : (cs : List Correction)
+        → run B F b cs ≡ run B F (openExit B F (restored B F b 0) b) (map correctionOf (oldestFirst (entriesIn F b)) ++ cs)
+    backward-continues cs = sym (run-append B F (openExit B F (restored B F b 0) b) (map correctionOf (oldestFirst (entriesIn F b))) cs ∙ ap (λ (x : List ℕ). run B F x cs) backward-makes)
+
     pub backward-sequence : Sequence B F b
     backward-sequence = record {
       origin = restored B F b 0;

@@ -13,13 +13,13 @@ use mathlib.Core.Option.{some}
 use lib.ListN.{length, getD, take, drop}
 use Rattle.format.specs.Words.{Bytes}
 use Rattle.format.specs.Answers.{accepted, refused}
-use Rattle.ledger.specs.Tests.{First, Plain}
+use Rattle.ledger.specs.Tests.{FirstRefusal, Plain}
 use Rattle.ledger.specs.Frames.{Spot, revalued, FrameBook}
 use Rattle.ledger.specs.Formats.{Entry, Correction, Format, Lawful, size}
 use Rattle.ledger.specs.Records.{header, lengthIn, countIn, totalIn, frameIn, entryBytes, numbered, entriesIn, recordVerdict}
 use Rattle.ledger.specs.Calls.{entryFor, entryAnswer, openAnswer, openExit, editTests, editAnswer, editExit, restored, restoreAnswer, restoreExit}
 use Rattle.ledger.specs.Chains.{Header, Fits, Chain, Allowed}
-use Rattle.ledger.specs.Histories.{oldestFirst, correctionOf, frameAfter, entriesOf, recordAfter, acceptedEdits, Point, Sequence}
+use Rattle.ledger.specs.Histories.{oldestFirst, bytesOf, correctionOf, frameAfter, entriesOf, run, recordAfter, acceptedEdits, Point, Sequence}
 use Rattle.ledger.proofs.Opening as opening
 use Rattle.ledger.proofs.Editing as editing
 use Rattle.ledger.proofs.Changing as changing
@@ -64,7 +64,7 @@ module _ (B : FrameBook) (F : Format) (L : Lawful B F) where
   pub edited-exactly : (b : List ℕ) (c : Correction) → recordVerdict B F b ≡ accepted tt → (editAnswer B F b c ≡ accepted tt) ↔ Allowed B F b c
   edited-exactly b c = editing.edit-exactly B F b c
 
-  pub refused-by-the-first : (b : List ℕ) (c : Correction) (n p : ℕ) → (editAnswer B F b c ≡ refused n p) ↔ First (editTests B F b c) n p
+  pub refused-by-the-first : (b : List ℕ) (c : Correction) (n p : ℕ) → (editAnswer B F b c ≡ refused n p) ↔ FirstRefusal (editTests B F b c) n p
   refused-by-the-first b c n p = editing.edit-refused B F b c n p
 
   -- so it is a record refusal (20, a frame's own, 21), one that the format asks first, or 22, 23, 24, 25, 12 at place 0
@@ -138,6 +138,14 @@ module _ (B : FrameBook) (F : Format) (L : Lawful B F) where
       → oldestFirst (entriesIn F (recordAfter B F f buf cs)) ≡ entriesOf B f (acceptedEdits B F f buf cs)
   history-in-order f buf y e cs = forward.forward-entries B F L f buf y e cs
 
+  -- every byte of the buffer: header, the frame after the accepted edits, their entries in order, and the caller's own beyond
+  pub whole-record : (f buf : List ℕ) → Bytes f → openAnswer B F f buf ≡ accepted tt → (cs : List Correction)
+      → recordAfter B F f buf cs
+      ≡ header F (length f) (length (acceptedEdits B F f buf cs))
+      ++ (frameAfter B f (acceptedEdits B F f buf cs)
+      ++ (bytesOf F (entriesOf B f (acceptedEdits B F f buf cs)) ++ drop (16 + length f + size F * length (acceptedEdits B F f buf cs)) buf))
+  whole-record f buf y e cs = forward.forward-whole B F L f buf y e cs
+
   -- and the entry question tells them by their numbers, from 1
   pub entry-told : (b : List ℕ) (j : ℕ) (d : Entry) → recordVerdict B F b ≡ accepted tt → j < countIn b
       → entryAnswer B F b (suc j) ≡ accepted (getD (oldestFirst (entriesIn F b)) j d)
@@ -153,6 +161,11 @@ module _ (B : FrameBook) (F : Format) (L : Lawful B F) where
       × (recordAfter B F (restored B F b 0) b (map correctionOf (oldestFirst (entriesIn F b))) ≡ b)
       × (acceptedEdits B F (restored B F b 0) b (map correctionOf (oldestFirst (entriesIn F b))) ≡ map correctionOf (oldestFirst (entriesIn F b)))
   made-again b y e = (backward.backward-opens B F L b y e, backward.backward-makes B F L b y e, backward.backward-all B F L b y e)
+
+  -- so calls on any accepted record are calls that follow its own history, and every sentence above holds of them too
+  pub continued : (b : List ℕ) → Bytes b → recordVerdict B F b ≡ accepted tt → (cs : List Correction)
+      → run B F b cs ≡ recordAfter B F (restored B F b 0) b (map correctionOf (oldestFirst (entriesIn F b)) ++ cs)
+  continued b y e cs = backward.backward-continues B F L b y e cs
 
   -- and no other frame and no other accepted edits make it
   pub the-only-ones : (b : List ℕ) (S : Sequence B F b)

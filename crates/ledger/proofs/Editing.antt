@@ -16,7 +16,7 @@ use borrow.Author.Tests.{leb-true, eqb-false, le-leb, ne-eqb, not-true}
 use Rattle.format.specs.Words.{bytes}
 use Rattle.format.specs.Answers.{accepted, refused, firstOf}
 use Rattle.format.proofs.PrefixLaws.{and-left, and-right}
-use Rattle.ledger.specs.Tests.{First}
+use Rattle.ledger.specs.Tests.{FirstRefusal}
 use Rattle.ledger.specs.Frames.{Spot, FrameBook}
 use Rattle.ledger.specs.Formats.{Correction, Format, Lawful, size}
 use Rattle.ledger.specs.Records.{header, totalIn, frameIn, entryBytes, entriesIn, signed, atSpot, recordVerdict}
@@ -76,7 +76,7 @@ module _ (B : FrameBook) (F : Format) where
   edit-exactly b c j = (edit-allowed b c, allowed-edit b c j)
 
   -- T28: else refused by the first of the tests that refuses, in their order
-  pub edit-refused : (b : List ℕ) (c : Correction) (n p : ℕ) → (editAnswer B F b c ≡ refused n p) ↔ First (editTests B F b c) n p
+  pub edit-refused : (b : List ℕ) (c : Correction) (n p : ℕ) → (editAnswer B F b c ≡ refused n p) ↔ FirstRefusal (editTests B F b c) n p
   unfolding editAnswer
   edit-refused b c n p = (refused-first _ n p, λ w. first-refused _ n p (w .at) (w .refuses) (w .earlier))
 

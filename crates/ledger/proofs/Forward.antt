@@ -13,14 +13,15 @@ use Rattle.format.specs.Answers.{accepted, refused, Done, leaves}
 use Rattle.format.proofs.WordLaws.{below-drop}
 use Rattle.ledger.specs.Frames.{FrameBook}
 use Rattle.ledger.specs.Formats.{Correction, Format, Lawful, size}
-use Rattle.ledger.specs.Records.{countIn, totalIn, frameIn, entriesIn, recordVerdict}
+use Rattle.ledger.specs.Records.{header, countIn, totalIn, frameIn, entriesIn, recordVerdict}
 use Rattle.ledger.specs.Calls.{openAnswer, openExit, editAnswer, editWritten, editExit, restoreAnswer, restoreExit}
-use Rattle.ledger.specs.Histories.{oldestFirst, keep, frameAfter, entriesOf, run, made, recordAfter, acceptedEdits, Point}
-use Rattle.ledger.proofs.Edits.{frameOf}
+use Rattle.ledger.specs.Histories.{oldestFirst, keep, frameAfter, entriesOf, run, made, recordAfter, acceptedEdits, bytesOf, Point}
+use Rattle.ledger.proofs.Codecs.{entriesBytes}
+use Rattle.ledger.proofs.Edits.{frameOf, entriesMade}
 use Rattle.ledger.proofs.Holding.{Holds, holds-reads, holds-frame, holds-entries, holds-total, holds-rest, holds-bytes, holds-judged, holds-restores, holds-no-entry, holds-no-room, holds-exit}
 use Rattle.ledger.proofs.Opening.{open-holds, open-rest}
 use Rattle.ledger.proofs.Editing.{edit-judged, edit-exactly, edit-holds, edit-rest}
-use Rattle.ledger.proofs.Orders.{oldest-length, oldest-drop, frame-order, entries-order, gather, gather-order, made-append}
+use Rattle.ledger.proofs.Orders.{oldest-length, oldest-drop, frame-order, entries-order, bytes-order, gather, gather-order, made-append}
 
 module _ (B : FrameBook) (F : Format) (L : Lawful B F) where
   -- the record of f with the edits h stands at the start of what was `own`, and the rest is as it was there
@@ -100,6 +101,18 @@ module _ (B : FrameBook) (F : Format) (L : Lawful B F) where
     pub forward-rest : drop (totalIn F (recordAfter B F f buf cs)) (recordAfter B F f buf cs) ≡ drop (totalIn F (recordAfter B F f buf cs)) buf
     unfolding last
     forward-rest = holds-rest B F L f edits last (stands .holds) ∙ stands .rest ∙ ap (λ (n : ℕ). drop n buf) (sym (holds-total B F L f edits last (stands .holds)))
+
+    -- every byte: the header of f's length and the count, the frame after the accepted edits, their entries in order, and the caller's own beyond
+    pub forward-whole : recordAfter B F f buf cs
+        ≡ header F (length f) (length (acceptedEdits B F f buf cs))
+        ++ (frameAfter B f (acceptedEdits B F f buf cs)
+        ++ (bytesOf F (entriesOf B f (acceptedEdits B F f buf cs)) ++ drop (16 + length f + size F * length (acceptedEdits B F f buf cs)) buf))
+    unfolding last
+    forward-whole =
+        let g : frameOf B f edits ≡ frameAfter B f (acceptedEdits B F f buf cs) = frame-order B f edits ∙ ap (frameAfter B f) in-order in
+        let x : entriesBytes F (entriesMade B f edits) ≡ bytesOf F (entriesOf B f (acceptedEdits B F f buf cs))
+        = bytes-order F (entriesMade B f edits) ∙ ap (bytesOf F) (entries-order B f edits ∙ ap (entriesOf B f) in-order) in
+        stands .holds .is ∙ rw (stands .rest, g, x, as-many)
 
     -- and the buffer holds bytes again
     pub forward-bytes : Bytes buf → Bytes (recordAfter B F f buf cs)

@@ -11,7 +11,9 @@ use Rattle.format.specs.Answers.{accepted, refused, Done}
 use Rattle.ledger.specs.Frames.{FrameBook}
 use Rattle.ledger.specs.Formats.{Entry, Correction, Format}
 use Rattle.ledger.specs.Calls.{entryFor, editAnswer, editExit}
-use Rattle.ledger.specs.Histories.{oldestFirst, keep, correctionOf, frameAfter, entriesOf, run, made}
+use Rattle.ledger.specs.Histories.{oldestFirst, bytesOf, keep, correctionOf, frameAfter, entriesOf, run, made}
+use Rattle.ledger.specs.Records.{entryBytes}
+use Rattle.ledger.proofs.Codecs.{entriesBytes}
 use Rattle.ledger.proofs.Edits.{frameOf, entriesMade}
 
 module _ {A : Type 0} where
@@ -49,6 +51,21 @@ module _ {A : Type 0} where
       map-append : {A C : Type 0} (g : A → C) (xs ys : List A) → map g (xs ++ ys) ≡ map g xs ++ map g ys
       map-append g [] ys = refl
       map-append {A} {C} g (x ∷ xs) ys = ap (λ (l : List C). g x ∷ l) (map-append g xs ys)
+
+-- the bytes of entries, newest first, are those of the same entries in order
+bytes-more : (F : Format) (es : List Entry) (e : Entry) → bytesOf F (es ++ (e ∷ [])) ≡ bytesOf F es ++ entryBytes F e
+unfolding bytesOf
+bytes-more F [] e = append-nil (entryBytes F e)
+bytes-more F (x ∷ es) e = ap (λ (l : List ℕ). entryBytes F x ++ l) (bytes-more F es e) ∙ sym (append-assoc (entryBytes F x) (bytesOf F es) (entryBytes F e))
+
+bytes-none : (F : Format) → [] ≡ bytesOf F []
+unfolding bytesOf
+bytes-none F = refl
+
+pub bytes-order : (F : Format) (es : List Entry) → entriesBytes F es ≡ bytesOf F (oldestFirst es)
+unfolding entriesBytes oldestFirst
+bytes-order F [] = bytes-none F
+bytes-order F (e ∷ es) = ap (λ (l : List ℕ). l ++ entryBytes F e) (bytes-order F es) ∙ sym (bytes-more F (oldestFirst es) e)
 
 module _ (B : FrameBook) where
   after-append : (f : List ℕ) (cs ds : List Correction) → frameAfter B f (cs ++ ds) ≡ frameAfter B (frameAfter B f cs) ds

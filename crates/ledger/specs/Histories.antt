@@ -8,13 +8,26 @@ use Rattle.format.specs.Words.{Bytes}
 use Rattle.format.specs.Answers.{accepted, refused, Done}
 use Rattle.ledger.specs.Frames.{FrameBook}
 use Rattle.ledger.specs.Formats.{Entry, Correction, Format, size}
-use Rattle.ledger.specs.Records.{header, lengthIn, totalIn}
+use Rattle.ledger.specs.Records.{header, lengthIn, totalIn, entryBytes}
 use Rattle.ledger.specs.Calls.{entryFor, openAnswer, openExit, editAnswer, editExit, restored}
 
 -- a list the other way round: entries are read newest first and stand oldest first
 unfoldable pub oldestFirst : {A : Type 0} → List A → List A
 oldestFirst [] = []
 oldestFirst (x ∷ xs) = oldestFirst xs ++ (x ∷ [])
+
+pub oldest-none : {A : Type 0} → oldestFirst {A = A} [] ≡ []
+unfolding oldestFirst
+oldest-none = refl
+
+pub oldest-more : {A : Type 0} (x : A) (xs : List A) → oldestFirst (x ∷ xs) ≡ oldestFirst xs ++ (x ∷ [])
+unfolding oldestFirst
+oldest-more x xs = refl
+
+-- the bytes of some entries, in order
+unfoldable pub bytesOf : Format → List Entry → List ℕ
+bytesOf F [] = []
+bytesOf F (e ∷ es) = entryBytes F e ++ bytesOf F es
 
 -- a call, where it was accepted, before the later ones
 abbrev pub keep : Done → Correction → List Correction → List Correction
@@ -54,6 +67,10 @@ module _ (B : FrameBook) (F : Format) where
   run b [] = b
   run b (c ∷ cs) = run (editExit B F b c) cs
 
+  pub run-none : (b : List ℕ) → run b [] ≡ b
+  unfolding run
+  run-none b = refl
+
   pub run-more : (b : List ℕ) (c : Correction) (cs : List Correction) → run b (c ∷ cs) ≡ run (editExit B F b c) cs
   unfolding run
   run-more b c cs = refl
@@ -62,6 +79,10 @@ module _ (B : FrameBook) (F : Format) where
   unfoldable pub made : List ℕ → List Correction → List Correction
   made b [] = []
   made b (c ∷ cs) = keep (editAnswer B F b c) c (made (editExit B F b c) cs)
+
+  pub made-none : (b : List ℕ) → made b [] ≡ []
+  unfolding made
+  made-none b = refl
 
   pub made-accepted : (b : List ℕ) (c : Correction) (cs : List Correction) → editAnswer B F b c ≡ accepted tt → made b (c ∷ cs) ≡ c ∷ made (editExit B F b c) cs
   unfolding made

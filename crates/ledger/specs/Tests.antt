@@ -17,7 +17,7 @@ unfoldable pub all : List Bool → Bool
 all ts = allFrom true ts
 
 -- the answer at place `at`, from 0, refuses by n at p, and none before it refuses
-pub record First (os : List Done) (n p : ℕ) : Type 0 where
+pub record FirstRefusal (os : List Done) (n p : ℕ) : Type 0 where
   pub at : ℕ
   pub refuses : getD os at (accepted tt) ≡ refused n p
   pub earlier : (j : ℕ) → j < at → getD os j (accepted tt) ≡ accepted tt
