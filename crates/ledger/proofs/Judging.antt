@@ -67,7 +67,7 @@ module _ (B : FrameBook) (F : Format) where
       rw (h .stands, eq-eqb _ _ (h .kind), eq-eqb _ _ (h .new), h .old, ne-eqb _ _ (h .changed), right-signed _ _ (h .operator) (h .reason), h .good, h .suits)
 
   -- ---- entries from the newest back
-  undone-take : (f : List ℕ) (es : List Entry) (m : ℕ) (d : Entry) → m < length es → undone B f (take (suc m) es) ≡ before B (undone B f (take m es)) (getD es m d)
+  pub undone-take : (f : List ℕ) (es : List Entry) (m : ℕ) (d : Entry) → m < length es → undone B f (take (suc m) es) ≡ before B (undone B f (take m es)) (getD es m d)
   unfolding undone
   undone-take f [] m d h = absurd (omega arith)
   undone-take f (e ∷ es) zero d h = refl
@@ -89,14 +89,14 @@ module _ (B : FrameBook) (F : Format) where
       go true q = inr (q, sym (history-fits B F f e es q) ∙ h)
       go false q = let z = sym (history-unfit B F f e es q) ∙ h in inl (q, cc, cc)
 
-  each-fits : (f : List ℕ) (es : List Entry) (d : Entry) → historyVerdict B F f es ≡ accepted tt → (m : ℕ) → m < length es
+  pub each-fits : (f : List ℕ) (es : List Entry) (d : Entry) → historyVerdict B F f es ≡ accepted tt → (m : ℕ) → m < length es
       → fits B F (undone B f (take m es)) (getD es m d) ≡ true
   unfolding undone
   each-fits f [] d h m l = absurd (omega arith)
   each-fits f (e ∷ es) d h zero l = step-accepted f e es h .0
   each-fits f (e ∷ es) d h (suc m) l = each-fits (before B f e) es d (step-accepted f e es h .1) m (omega arith)
 
-  all-fit : (f : List ℕ) (es : List Entry) (d : Entry) → ((m : ℕ) → m < length es → fits B F (undone B f (take m es)) (getD es m d) ≡ true)
+  pub all-fit : (f : List ℕ) (es : List Entry) (d : Entry) → ((m : ℕ) → m < length es → fits B F (undone B f (take m es)) (getD es m d) ≡ true)
       → historyVerdict B F f es ≡ accepted tt
   unfolding undone
   all-fit f [] d h = history-none B F f
@@ -141,7 +141,7 @@ module _ (B : FrameBook) (F : Format) where
       history-fits B F f e es (h 0 (omega arith)) ∙ fit-refused (before B f e) es d m (omega arith) (λ i j. h (suc i) (omega arith)) q ∙ sym (ap (refused 21) k)
 
   -- ---- the chain: frame j is the one restored to j
-  entry-at : (b : List ℕ) (n m : ℕ) (d : Entry) → m < n → getD (entriesTo F b n) m d ≡ numbered F b (n - m)
+  pub entry-at : (b : List ℕ) (n m : ℕ) (d : Entry) → m < n → getD (entriesTo F b n) m d ≡ numbered F b (n - m)
   unfolding entriesTo
   entry-at b zero m d h = absurd (omega arith)
   entry-at b (suc n) zero d h = let k : suc n - 0 ≡ suc n = omega arith in rw k

@@ -84,7 +84,7 @@ entry-tells B F b j d v h = entry-answers B F b (suc j) v (omega arith) h ∙ ap
 
 module _ (B : FrameBook) (F : Format) (L : Lawful B F) where
   module _ (b : List ℕ) (y : Bytes b) (j : recordVerdict B F b ≡ accepted tt) where
-    restored-long : (k : ℕ) → length (restored B F b k) ≡ lengthIn b
+    pub restored-long : (k : ℕ) → length (restored B F b k) ≡ lengthIn b
     restored-long k =
         let f = restored B F b 0 in
         let h = map correctionOf (entriesIn F b) in
