@@ -10,3 +10,5 @@ pub mod WalkLaws
 pub mod HeadLaws
 pub mod Acceptance
 pub mod Figures
+pub mod FaultLaws
+pub mod Refusals
