@@ -12,3 +12,7 @@ pub mod Acceptance
 pub mod Figures
 pub mod FaultLaws
 pub mod Refusals
+pub mod ClassLaws
+pub mod Moves
+pub mod TreeMoves
+pub mod Tree
