@@ -6,7 +6,7 @@ use mathlib.Core.List.{List, [], _∷_, _++_, append-assoc}
 use mathlib.Core.Bool.{Bool, true, false, _&&_, true≢false}
 use mathlib.Core.Option.{Option, none, some}
 use native.Mathlib.Omega.{arith}
-use lib.Dec.{leb, eqb}
+use lib.Dec.{T, leb, eqb}
 use lib.ListN.{length, getD, take, drop, length-append, length-drop, take-append-drop}
 use lib.Seq.{drop-cons}
 use borrow.Author.Tests.{leb-true, leb-false, eqb-true, eqb-false}
@@ -31,6 +31,14 @@ one-first Broken m n f g = go (leb m n) refl (leb n m) refl
     go true e true h = omega (arith, leb-true)
     go true e false h = absurd (g .earlier m (omega (arith, leb-false)) (f .broken))
     go false e c h = absurd (f .earlier n (omega (arith, leb-false)) (g .broken))
+
+-- a rule from the one in question on is not asked
+no : {A : Type 0} {m n : ℕ} → T (leb n m) → m < n → A
+no {A} {m} {n} t l = go (leb n m) refl t
+  where
+    go : (b : Bool) → leb n m ≡ b → T b → A
+    go true e t = absurd (omega (arith, leb-true))
+    go false e t = absurd t
 
 -- ---- rules 1 to 5
 
@@ -98,15 +106,15 @@ module _ (s : List ℕ) where
       go : (t₁ : Bool) → lengthFits (length s) ≡ t₁ → (t₂ : Bool) → startFits (wordAt s 0) ≡ t₂ → (t₃ : Bool) → eqb (wordAt s 1) (length s) ≡ t₃
           → (t₄ : Bool) → leb (wordAt s 2) 0x0100 ≡ t₄ → (t₅ : Bool) → eqb (wordAt s (lastOf s)) 0x000F ≡ t₅ → HeadJudged s
       go false e₁ t₂ e₂ t₃ e₃ t₄ e₄ t₅ e₅ =
-          faulty 0 (rw e₁) (record { broken = length-broken e₁; earlier = head-holds 1 (λ l. absurd (omega arith)) (λ l. absurd (omega arith)) (λ l. absurd (omega arith)) (λ l. absurd (omega arith)) (λ l. absurd (omega arith)) })
+          faulty 0 (rw e₁) (record { broken = length-broken e₁; earlier = head-holds 1 (no tt) (no tt) (no tt) (no tt) (no tt) })
       go true e₁ false e₂ t₃ e₃ t₄ e₄ t₅ e₅ =
-          faulty 1 (rw (e₁, e₂)) (record { broken = start-broken e₂; earlier = head-holds 2 (λ l. e₁) (λ l. absurd (omega arith)) (λ l. absurd (omega arith)) (λ l. absurd (omega arith)) (λ l. absurd (omega arith)) })
+          faulty 1 (rw (e₁, e₂)) (record { broken = start-broken e₂; earlier = head-holds 2 (λ l. e₁) (no tt) (no tt) (no tt) (no tt) })
       go true e₁ true e₂ false e₃ t₄ e₄ t₅ e₅ =
-          faulty 2 (rw (e₁, e₂, e₃)) (record { broken = otherSize (eqb-false (wordAt s 1) (length s) e₃); earlier = head-holds 3 (λ l. e₁) (λ l. e₂) (λ l. absurd (omega arith)) (λ l. absurd (omega arith)) (λ l. absurd (omega arith)) })
+          faulty 2 (rw (e₁, e₂, e₃)) (record { broken = otherSize (eqb-false (wordAt s 1) (length s) e₃); earlier = head-holds 3 (λ l. e₁) (λ l. e₂) (no tt) (no tt) (no tt) })
       go true e₁ true e₂ true e₃ false e₄ t₅ e₅ =
-          faulty 3 (rw (e₁, e₂, e₃, e₄)) (record { broken = highSequence (leb-false (wordAt s 2) 0x0100 e₄); earlier = head-holds 4 (λ l. e₁) (λ l. e₂) (λ l. e₃) (λ l. absurd (omega arith)) (λ l. absurd (omega arith)) })
+          faulty 3 (rw (e₁, e₂, e₃, e₄)) (record { broken = highSequence (leb-false (wordAt s 2) 0x0100 e₄); earlier = head-holds 4 (λ l. e₁) (λ l. e₂) (λ l. e₃) (no tt) (no tt) })
       go true e₁ true e₂ true e₃ true e₄ false e₅ =
-          faulty 4 (rw (e₁, e₂, e₃, e₄, e₅)) (record { broken = noEnd (eqb-false (wordAt s (lastOf s)) 0x000F e₅); earlier = head-holds 5 (λ l. e₁) (λ l. e₂) (λ l. e₃) (λ l. e₄) (λ l. absurd (omega arith)) })
+          faulty 4 (rw (e₁, e₂, e₃, e₄, e₅)) (record { broken = noEnd (eqb-false (wordAt s (lastOf s)) 0x000F e₅); earlier = head-holds 5 (λ l. e₁) (λ l. e₂) (λ l. e₃) (λ l. e₄) (no tt) })
       go true e₁ true e₂ true e₃ true e₄ true e₅ =
           fine (rw (e₁, e₂, e₃, e₄, e₅)) (λ m b. let l = head-number s m b .1 in head-holds 6 (λ l. e₁) (λ l. e₂) (λ l. e₃) (λ l. e₄) (λ l. e₅) m (omega arith) b)
 
@@ -208,12 +216,12 @@ module _ (s : List ℕ) (bs : Bytes s) (q : List Item) (p : ℕ) (l : p < lastOf
             (λ m b. let h = item-number s q p m b .1 in item-holds 11 (λ l. a) (λ l. r) (λ l. pl) (λ l. (x, t, v)) (λ l. (x, t, o)) m (omega arith) b)
         by-value true v false o =
             faulty 10 (rw (t, placed, v, o))
-            (record { broken = disordered x (read-token x t .0) v o; earlier = item-holds 10 (λ l. a) (λ l. r) (λ l. pl) (λ l. (x, t, v)) (λ l. absurd (omega arith)) })
+            (record { broken = disordered x (read-token x t .0) v o; earlier = item-holds 10 (λ l. a) (λ l. r) (λ l. pl) (λ l. (x, t, v)) (no tt) })
         by-value false v d o =
             faulty 9 (rw (t, placed, v))
             (record {
               broken = misvalued (λ y e g. true≢false (sym g ∙ ap (value (cardIn s) q) (whole-item y x (sym (the-token y e g) ∙ t)) ∙ v));
-              earlier = item-holds 9 (λ l. a) (λ l. r) (λ l. pl) (λ l. absurd (omega arith)) (λ l. absurd (omega arith));
+              earlier = item-holds 9 (λ l. a) (λ l. r) (λ l. pl) (no tt) (no tt);
             })
 
     -- words in their place that are no item's
@@ -223,7 +231,7 @@ module _ (s : List ℕ) (bs : Bytes s) (q : List Item) (p : ℕ) (l : p < lastOf
         faulty 9 (rw (t, pl))
         (record {
           broken = misvalued (λ y e g. no-whole (classOf (wordAt s p)) y (sym t ∙ the-token y e g));
-          earlier = item-holds 9 (λ l. a) (λ l. r) (λ l. pl) (λ l. absurd (omega arith)) (λ l. absurd (omega arith));
+          earlier = item-holds 9 (λ l. a) (λ l. r) (λ l. pl) (no tt) (no tt);
         })
 
   -- words out of their place
@@ -244,16 +252,16 @@ module _ (s : List ℕ) (bs : Bytes s) (q : List Item) (p : ℕ) (l : p < lastOf
       by-place (some x) t a r true e = whole-judged a r e x t
       by-place o t a r false e =
           faulty 8 (misplaced-check o t e)
-          (record { broken = misplaced e; earlier = item-holds 8 (λ l. a) (λ l. r) (λ l. absurd (omega arith)) (λ l. absurd (omega arith)) (λ l. absurd (omega arith)) })
+          (record { broken = misplaced e; earlier = item-holds 8 (λ l. a) (λ l. r) (no tt) (no tt) (no tt) })
 
       by-class : (b : Bool) → assigned (classOf (wordAt s p)) ≡ b → (d : Bool) → leb (afterAt s p) (length (left s p)) ≡ d → ItemJudged s q p
       by-class false a d r =
           faulty 6 (rw a)
-          (record { broken = noClass (none-of _ a); earlier = item-holds 6 (λ l. absurd (omega arith)) (λ l. absurd (omega arith)) (λ l. absurd (omega arith)) (λ l. absurd (omega arith)) (λ l. absurd (omega arith)) })
+          (record { broken = noClass (none-of _ a); earlier = item-holds 6 (no tt) (no tt) (no tt) (no tt) (no tt) })
       by-class true a false r =
           let h : length (left s p) < afterAt s p = leb-false (afterAt s p) (length (left s p)) r in
           faulty 7 (rw (a, r))
-          (record { broken = cut (omega (arith, room)); earlier = item-holds 7 (λ l. a) (λ l. absurd (omega arith)) (λ l. absurd (omega arith)) (λ l. absurd (omega arith)) (λ l. absurd (omega arith)) })
+          (record { broken = cut (omega (arith, room)); earlier = item-holds 7 (λ l. a) (no tt) (no tt) (no tt) (no tt) })
       by-class true a true r =
           let h : afterAt s p ≤ length (left s p) = leb-true (afterAt s p) (length (left s p)) r in
           by-place (decode (classOf (wordAt s p)) (wordAt s p) (take (afterAt s p) (left s p))) (rw (a, r)) a (omega (arith, room))
@@ -295,7 +303,8 @@ module _ (kind : Kind) (card : ℕ) where
   walk-stops (suc k) q at [] n p l b e = let z : _≡_ {A = ℕ} 0 1 = cc in absurd (omega arith)
   walk-stops (suc k) q at (w ∷ ws) n p l b e =
       go (check kind card q (tokenOf w ws)) refl
-      (λ x r. walk-stops k (x ∷ q) (at + length (wordsOf x)) (drop (after (classOf w) w) ws) n p (omega (arith, shorter (after (classOf w) w) ws)) (below-drop (after (classOf w) w) ws 65536 (λ i. b (suc i))) r)
+      (λ x r. walk-stops k (x ∷ q) (at + length (wordsOf x)) (drop (after (classOf w) w) ws) n p (omega (arith, shorter (after (classOf w) w) ws))
+      (below-drop (after (classOf w) w) ws 65536 (λ i. b (suc i))) r)
     where
       shorter : (k : ℕ) (l : List ℕ) → length (drop k l) ≤ length l
       shorter zero l = omega arith
@@ -320,7 +329,10 @@ module _ (kind : Kind) (card : ℕ) where
             sound = (a, s .sound);
             word = s .word;
             rest = s .rest;
-            written = ap (λ (l : List ℕ). w ∷ l) (sym (take-append-drop (after (classOf w) w) ws)) ∙ ap₂ _++_ (d .words) (s .written) ∙ sym (append-assoc (wordsOf x) (allWords (s .items)) (s .word ∷ s .rest));
+            written =
+                ap (λ (l : List ℕ). w ∷ l) (sym (take-append-drop (after (classOf w) w) ws))
+                ∙ ap₂ _++_ (d .words) (s .written)
+                ∙ sym (append-assoc (wordsOf x) (allWords (s .items)) (s .word ∷ s .rest));
             reach = s .reach ∙ omega (arith, length-append (wordsOf x) (allWords (s .items)));
             checked = s .checked;
           }

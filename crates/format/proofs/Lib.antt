@@ -14,5 +14,6 @@ pub mod FaultLaws
 pub mod Refusals
 pub mod ClassLaws
 pub mod Moves
+pub mod SoundMoves
 pub mod TreeMoves
 pub mod Tree

@@ -1,23 +1,21 @@
--- The rules of place, value and order as moves from state to state, item by item: what is sound after some items is what moves lead through from
--- the state that they leave.
+-- The rules of place, value and order as moves from state to state, item by item: a move is allowed, and leads to the state that the items then
+-- leave.
 -- Assumes nothing.
 use Prim.Native.Nat.{ℕ, suc, _+_, _*_, _<_, _≤_}
 use mathlib.Core.Path.{_≡_, refl, sym, ap, subst, _∙_}
 use mathlib.Core.List.{List, [], _∷_}
-use mathlib.Core.Bool.{Bool, true, false, not, _&&_, _||_, true≢false}
-use mathlib.Core.Logic.{inl, inr}
+use mathlib.Core.Logic.{_↔_}
+use mathlib.Core.Bool.{Bool, true, false, _&&_}
 use native.Mathlib.Omega.{arith}
 use lib.Dec.{leb, ltb, eqb}
 use lib.ListN.{length}
-use borrow.Author.Tests.{leb-true, leb-false, eqb-true, le-leb, lt-leb, eq-eqb, ltb-true, ltb-false, not-true}
+use borrow.Author.Tests.{leb-true, leb-false, eqb-true, le-leb, lt-leb, eq-eqb, ltb-true, ltb-false}
 use Rattle.format.specs.Words.{pick}
-use Rattle.format.specs.Book.{Class, channel, histogram, hitCount, sample, bin, lastCell, timeBin, text, startEvent, endEvent}
+use Rattle.format.specs.Book.{Class, channel, histogram, sample, bin, timeBin, startEvent, endEvent}
 use Rattle.format.specs.Items.{Item, Channel, Histogram, HitCount, Sample, Bin, LastCell, TimeBin, Text, StartEvent, EndEvent, classFor, three, wordsOf, inRange, key}
-use Rattle.format.specs.Rules.{Kind, dataKind, monitorKind, commandKind, same, since, count, has, latest, total, gather, channelKey, histogramKey, binNumber, above, inEvent, time, Where, outside, inside, afterChannel, afterTime, afterSample, unheaded, headed, commands, within, whereAfter, allowed, among, place, mayEnd, eventSize, sized, value, order}
-use Rattle.format.specs.Frames.{behind, Allowed, Sound}
-use Rattle.format.specs.Tree.{InRange}
-use Rattle.format.proofs.PrefixLaws.{and-left, and-right, and-both}
-use Rattle.format.proofs.ClassLaws.{isChannel, isHistogram, isHitCount, isSample, isBin, isLastCell, isTimeBin, isText, isStartEvent, isEndEvent, OneOf, one-of}
+use Rattle.format.specs.Rules.{Kind, dataKind, monitorKind, commandKind, same, since, count, has, latest, total, gather, channelKey, histogramKey, binNumber, above, inEvent, time, Where, outside, inside, afterChannel, afterTime, afterSample, unheaded, headed, within, whereAfter, allowed, among, place, eventSize, value, order}
+use Rattle.format.specs.Frames.{Allowed}
+use Rattle.format.proofs.PrefixLaws.{and-left, and-both}
 
 -- ---- the states and the moves
 
@@ -102,6 +100,16 @@ Leaves card p empty = p ≡ []
 Leaves card p (filling m k) = Filled card p m k
 Leaves card p texts = inEvent p ≡ false
 
+-- the rules of time
+pub sample-order : (p : List Item) (v : ℕ) → (order p (Sample v) ≡ true) ↔ (time p ≤ 511)
+sample-order p v = (leb-true (time p) 511, le-leb (time p) 511)
+
+first-bin-order : (p : List Item) (t : ℕ) → has sample (since channel p) ≡ false → order p (TimeBin t) ≡ true
+first-bin-order p t e = rw e
+
+pub next-bin-order : (p : List Item) (t : ℕ) → has sample (since channel p) ≡ true → (order p (TimeBin t) ≡ true) ↔ (time p + 1 ≤ t)
+next-bin-order p t e = (λ o. leb-true (time p + 1) t (rw e at o), λ h. rw e (le-leb (time p + 1) t h))
+
 -- an item that is no End event leaves an event open, and one that is no Start event leaves it shut
 still-open : (p : List Item) (x : Item) → same endEvent (classFor x) ≡ false → inEvent p ≡ true → inEvent (x ∷ p) ≡ true
 unfolding since count
@@ -150,23 +158,34 @@ module _ (card : ℕ) where
   body-event st p m n (free _ _) l = l .event
   body-event st p m n (past _ _ t) l = l .0 .event
 
-  body-kind : (st : State) (m n : ℕ) → Body st m n → kindFor st ≡ dataKind
+  pub body-kind : (st : State) (m n : ℕ) → Body st m n → kindFor st ≡ dataKind
   body-kind st m n (free _ _) = refl
   body-kind st m n (past _ _ t) = refl
 
-  body-allowed : (st : State) (p : List Item) (m n : ℕ) (x : Item) → Body st m n → Leaves card p st → among (classFor x) (allowed inside) ≡ true → among (classFor x) (allowed afterSample) ≡ true
+  body-allowed : (st : State) (p : List Item) (m n : ℕ) (x : Item) → Body st m n → Leaves card p st
+      → among (classFor x) (allowed inside) ≡ true → among (classFor x) (allowed afterSample) ≡ true
       → value card p x ≡ true → order p x ≡ true → Allowed (kindFor st) card p x
   body-allowed st p m n x (free _ _) l e f v o = record { placed = at-place dataKind p inside (classFor x) (l .stands) e; valued = v; ordered = o }
   body-allowed st p m n x (past _ _ t) l e f v o = record { placed = at-place dataKind p afterSample (classFor x) (l .0 .stands) f; valued = v; ordered = o }
 
-  card-of : (a : ℕ) (x y z : Bool) → eqb a card && x && y && z ≡ true → a ≡ card
+  pub card-of : (a : ℕ) (x y z : Bool) → eqb a card && x && y && z ≡ true → a ≡ card
   card-of a x y z e = eqb-true a card (and-left (eqb a card) x (and-left (eqb a card && x) y (and-left (eqb a card && x && y) z e)))
 
-  -- a header above those before it
-  header-above : (a b c m : ℕ) (ks : List ℕ) → a ≡ card → above (key card b c) ks ≡ leb m (three card b c) → m ≤ three a b c → above (key a b c) ks ≡ true
-  header-above a b c m ks e k l = ap (λ (a : ℕ). above (key a b c) ks) e ∙ k ∙ le-leb m (three card b c) (subst (λ (a : ℕ). m ≤ three a b c) e l)
+  -- a header is above those before it exactly where its content is one that may come next
+  header-order : (a b c m : ℕ) (ks : List ℕ) → a ≡ card → above (key card b c) ks ≡ leb m (three card b c) → (above (key a b c) ks ≡ true) ↔ (m ≤ three a b c)
+  header-order a b c m ks e k =
+      let f : above (key a b c) ks ≡ leb m (three a b c) = subst (λ (a : ℕ). above (key a b c) ks ≡ leb m (three a b c)) (sym e) k in
+      (λ h. leb-true m (three a b c) (sym f ∙ h), λ h. f ∙ le-leb m (three a b c) h)
 
-  -- and those above it
+  -- the rules of headers
+  pub channel-order : (p : List Item) (m n a b c : ℕ) → InEvent card p m n → a ≡ card → (order p (Channel a b c) ≡ true) ↔ (m ≤ three a b c)
+  channel-order p m n a b c i e = header-order a b c m (gather channelKey (since startEvent p)) e (i .keys b c)
+
+  pub histogram-order : (p : List Item) (m a b c : ℕ) → ((b c : ℕ) → above (key card b c) (gather histogramKey p) ≡ leb m (three card b c)) → a ≡ card
+      → (order p (Histogram a b c) ≡ true) ↔ (m ≤ three a b c)
+  histogram-order p m a b c k e = header-order a b c m (gather histogramKey p) e (k b c)
+
+  -- and those above a header
   above-header : (a b c m : ℕ) (ks : List ℕ) → a ≡ card → ((b c : ℕ) → above (key card b c) ks ≡ leb m (three card b c)) → m ≤ three a b c
       → (b′ c′ : ℕ) → above (key card b′ c′) (key a b c ∷ ks) ≡ leb (suc (three a b c)) (three card b′ c′)
   unfolding above
@@ -217,7 +236,7 @@ module _ (card : ℕ) where
   unfolding gather above
   empty-keys p e b c = ap (λ (p : List Item). above (key card b c) (gather histogramKey p)) e ∙ sym (le-leb 0 (three card b c) (omega arith))
 
-  empty-shut : (p : List Item) → p ≡ [] → inEvent p ≡ false
+  pub empty-shut : (p : List Item) → p ≡ [] → inEvent p ≡ false
   unfolding since count
   empty-shut p e = ap (λ (p : List Item). inEvent p) e
 
@@ -247,29 +266,29 @@ module _ (card : ℕ) where
   moved p st st′ x l r (opens _ m n a b c d h) =
       let i = body-event st p m n d l in
       let e = card-of a (leb a 31) (leb b 3) (leb c 78) r in (
-        body-allowed st p m n (Channel a b c) d l refl refl (and-both _ _ r refl) (header-above a b c m (gather channelKey (since startEvent p)) e (i .keys b c) h),
+        body-allowed st p m n (Channel a b c) d l refl refl (and-both _ _ r refl) (channel-order p m n a b c i e .1 h),
         (after-channel p m n a b c e h i, refl),
       )
   moved p st st′ x l r (ends _ m n z d h) =
       let i = body-event st p m n d l in
       (body-allowed st p m n (EndEvent z) d l refl refl (and-both _ _ r (eq-eqb z (eventSize p) (omega (arith, i .words)))) refl, refl)
   moved p st st′ x l r (times m n t) = (
-    record { placed = at-place dataKind p afterChannel timeBin (l .0 .stands) refl; valued = and-both _ _ r refl; ordered = ap (λ (b : Bool). not b || leb (time p + 1) t) (l .1) },
+    record { placed = at-place dataKind p afterChannel timeBin (l .0 .stands) refl; valued = and-both _ _ r refl; ordered = first-bin-order p t (l .1) },
     (stays card p m n (TimeBin t) refl refl refl refl (l .0 .event), time-bin p t),
   )
   moved p st st′ x l r (first m n t v h) = (
-    record { placed = at-place dataKind p afterTime sample (l .0 .stands) refl; valued = and-both _ _ r refl; ordered = le-leb (time p) 511 (omega (arith, l .1)) },
+    record { placed = at-place dataKind p afterTime sample (l .0 .stands) refl; valued = and-both _ _ r refl; ordered = sample-order p v .1 (omega (arith, l .1)) },
     (stays card p m n (Sample v) refl refl refl refl (l .0 .event), time-sample p t v (l .1), has-sample p v),
   )
   moved p st st′ x l r (next m n t v h) = (
-    record { placed = at-place dataKind p afterSample sample (l .0 .stands) refl; valued = and-both _ _ r refl; ordered = le-leb (time p) 511 (omega (arith, l .1)) },
+    record { placed = at-place dataKind p afterSample sample (l .0 .stands) refl; valued = and-both _ _ r refl; ordered = sample-order p v .1 (omega (arith, l .1)) },
     (stays card p m n (Sample v) refl refl refl refl (l .0 .event), time-sample p t v (l .1), has-sample p v),
   )
   moved p st st′ x l r (later m n t u h) = (
     record {
       placed = at-place dataKind p afterSample timeBin (l .0 .stands) refl;
       valued = and-both _ _ r refl;
-      ordered = ap (λ (b : Bool). not b || leb (time p + 1) u) (l .2) ∙ le-leb (time p + 1) u (omega (arith, l .1));
+      ordered = next-bin-order p u (l .2) .1 (omega (arith, l .1));
     },
     (stays card p m n (TimeBin u) refl refl refl refl (l .0 .event), time-bin p u),
   )
@@ -279,7 +298,7 @@ module _ (card : ℕ) where
         record {
           placed = at-place monitorKind p unheaded histogram (ap (λ (p : List Item). whereAfter monitorKind p) l) refl;
           valued = and-both _ _ r refl;
-          ordered = header-above a b c 0 (gather histogramKey p) e (k b c) (omega arith);
+          ordered = histogram-order p 0 a b c k e .1 (omega arith);
         },
         after-histogram p 0 a b c e (omega arith) (empty-shut p l) k,
       )
@@ -288,139 +307,10 @@ module _ (card : ℕ) where
         record {
           placed = at-place monitorKind p headed histogram (l .stands) refl;
           valued = and-both _ _ r refl;
-          ordered = header-above a b c m (gather histogramKey p) e (l .keys b c) h;
+          ordered = histogram-order p m a b c (l .keys) e .1 h;
         },
         after-histogram p m a b c e h (l .shut) (l .keys),
       )
   moved p st st′ x l r (fills m k b n h) =
       (record { placed = at-place monitorKind p headed bin (l .stands) refl; valued = and-both _ _ r refl; ordered = l .bins b ∙ le-leb k b h }, after-bin p m k b n h l)
   moved p st st′ x l r (says s) = (record { placed = refl; valued = and-both _ _ r refl; ordered = refl }, still-shut p (Text s) refl l)
-
-  -- ---- an allowed item is a move
-
-  abbrev Moved : State → Item → Type 0
-  Moved st x = (st′ : State) × Move st x st′
-
-  -- the content of an allowed header is one that may come next
-  content-above : (a b c m : ℕ) (ks : List ℕ) → a ≡ card → above (key card b c) ks ≡ leb m (three card b c) → above (key a b c) ks ≡ true → m ≤ three a b c
-  content-above a b c m ks e k o =
-      subst (λ (a : ℕ). m ≤ three a b c) (sym e) (leb-true m (three card b c) (sym k ∙ ap (λ (a : ℕ). above (key a b c) ks) (sym e) ∙ o))
-
-  ranged : (p : List Item) (x : Item) → value card p x ≡ true → inRange card x ≡ true
-  ranged p x v = and-left (inRange card x) (sized p x) v
-
-  body-move : (st : State) (p : List Item) (m n : ℕ) (x : Item) (ds : List Class) → Body st m n → InEvent card p m n → value card p x ≡ true → order p x ≡ true
-      → OneOf (hitCount ∷ lastCell ∷ channel ∷ endEvent ∷ ds) x → (OneOf ds x → Moved st x) → Moved st x
-  body-move st p m n x ds d i v o (inl (isHitCount a b c)) k = (amid m (n + 1), counts st m n a b c d)
-  body-move st p m n x ds d i v o (inr (inl (isLastCell a b))) k = (amid m (n + 1), cells st m n a b d)
-  body-move st p m n x ds d i v o (inr (inr (inl (isChannel a b c)))) k =
-      let e = card-of a (leb a 31) (leb b 3) (leb c 78) (ranged p (Channel a b c) v) in
-      (opened (suc (three a b c)) (n + 1), opens st m n a b c d (content-above a b c m (gather channelKey (since startEvent p)) e (i .keys b c) o))
-  body-move st p m n x ds d i v o (inr (inr (inr (inl (isEndEvent z))))) k =
-      let s = eqb-true z (eventSize p) (and-right (inRange card (EndEvent z)) (eqb z (eventSize p)) v) in
-      (out, ends st m n z d (omega (arith, i .words)))
-  body-move st p m n x ds d i v o (inr (inr (inr (inr h)))) k = k h
-
-  out-move : (x : Item) → OneOf (startEvent ∷ []) x → Moved out x
-  out-move x (inl (isStartEvent t ts n)) = (amid 0 6, starts t ts n)
-  out-move x (inr h) = absurd h
-
-  opened-move : (m n : ℕ) (x : Item) → OneOf (timeBin ∷ []) x → Moved (opened m n) x
-  opened-move m n x (inl (isTimeBin t)) = (timed m (n + 1) t, times m n t)
-  opened-move m n x (inr h) = absurd h
-
-  timed-move : (p : List Item) (m n t : ℕ) (x : Item) → time p ≡ t → order p x ≡ true → OneOf (sample ∷ []) x → Moved (timed m n t) x
-  timed-move p m n t x e o (inl (isSample v)) = let h = leb-true (time p) 511 o in (sampled m (n + 1) (t + 1), first m n t v (omega arith))
-  timed-move p m n t x e o (inr h) = absurd h
-
-  sampled-move : (p : List Item) (m n t : ℕ) (x : Item) → time p ≡ t → has sample (since channel p) ≡ true → order p x ≡ true → OneOf (sample ∷ timeBin ∷ []) x
-      → Moved (sampled m n t) x
-  sampled-move p m n t x e s o (inl (isSample v)) = let h = leb-true (time p) 511 o in (sampled m (n + 1) (t + 1), next m n t v (omega arith))
-  sampled-move p m n t x e s o (inr (inl (isTimeBin u))) =
-      let h = leb-true (time p + 1) u (ap (λ (b : Bool). not b || leb (time p + 1) u) (sym s) ∙ o) in
-      (timed m (n + 1) u, later m n t u (omega arith))
-  sampled-move p m n t x e s o (inr (inr h)) = absurd h
-
-  empty-move : (x : Item) → OneOf (histogram ∷ []) x → Moved empty x
-  empty-move x (inl (isHistogram a b c)) = (filling (suc (three a b c)) 0, heads a b c)
-  empty-move x (inr h) = absurd h
-
-  filling-move : (p : List Item) (m k : ℕ) (x : Item) → Filled card p m k → value card p x ≡ true → order p x ≡ true → OneOf (histogram ∷ bin ∷ []) x → Moved (filling m k) x
-  filling-move p m k x f v o (inl (isHistogram a b c)) =
-      let e = card-of a (leb a 31) (leb b 3) (leb c 78) (ranged p (Histogram a b c) v) in
-      (filling (suc (three a b c)) 0, heads-next m k a b c (content-above a b c m (gather histogramKey p) e (f .keys b c) o))
-  filling-move p m k x f v o (inr (inl (isBin b n))) = (filling m (suc b), fills m k b n (leb-true k b (sym (f .bins b) ∙ o)))
-  filling-move p m k x f v o (inr (inr h)) = absurd h
-
-  texts-move : (x : Item) → OneOf (text ∷ []) x → Moved texts x
-  texts-move x (inl (isText s)) = (texts, says s)
-  texts-move x (inr h) = absurd h
-
-  in-place : (kind : Kind) (p : List Item) (w : Where) (x : Item) → whereAfter kind p ≡ w → place kind p (classFor x) ≡ true → OneOf (allowed w) x
-  in-place kind p w x e h = one-of (allowed w) x (ap (λ (w : Where). among (classFor x) (allowed w)) (sym e) ∙ h)
-
-  pub move-of : (p : List Item) (st : State) (x : Item) → Leaves card p st → Allowed (kindFor st) card p x → Moved st x
-  move-of p out x l a = out-move x (in-place dataKind p outside x (ap (λ (b : Bool). pick b (within (latest p)) outside) l) (a .placed))
-  move-of p (amid m n) x l a =
-      body-move (amid m n) p m n x [] (free m n) (l .event) (a .valued) (a .ordered) (in-place dataKind p inside x (l .stands) (a .placed)) (λ h. absurd h)
-  move-of p (opened m n) x l a = opened-move m n x (in-place dataKind p afterChannel x (l .0 .stands) (a .placed))
-  move-of p (timed m n t) x l a = timed-move p m n t x (l .1) (a .ordered) (in-place dataKind p afterTime x (l .0 .stands) (a .placed))
-  move-of p (sampled m n t) x l a =
-      body-move (sampled m n t) p m n x (sample ∷ timeBin ∷ []) (past m n t) (l .0 .event) (a .valued) (a .ordered)
-      (in-place dataKind p afterSample x (l .0 .stands) (a .placed)) (sampled-move p m n t x (l .1) (l .2) (a .ordered))
-  move-of p empty x l a = empty-move x (in-place monitorKind p unheaded x (ap (λ (p : List Item). whereAfter monitorKind p) l) (a .placed))
-  move-of p (filling m k) x l a = filling-move p m k x l (a .valued) (a .ordered) (in-place monitorKind p headed x (l .stands) (a .placed))
-  move-of p texts x l a = texts-move x (in-place commandKind p commands x refl (a .placed))
-
-  -- ---- whole lists
-
-  -- a move stays in the frame's kind
-  same-kind : (st st′ : State) (x : Item) → Move st x st′ → kindFor st ≡ kindFor st′
-  same-kind st st′ x (starts t ts n) = refl
-  same-kind st st′ x (counts _ m n a b c d) = body-kind st m n d
-  same-kind st st′ x (cells _ m n a b d) = body-kind st m n d
-  same-kind st st′ x (opens _ m n a b c d h) = body-kind st m n d
-  same-kind st st′ x (ends _ m n z d h) = body-kind st m n d
-  same-kind st st′ x (times m n t) = refl
-  same-kind st st′ x (first m n t v h) = refl
-  same-kind st st′ x (next m n t v h) = refl
-  same-kind st st′ x (later m n t u h) = refl
-  same-kind st st′ x (heads a b c) = refl
-  same-kind st st′ x (heads-next m k a b c h) = refl
-  same-kind st st′ x (fills m k b n h) = refl
-  same-kind st st′ x (says s) = refl
-
-  -- the items may end exactly in a final state
-  may-end : (st : State) (p : List Item) → Leaves card p st → Final st → mayEnd p ≡ true
-  may-end st p l at-out = ap not l
-  may-end st p l at-empty = ap not (empty-shut p l)
-  may-end st p l (at-filling m k) = ap not (l .shut)
-  may-end st p l at-texts = ap not l
-
-  final-of : (st : State) (p : List Item) → Leaves card p st → mayEnd p ≡ true → Final st
-  final-of out p l e = at-out
-  final-of (amid m n) p l e = absurd (true≢false (sym (l .event .opened) ∙ not-true _ e))
-  final-of (opened m n) p l e = absurd (true≢false (sym (l .0 .event .opened) ∙ not-true _ e))
-  final-of (timed m n t) p l e = absurd (true≢false (sym (l .0 .event .opened) ∙ not-true _ e))
-  final-of (sampled m n t) p l e = absurd (true≢false (sym (l .0 .event .opened) ∙ not-true _ e))
-  final-of empty p l e = at-empty
-  final-of (filling m k) p l e = at-filling m k
-  final-of texts p l e = at-texts
-
-  pub sound-moves : (xs p : List Item) (st : State) → Leaves card p st → Sound (kindFor st) card p xs → mayEnd (behind p xs) ≡ true → Moves st xs × InRange card xs
-  unfolding Sound behind InRange
-  sound-moves [] p st l s e = (done st (final-of st p l e), tt)
-  sound-moves (x ∷ xs) p st l s e =
-      let (st′, mv) = move-of p st x l (s .0) in
-      let r = ranged p x (s .0 .valued) in
-      let l′ = moved p st st′ x l r mv .1 in
-      let h = sound-moves xs (x ∷ p) st′ l′ (subst (λ (k : Kind). Sound k card (x ∷ p) xs) (same-kind st st′ x mv) (s .1)) e in
-      (move st st′ x xs mv (h .0), (r, h .1))
-
-  pub moves-sound : (xs : List Item) (st : State) → Moves st xs → (p : List Item) → Leaves card p st → InRange card xs → Sound (kindFor st) card p xs × (mayEnd (behind p xs) ≡ true)
-  unfolding Sound behind InRange
-  moves-sound xs st (done _ f) p l r = (tt, may-end st p l f)
-  moves-sound xs st (move _ st′ x ys mv ms) p l r =
-      let (a, l′) = moved p st st′ x l (r .0) mv in
-      let h = moves-sound ys st′ ms (x ∷ p) l′ (r .1) in
-      ((a, subst (λ (k : Kind). Sound k card (x ∷ p) ys) (sym (same-kind st st′ x mv)) (h .0)), h .1)

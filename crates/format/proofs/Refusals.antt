@@ -1,13 +1,13 @@
 -- T6 one reading; T7 every refusal with its number and place, exactly; T8 one answer; T9 the words after an item are data; T37 bounds of places;
 -- and that there are legal frames of each kind.
 -- Assumes nothing.
-use Prim.Native.Nat.{ℕ, suc, _+_, _-_, _/_, _<_, _≤_}
+use Prim.Native.Nat.{ℕ, suc, _+_, _-_, _*_, _/_, _%_, _<_, _≤_}
 use mathlib.Core.Path.{_≡_, refl, sym, ap, ap₂, subst, _∙_}
 use mathlib.Core.List.{List, [], _∷_, _++_, map, append-assoc, append-nil}
 use mathlib.Core.Bool.{Bool, true, false}
 use mathlib.Core.Logic.{_↔_}
 use native.Mathlib.Omega.{arith}
-use borrow.Author.Tests.{ne-eqb}
+use borrow.Author.Tests.{ne-eqb, le-leb, lt-ltb}
 use lib.ListN.{length, drop, length-drop}
 use lib.Seq.{drop-at, drop-drop}
 use Rattle.format.specs.Words.{pick, Bytes, words, bytes, wordAt, nonZero, allZero}
@@ -20,6 +20,7 @@ use Rattle.format.specs.Frames.{Frame, behind, Sound, allWords, frameWor
 use Rattle.format.specs.Questions.{events, pickNth, eventAt}
 use Rattle.format.specs.Figures.{pedestal}
 use Rattle.format.specs.Faults.{HeadBroken, ItemBroken, First, Refused, ofHead, ofItem, ofEnd}
+use Rattle.format.proofs.PrefixLaws.{and-both}
 use Rattle.format.proofs.WordLaws.{below-drop}
 use Rattle.format.proofs.ItemLaws.{read-written}
 use Rattle.format.proofs.WalkLaws.{walk-sound, walk-complete, walk-bad, passes, allowed-fits}
@@ -224,6 +225,17 @@ items-only s bs f e =
     ∙ alone (kindIn s) (cardIn s) [] (w .items) [] (w .sound)
     ∙ append-nil (map whole (w .items))
     ∙ ap (map whole) (sym (in-order (w .items)) ∙ ap (behind []) (sym (w .earlier)) ∙ ap (λ (g : Frame). g .items) (j .ended .frame))
+
+-- 00F1 in a Bin's count, where it looks like a Start event
+pub bin-count : (b high : ℕ) (rest : List ℕ) → b ≤ 4095 → high < 65536
+    → tokens 0 ((0x2000 + b) ∷ 0x00F1 ∷ high ∷ rest) ≡ whole (Bin b (0x00F1 + 65536 * high)) ∷ tokens 0 rest
+unfolding wordsOf
+bin-count b high rest h k =
+    let n : ℕ = 0x00F1 + 65536 * high in
+    let low : 0x00F1 ≡ n % 65536 = omega arith in
+    let up : high ≡ n / 65536 = omega arith in
+    ap₂ (λ (u v : ℕ). tokens 0 ((0x2000 + b) ∷ u ∷ v ∷ rest)) low up
+    ∙ read-written (Bin b n) rest (and-both _ _ (le-leb b 4095 h) (lt-ltb n 4294967296 (omega arith)))
 
 -- a Bin opens no event, whatever its count
 pub no-event : (at b n : ℕ) (xs : List Item) → events at (Bin b n ∷ xs) ≡ events (at + 3) xs

@@ -10,9 +10,10 @@ use native.Mathlib.Omega.{arith}
 use Rattle.format.specs.Book.{Class, sample, bin, timeBin}
 use Rattle.format.specs.Items.{Item, Channel, HitCount, LastCell, EndEvent}
 use Rattle.format.specs.Rules.{Kind, dataKind, monitorKind, commandKind, same, since, count, latest, mayEnd}
-use Rattle.format.specs.Frames.{behind, Sound}
+use Rattle.format.specs.Frames.{Frame, behind, Sound, Legal}
 use Rattle.format.specs.Tree.{Run, run, Part, hits, cell, pulse, Event, event, Bar, bar, Pedestal, pedestal, Tree, ofSamples, ofRuns, ofParts, ofEvents, ofBars, ofPedestals, ofTexts, leaves, Shaped, InRange, Lawful}
-use Rattle.format.proofs.Moves.{State, out, empty, texts, kindFor, Leaves, Moves, sound-moves, moves-sound}
+use Rattle.format.proofs.Moves.{State, out, empty, texts, kindFor, Leaves, Moves}
+use Rattle.format.proofs.SoundMoves.{sound-moves, moves-sound}
 use Rattle.format.proofs.TreeMoves.{events-moves, monitor-moves, texts-moves, build}
 
 -- ---- no two trees have the same leaves: each level ends where an item of another class begins
@@ -40,7 +41,8 @@ unfolding ofRuns
 runs-off [] xs o = o
 runs-off (run t v vs ∷ rs) xs o = refl
 
-same-runs : (rs rs′ : List Run) (xs xs′ : List Item) → Off sample xs → Off sample xs′ → Off timeBin xs → Off timeBin xs′ → ofRuns rs xs ≡ ofRuns rs′ xs′ → (rs ≡ rs′) × (xs ≡ xs′)
+same-runs : (rs rs′ : List Run) (xs xs′ : List Item) → Off sample xs → Off sample xs′ → Off timeBin xs → Off timeBin xs′
+    → ofRuns rs xs ≡ ofRuns rs′ xs′ → (rs ≡ rs′) × (xs ≡ xs′)
 unfolding ofRuns
 same-runs [] [] xs xs′ o o′ t t′ e = (refl, e)
 same-runs [] (run u v vs ∷ rs′) xs xs′ o o′ t t′ e = differ timeBin xs _ t refl e
@@ -203,3 +205,7 @@ as-tree kind card xs = (
   λ h. tree-of kind card xs (h .0) (h .1),
   λ h. subst (λ (l : List Item). Sound kind card [] l × (mayEnd (behind [] l) ≡ true)) (h .leaves-are) (of-tree kind card (h .tree) (h .lawful)),
 )
+
+-- so the items of every legal frame are a lawful tree's
+pub frame-tree : (f : Frame) → Legal f → TreeOf (f .kind) (f .card) (f .items)
+frame-tree f l = tree-of (f .kind) (f .card) (f .items) (l .sound) (l .ended)

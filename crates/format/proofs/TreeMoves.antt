@@ -72,12 +72,13 @@ parts-moves (cell a₁ a₂ ∷ ps) st m n z xs b s r e k =
 parts-moves (pulse a₁ a₂ a₃ (run t v vs) rs ∷ ps) st m n z xs b s r e k =
     let m′ : ℕ = suc (three a₁ a₂ a₃) in
     let tail : List Item = ofParts ps (EndEvent z ∷ []) in
+    let counted : List Item = Sample v ∷ ofSamples vs (ofRuns rs tail) in
     move _ _ _ _ (opens st m n a₁ a₂ a₃ b (r .0))
     (move _ _ _ _ (times m′ (n + 1) t)
     (run-moves v vs m′ (n + 1 + 1) t (ofRuns rs (ofParts ps (EndEvent z ∷ xs))) (s .0 .1)
     (λ n′ t′ h f. runs-moves rs m′ n′ t′ (ofParts ps (EndEvent z ∷ xs)) (subst (λ (k : ℕ). Spaced k rs) (omega arith) (s .0 .2))
     (λ n″ t″ g. parts-moves ps (sampled m′ n″ t″) m′ n″ z xs (past m′ n″ t″) (s .1) (r .1)
-    (omega (arith, e, g tail, f (ofRuns rs tail), one-word (TimeBin t) (Sample v ∷ ofSamples vs (ofRuns rs tail)) refl, one-word (Channel a₁ a₂ a₃) (TimeBin t ∷ Sample v ∷ ofSamples vs (ofRuns rs tail)) refl)) k))))
+    (omega (arith, e, g tail, f (ofRuns rs tail), one-word (TimeBin t) counted refl, one-word (Channel a₁ a₂ a₃) (TimeBin t ∷ counted) refl)) k))))
 
 pub events-moves : (es : List Event) → AllEvents es → Moves out (ofEvents es)
 unfolding ofEvents AllEvents wordsOf
@@ -206,6 +207,7 @@ channel-part m n a b c xs l h =
     let f = r .runs in
     let tail : List Item = ofParts (f .parts) (EndEvent (f .size) ∷ []) in
     let counted : List Item = ofSamples (f .samples) (ofRuns (f .runs) tail) in
+    let sampled : List Item = Sample (r .sample) ∷ counted in
     record {
       parts = pulse a b c (run (h .start) (r .sample) (f .samples)) (f .runs) ∷ f .parts;
       size = f .size;
@@ -213,9 +215,12 @@ channel-part m n a b c xs l h =
       spaced = ((omega arith, omega (arith, f .fits), subst (λ (k : ℕ). Spaced k (f .runs)) (omega arith) (f .apart)), f .spaced);
       rising = (l, f .rising);
       sized =
-          omega (arith, f .sized, one-word (Sample (r .sample)) counted refl, one-word (TimeBin (h .start)) (Sample (r .sample) ∷ counted) refl, one-word (Channel a b c) (TimeBin (h .start) ∷ Sample (r .sample) ∷ counted) refl);
+          omega (arith, f .sized, one-word (Sample (r .sample)) counted refl, one-word (TimeBin (h .start)) sampled refl, one-word (Channel a b c) (TimeBin (h .start) ∷ sampled) refl);
       lawful = f .lawful;
-      leaves = ap (λ (l : List Item). Channel a b c ∷ TimeBin (h .start) ∷ Sample (r .sample) ∷ l) (f .leaves) ∙ ap (λ (l : List Item). Channel a b c ∷ TimeBin (h .start) ∷ l) (r .here) ∙ ap (λ (l : List Item). Channel a b c ∷ l) (h .here);
+      leaves =
+          ap (λ (l : List Item). Channel a b c ∷ TimeBin (h .start) ∷ Sample (r .sample) ∷ l) (f .leaves)
+          ∙ ap (λ (l : List Item). Channel a b c ∷ TimeBin (h .start) ∷ l) (r .here)
+          ∙ ap (λ (l : List Item). Channel a b c ∷ l) (h .here);
     }
 
 -- a Time bin after a sample begins a further run
