@@ -29,3 +29,10 @@ pub mod StandLaws
 pub mod FindLaws
 pub mod FillQuestions
 pub mod Questions
+pub mod FaultLaws
+pub mod Refusals
+pub mod ClassLaws
+pub mod Moves
+pub mod SoundMoves
+pub mod TreeMoves
+pub mod Tree

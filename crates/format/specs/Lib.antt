@@ -11,3 +11,5 @@ pub mod Figures
 pub mod Steps
 pub mod Table
 pub mod Stands
+pub mod Faults
+pub mod Tree

@@ -1,0 +1,140 @@
+-- A frame's items as a tree: a second writing of place, order and the event's size, apart from the one in Rules (document 01, "Shape of a
+-- frame"). That the two say the same is proved in proofs/Tree.
+-- Assumes nothing.
+use Prim.Native.Nat.{ℕ, suc, _+_, _*_, _≤_}
+use mathlib.Core.Path.{_≡_}
+use mathlib.Core.List.{List, [], _∷_}
+use mathlib.Core.Bool.{true}
+use lib.ListN.{length}
+use Rattle.format.specs.Items.{Item, Channel, Histogram, HitCount, Sample, Bin, LastCell, TimeBin, Text, StartEvent, EndEvent, three, inRange}
+use Rattle.format.specs.Rules.{Kind, dataKind, monitorKind, commandKind}
+use Rattle.format.specs.Frames.{allWords}
+
+-- ---- trees
+
+-- a Time bin with its samples: the time, the first sample, the further ones
+pub data Run : Type 0 where
+  run : ℕ → ℕ → List ℕ → Run
+
+-- what stands in an event, in any order
+pub data Part : Type 0 where
+  -- a Hit count: card, chip, count
+  hits : ℕ → ℕ → ℕ → Part
+  -- a Last cell: chip, cell
+  cell : ℕ → ℕ → Part
+  -- a Channel (card, chip, channel) with its first run and the further ones
+  pulse : ℕ → ℕ → ℕ → Run → List Run → Part
+
+-- a Start event (type, timestamp, number), the parts, and the size that the End event gives
+pub data Event : Type 0 where
+  event : ℕ → ℕ → ℕ → List Part → ℕ → Event
+
+-- a bin with its count
+pub data Bar : Type 0 where
+  bar : ℕ → ℕ → Bar
+
+-- a Histogram (card, chip, channel) with its bins
+pub data Pedestal : Type 0 where
+  pedestal : ℕ → ℕ → ℕ → List Bar → Pedestal
+
+abbrev pub Tree : Kind → Type 0
+Tree dataKind = List Event
+Tree monitorKind = List Pedestal
+Tree commandKind = List (List ℕ)
+
+-- ---- their leaves, each time before the items xs
+
+unfoldable pub ofSamples : List ℕ → List Item → List Item
+ofSamples [] xs = xs
+ofSamples (v ∷ vs) xs = Sample v ∷ ofSamples vs xs
+
+unfoldable pub ofRuns : List Run → List Item → List Item
+ofRuns [] xs = xs
+ofRuns (run t v vs ∷ rs) xs = TimeBin t ∷ Sample v ∷ ofSamples vs (ofRuns rs xs)
+
+unfoldable pub ofParts : List Part → List Item → List Item
+ofParts [] xs = xs
+ofParts (hits a b c ∷ ps) xs = HitCount a b c ∷ ofParts ps xs
+ofParts (cell a b ∷ ps) xs = LastCell a b ∷ ofParts ps xs
+ofParts (pulse a b c r rs ∷ ps) xs = Channel a b c ∷ ofRuns (r ∷ rs) (ofParts ps xs)
+
+unfoldable pub ofEvents : List Event → List Item
+ofEvents [] = []
+ofEvents (event t ts n ps z ∷ es) = StartEvent t ts n ∷ ofParts ps (EndEvent z ∷ ofEvents es)
+
+unfoldable pub ofBars : List Bar → List Item → List Item
+ofBars [] xs = xs
+ofBars (bar b n ∷ bs) xs = Bin b n ∷ ofBars bs xs
+
+unfoldable pub ofPedestals : List Pedestal → List Item
+ofPedestals [] = []
+ofPedestals (pedestal a b c bs ∷ hs) = Histogram a b c ∷ ofBars bs (ofPedestals hs)
+
+unfoldable pub ofTexts : List (List ℕ) → List Item
+ofTexts [] = []
+ofTexts (s ∷ ss) = Text s ∷ ofTexts ss
+
+abbrev pub leaves : (kind : Kind) → Tree kind → List Item
+leaves dataKind es = ofEvents es
+leaves monitorKind hs = ofPedestals hs
+leaves commandKind ss = ofTexts ss
+
+-- ---- lawful trees
+
+-- the numbers rise, from m on
+unfoldable pub Rising : ℕ → List ℕ → Type 0
+Rising m [] = Unit {0}
+Rising m (k ∷ ks) = (m ≤ k) × Rising (suc k) ks
+
+-- a channel's runs, the first at time m or later: "none after 511", and a later one "at least 2 above the last sample's time"
+unfoldable pub Spaced : ℕ → List Run → Type 0
+Spaced m [] = Unit {0}
+Spaced m (run t v vs ∷ rs) = (m ≤ t) × (t + length vs ≤ 511) × Spaced (t + length vs + 2) rs
+
+unfoldable pub AllSpaced : List Part → Type 0
+AllSpaced [] = Unit {0}
+AllSpaced (hits a b c ∷ ps) = AllSpaced ps
+AllSpaced (cell a b ∷ ps) = AllSpaced ps
+AllSpaced (pulse a b c r rs ∷ ps) = Spaced 0 (r ∷ rs) × AllSpaced ps
+
+-- the 14-bit contents of an event's Channel headers
+unfoldable pub channels : List Part → List ℕ
+channels [] = []
+channels (hits a b c ∷ ps) = channels ps
+channels (cell a b ∷ ps) = channels ps
+channels (pulse a b c r rs ∷ ps) = three a b c ∷ channels ps
+
+-- the bytes of an event, "from its Start event word to the end of its End event item"
+abbrev pub eventBytes : Event → ℕ
+eventBytes (event t ts n ps z) = 2 * length (allWords (StartEvent t ts n ∷ ofParts ps (EndEvent z ∷ [])))
+
+unfoldable pub AllEvents : List Event → Type 0
+AllEvents [] = Unit {0}
+AllEvents (event t ts n ps z ∷ es) = AllSpaced ps × Rising 0 (channels ps) × (z ≡ eventBytes (event t ts n ps z)) × AllEvents es
+
+unfoldable pub binNumbers : List Bar → List ℕ
+binNumbers [] = []
+binNumbers (bar b n ∷ bs) = b ∷ binNumbers bs
+
+-- the 14-bit contents of the Histogram headers
+unfoldable pub histograms : List Pedestal → List ℕ
+histograms [] = []
+histograms (pedestal a b c bs ∷ hs) = three a b c ∷ histograms hs
+
+unfoldable pub AllBars : List Pedestal → Type 0
+AllBars [] = Unit {0}
+AllBars (pedestal a b c bs ∷ hs) = Rising 0 (binNumbers bs) × AllBars hs
+
+abbrev pub Shaped : (kind : Kind) → Tree kind → Type 0
+Shaped dataKind es = AllEvents es
+Shaped monitorKind hs = Rising 0 (histograms hs) × AllBars hs
+Shaped commandKind ss = Unit {0}
+
+-- what each item allows by itself, and the frame's card
+unfoldable pub InRange : ℕ → List Item → Type 0
+InRange card [] = Unit {0}
+InRange card (x ∷ xs) = (inRange card x ≡ true) × InRange card xs
+
+pub record Lawful (kind : Kind) (card : ℕ) (tree : Tree kind) : Type 0 where
+  pub shaped : Shaped kind tree
+  pub ranged : InRange card (leaves kind tree)
