@@ -36,3 +36,5 @@ pub mod Moves
 pub mod SoundMoves
 pub mod TreeMoves
 pub mod Tree
+pub mod HeadTests
+pub mod JudgeLaws

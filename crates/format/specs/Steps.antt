@@ -10,7 +10,7 @@ use Rattle.format.specs.Answers.{Outcome, accepted, andThen}
 use Rattle.format.specs.Book.{Class, histogram, startEvent, classOf, after}
 use Rattle.format.specs.Items.{Item, Channel, Histogram, HitCount, Sample, Bin, LastCell, TimeBin, Text, StartEvent, EndEvent, classFor, inRange, key, Token, whole, broken, flawed, tokenOf, tokens}
 use Rattle.format.specs.Rules.{Kind, dataKind, monitorKind, commandKind, since, total, gather, channelKey, histogramKey, binNumber, time, Where, outside, inside, afterChannel, afterTime, afterSample, unheaded, headed, commands, whereAfter, allowed, among, Checked, good, bad}
-use Rattle.format.specs.Frames.{walk}
+use Rattle.format.specs.Frames.{Frame, behind, walk, verdict}
 
 -- ---- the state
 
@@ -117,6 +117,17 @@ checkBy card at st (broken c) = pick (placeBy st c) (bad 9) (bad 8)
 checkBy card at st (whole x) =
     pick (placeBy st (classFor x)) (pick (valueBy card at st x) (pick (orderBy st x) (good (stateAfter at st x)) (bad 10)) (bad 9)) (bad 8)
 
+-- the items may end here: no event is open
+abbrev pub endedBy : Where → Bool
+endedBy outside = true
+endedBy inside = false
+endedBy afterChannel = false
+endedBy afterTime = false
+endedBy afterSample = false
+endedBy unheaded = true
+endedBy headed = true
+endedBy commands = true
+
 -- ---- one turn at a word of some bytes, of which the words before word `last` are read
 
 -- the token that begins at a word
@@ -163,3 +174,26 @@ summary kind n p = record { count = length p; index = indexIn n p; state = state
 -- the walk over the words before word `last`, asked for the index of item n
 unfoldable pub summed : Kind → ℕ → List ℕ → ℕ → ℕ → Outcome Summary
 summed kind card s last n = andThen (walk kind card [] 3 (rest s last 3)) (λ p. accepted (summary kind n p))
+
+-- ---- what reading a frame answers: its kind, card and sequence word, how many items it has, and the state behind them
+pub record Overview : Type 0 where
+  pub kind : Kind
+  pub card : ℕ
+  pub sequence : ℕ
+  pub items : ℕ
+  pub state : St
+
+abbrev pub overview : Frame → Overview
+overview f = record { kind = f .kind; card = f .card; sequence = f .sequence; items = length (f .items); state = stateOf (f .kind) (behind [] (f .items)) }
+
+-- "A frame is tested 1 to 5 in order, then item by item from the left"
+unfoldable pub readOf : List ℕ → Outcome Overview
+readOf s = andThen (verdict s) (λ f. accepted (overview f))
+
+-- and where item n stands
+pub record Indexed : Type 0 where
+  pub frame : Overview
+  pub index : ℕ
+
+unfoldable pub indexOf : List ℕ → ℕ → Outcome Indexed
+indexOf s n = andThen (verdict s) (λ f. accepted (record { frame = overview f; index = indexIn n (behind [] (f .items)) }))

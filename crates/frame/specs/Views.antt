@@ -50,17 +50,6 @@ abbrev pub viewWalk : Walked → Outcome Summary
 viewWalk (walk.Ended x) = accepted (viewSummary x)
 viewWalk (walk.Refused r) = refusal r
 
--- where the items may end
-abbrev pub ended : rules.Where → Bool
-ended rules.outside = true
-ended rules.inside = false
-ended rules.afterChannel = false
-ended rules.afterTime = false
-ended rules.afterSample = false
-ended rules.unheaded = true
-ended rules.headed = true
-ended rules.commands = true
-
 -- place before value before order
 abbrev pub tested : Bool → Bool → Bool → St → Checked St
 tested place value order st = pick place (pick value (pick order (good st) (bad 10)) (bad 9)) (bad 8)

@@ -4,7 +4,7 @@ ghost use mathlib.Core.Bool.{Bool};
 ghost use Rattle.format.specs.Book.{channel, histogram, sample, bin, timeBin, text, startEvent};
 ghost use Rattle.format.specs.Rules.{allowed, among};
 ghost use Rattle.format.specs.Steps as steps;
-ghost use Rattle.frame.specs.Views.{viewKind, viewMode, viewState, ended};
+ghost use Rattle.frame.specs.Views.{viewKind, viewMode, viewState};
 
 pub enum Kind {
     Data,
@@ -64,7 +64,7 @@ impl State {
 
 // The items may end here: no event is open.
 pub fn may_end(mode: Mode) -> bool
-    ensures { λ r. ⌜ r ≡ ended (viewMode mode) ⌝ }
+    ensures { λ r. ⌜ r ≡ steps.endedBy (viewMode mode) ⌝ }
 {
     match mode {
         Mode::Outside => true,
