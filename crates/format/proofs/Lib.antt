@@ -10,3 +10,4 @@ pub mod WalkLaws
 pub mod HeadLaws
 pub mod Acceptance
 pub mod Figures
+pub mod PartialLaws
