@@ -11,3 +11,4 @@ pub mod HeadLaws
 pub mod Acceptance
 pub mod Figures
 pub mod PartialLaws
+pub mod PartialRefusals

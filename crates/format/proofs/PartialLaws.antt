@@ -50,9 +50,9 @@ none-broken : (b : Bool) (x n : ℕ) → pick b x (suc n) ≡ 0 → (b ≡ true)
 none-broken true x n e = (refl, e)
 none-broken false x n e = absurd (omega arith)
 
-head-of : (buf : List ℕ) (n : ℕ) → partialFault buf n ≡ 0 → PartialHead buf n
+pub partial-head : (buf : List ℕ) (n : ℕ) → partialFault buf n ≡ 0 → PartialHead buf n
 unfolding partialFault
-head-of buf n e =
+partial-head buf n e =
     let (t₁, e₁) = none-broken _ _ 0 e in
     let (t₂, e₂) = none-broken _ _ 1 e₁ in
     let (t₃, e₃) = none-broken _ _ 2 e₂ in
@@ -124,21 +124,23 @@ pub partial-sound : (buf : List ℕ) → Bytes buf → (n : ℕ) (f : Partial) �
 unfolding partialVerdict partialJudged
 partial-sound buf bs n f e =
     let (t, g) = kept _ _ _ _ _ e in
-    let h = head-of buf n (eqb-true _ _ t) in
+    let h = partial-head buf n (eqb-true _ _ t) in
     let (q, w, a) = then-kept (walk (kindIn buf) (cardIn buf) [] 3 (partialBody buf n)) (partialOf buf) f g in
     let ws = drop 3 (words (take n buf)) in
     let below = below-drop 3 (words (take n buf)) 65536 (words-below (take n buf) (below-take n buf 256 (omega arith) bs)) in
     let s = walk-sound (kindIn buf) (cardIn buf) (length ws) [] 3 ws q (omega arith) below w in
-    let k : record { kind = kindIn buf; card = cardIn buf; sequence = wordAt buf 2; earlier = q } ≡ f = accepted-is _ _ a in
-    (s .items, subst (λ (f : Partial). Begun buf n f (s .items)) k (record {
-      card = below-32 (wordAt buf 0);
-      sequence = h .sequence;
-      sound = s .sound;
-      earlier = s .earlier;
-      most = h .most;
-      inside = h .inside;
-      written = partial-is buf n bs h (s .items) (s .written);
-    }))
+    let k : record { kind = kindIn buf; card = cardIn buf; sequence = wordAt buf 2; earlier = q } ≡ f = accepted-is _ _ a in (
+      s .items,
+      subst (λ (f : Partial). Begun buf n f (s .items)) k (record {
+        card = below-32 (wordAt buf 0);
+        sequence = h .sequence;
+        sound = s .sound;
+        earlier = s .earlier;
+        most = h .most;
+        inside = h .inside;
+        written = partial-is buf n bs h (s .items) (s .written);
+      }),
+    )
   where
     below-32 : (w : ℕ) → w % 32 ≤ 31
     below-32 w = omega arith
