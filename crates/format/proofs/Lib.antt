@@ -12,3 +12,9 @@ pub mod Acceptance
 pub mod Figures
 pub mod PartialLaws
 pub mod PartialRefusals
+pub mod SoundLaws
+pub mod WriterLaws
+pub mod StoreLaws
+pub mod WriterSteps
+pub mod WriterNumbers
+pub mod Completeness

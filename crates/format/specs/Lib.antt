@@ -8,3 +8,4 @@ pub mod Frames
 pub mod Questions
 pub mod Writing
 pub mod Figures
+pub mod Runs

@@ -1,0 +1,228 @@
+-- T17. The writer's calls: every answer with exactly what it says of the buffer and the arguments, in the order of the refusals.
+-- Assumes nothing.
+use Prim.Native.Nat.{ℕ, zero, suc, _+_, _-_, _*_, _/_, _%_, _<_, _≤_}
+use mathlib.Core.Path.{_≡_, refl, sym, ap, ap₂, subst, _∙_}
+use mathlib.Core.List.{List, [], _∷_, _++_}
+use mathlib.Core.Logic.{_↔_, _⊎_, inl, inr, ⊎-elim}
+use mathlib.Core.Bool.{Bool, true, false, _&&_, _||_}
+use native.Mathlib.Omega.{arith}
+use lib.Dec.{leb, eqb}
+use lib.ListN.{length}
+use borrow.Author.Tests.{leb-true, leb-false, le-leb, lt-leb}
+use Rattle.format.specs.Words.{pick, bytes}
+use Rattle.format.specs.Answers.{Outcome, accepted, refused, andThen}
+use Rattle.format.specs.Book.{Class}
+use Rattle.format.specs.Items.{Item, classFor, wordsOf, Token, whole, broken, flawed}
+use Rattle.format.specs.Rules.{Kind, place, value, order, mayEnd, Checked, good, bad, check}
+use Rattle.format.specs.Frames.{Allowed}
+use Rattle.format.specs.Writing.{Partial, partialVerdict, beginAnswer, tokenBytes, roomFor, addRoom, addChecked, addAnswer, closeAnswer}
+use Rattle.format.proofs.PrefixLaws.{and-left, and-right, and-both}
+use Rattle.format.proofs.WordLaws.{pick-elim}
+use Rattle.format.proofs.WalkLaws.{passes}
+use Rattle.format.proofs.PartialLaws.{accepted-is}
+
+-- ---- begin
+
+pub data Begin (buf : List ℕ) (card sequence : ℕ) : Outcome ℕ → Type 0 where
+  begins : card ≤ 31 → sequence ≤ 0x0100 → 8 ≤ length buf → Begin buf card sequence (accepted 6)
+  card-wide : 31 < card → Begin buf card sequence (refused 9 0)
+  sequence-wide : card ≤ 31 → 0x0100 < sequence → Begin buf card sequence (refused 4 0)
+  begin-short : card ≤ 31 → sequence ≤ 0x0100 → length buf < 8 → Begin buf card sequence (refused 12 0)
+
+begin-is : (buf : List ℕ) (card sequence : ℕ) → Begin buf card sequence (beginAnswer buf card sequence)
+unfolding beginAnswer
+begin-is buf card sequence =
+    pick-elim (Begin buf card sequence) (leb card 31)
+    (λ a. pick-elim (Begin buf card sequence) (leb sequence 0x0100)
+    (λ b. pick-elim (Begin buf card sequence) (leb 8 (length buf))
+    (λ c. begins (leb-true _ _ a) (leb-true _ _ b) (leb-true _ _ c))
+    (λ c. begin-short (leb-true _ _ a) (leb-true _ _ b) (leb-false _ _ c)))
+    (λ b. sequence-wide (leb-true _ _ a) (leb-false _ _ b)))
+    (λ a. card-wide (leb-false _ _ a))
+
+begin-only : (buf : List ℕ) (card sequence : ℕ) (o : Outcome ℕ) → Begin buf card sequence o → beginAnswer buf card sequence ≡ o
+unfolding beginAnswer
+begin-only buf card sequence o (begins a b c) = rw (le-leb card 31 a, le-leb sequence 0x0100 b, le-leb 8 (length buf) c)
+begin-only buf card sequence o (card-wide a) = rw (lt-leb card 31 a)
+begin-only buf card sequence o (sequence-wide a b) = rw (le-leb card 31 a, lt-leb sequence 0x0100 b)
+begin-only buf card sequence o (begin-short a b c) = rw (le-leb card 31 a, le-leb sequence 0x0100 b, lt-leb 8 (length buf) c)
+
+pub begin-exactly : (buf : List ℕ) (card sequence : ℕ) (o : Outcome ℕ) → (beginAnswer buf card sequence ≡ o) ↔ Begin buf card sequence o
+begin-exactly buf card sequence o = (λ e. subst (Begin buf card sequence) e (begin-is buf card sequence), begin-only buf card sequence o)
+
+-- ---- the rules at a new item: the first of 8, 9 and 10 that is broken
+
+pub data Breaks (kind : Kind) (card : ℕ) (p : List Item) : Token → ℕ → Type 0 where
+  misplaced : (x : Item) → place kind p (classFor x) ≡ false → Breaks kind card p (whole x) 8
+  misvalued : (x : Item) → place kind p (classFor x) ≡ true → value card p x ≡ false → Breaks kind card p (whole x) 9
+  misordered : (x : Item) → place kind p (classFor x) ≡ true → value card p x ≡ true → order p x ≡ false → Breaks kind card p (whole x) 10
+  class-misplaced : (c : Class) → place kind p c ≡ false → Breaks kind card p (broken c) 8
+  class-broken : (c : Class) → place kind p c ≡ true → Breaks kind card p (broken c) 9
+  flaw : (n : ℕ) → Breaks kind card p (flawed n) n
+
+pub data Check (kind : Kind) (card : ℕ) (p : List Item) : Token → Checked (List Item) → Type 0 where
+  passing : (x : Item) → Allowed kind card p x → Check kind card p (whole x) (good (x ∷ p))
+  breaking : (t : Token) (k : ℕ) → Breaks kind card p t k → Check kind card p t (bad k)
+
+module _ (kind : Kind) (card : ℕ) (p : List Item) where
+  check-is : (t : Token) → Check kind card p t (check kind card p t)
+  unfolding check
+  check-is (whole x) =
+      pick-elim (Check kind card p (whole x)) (place kind p (classFor x))
+      (λ a. pick-elim (Check kind card p (whole x)) (value card p x)
+      (λ b. pick-elim (Check kind card p (whole x)) (order p x)
+      (λ c. passing x (record { placed = a; valued = b; ordered = c }))
+      (λ c. breaking (whole x) 10 (misordered x a b c)))
+      (λ b. breaking (whole x) 9 (misvalued x a b)))
+      (λ a. breaking (whole x) 8 (misplaced x a))
+  check-is (broken c) =
+      pick-elim (Check kind card p (broken c)) (place kind p c)
+      (λ a. breaking (broken c) 9 (class-broken c a))
+      (λ a. breaking (broken c) 8 (class-misplaced c a))
+  check-is (flawed n) = breaking (flawed n) n (flaw n)
+
+  pub breaks-only : (t : Token) (k : ℕ) → Breaks kind card p t k → check kind card p t ≡ bad k
+  unfolding check
+  breaks-only t k (misplaced x a) = rw a
+  breaks-only t k (misvalued x a b) = rw (a, b)
+  breaks-only t k (misordered x a b c) = rw (a, b, c)
+  breaks-only t k (class-misplaced c a) = rw a
+  breaks-only t k (class-broken c a) = rw a
+  breaks-only t k (flaw n) = refl
+
+-- ---- add
+
+-- the length with the token's bytes
+abbrev pub longer : ℕ → Token → ℕ
+longer n t = n + length (tokenBytes t)
+
+pub data Add (buf : List ℕ) (n : ℕ) : Token → Outcome ℕ → Type 0 where
+  adds : (f : Partial) (x : Item) → partialVerdict buf n ≡ accepted f → Allowed (f .kind) (f .card) (f .earlier) x
+      → longer n (whole x) + 2 ≤ length buf → longer n (whole x) + 2 ≤ 8192 → Add buf n (whole x) (accepted (longer n (whole x)))
+  add-partial : (t : Token) (k p : ℕ) → partialVerdict buf n ≡ refused k p → Add buf n t (refused k p)
+  add-breaks : (f : Partial) (t : Token) (k : ℕ) → partialVerdict buf n ≡ accepted f → Breaks (f .kind) (f .card) (f .earlier) t k → Add buf n t (refused k (n / 2))
+  add-short : (f : Partial) (x : Item) → partialVerdict buf n ≡ accepted f → Allowed (f .kind) (f .card) (f .earlier) x
+      → (length buf < longer n (whole x) + 2) ⊎ (8192 < longer n (whole x) + 2) → Add buf n (whole x) (refused 12 0)
+
+-- of two tests, both hold or one fails
+two-tests : (a b : Bool) → a && b ≡ false → (a ≡ false) ⊎ (b ≡ false)
+two-tests true b e = inr e
+two-tests false b e = inl refl
+
+no-room : (l m : ℕ) → (l < m) ⊎ (8192 < m) → leb m l && leb m 8192 ≡ false
+no-room l m (inl h) = rw (lt-leb m l h)
+no-room l m (inr h) = go (leb m l)
+  where
+    go : (b : Bool) → b && leb m 8192 ≡ false
+    go true = lt-leb m 8192 h
+    go false = refl
+
+add-is : (buf : List ℕ) (n : ℕ) (t : Token) → Add buf n t (addAnswer buf n t)
+unfolding addAnswer
+add-is buf n t = go (partialVerdict buf n) refl
+  where
+    item : (f : Partial) → partialVerdict buf n ≡ accepted f → (u : Token) (c : Checked (List Item)) → Check (f .kind) (f .card) (f .earlier) u c → Add buf n u (addChecked buf n u c)
+    item f e u c (passing x a) =
+        pick-elim (Add buf n (whole x)) (roomFor buf (longer n (whole x)))
+        (λ r. adds f x e a (leb-true _ _ (and-left (leb (longer n (whole x) + 2) (length buf)) _ r)) (leb-true _ _ (and-right (leb (longer n (whole x) + 2) (length buf)) _ r)))
+        (λ r. add-short f x e a (⊎-elim (λ s. inl (leb-false _ _ s)) (λ s. inr (leb-false _ _ s)) (two-tests (leb (longer n (whole x) + 2) (length buf)) (leb (longer n (whole x) + 2) 8192) r)))
+    item f e u c (breaking t k b) = add-breaks f t k e b
+
+    go : (o : Outcome Partial) → partialVerdict buf n ≡ o → Add buf n t (andThen o (λ f. addChecked buf n t (check (f .kind) (f .card) (f .earlier) t)))
+    go (accepted f) e = item f e t _ (check-is (f .kind) (f .card) (f .earlier) t)
+    go (refused k p) e = add-partial t k p e
+
+add-only : (buf : List ℕ) (n : ℕ) (t : Token) (o : Outcome ℕ) → Add buf n t o → addAnswer buf n t ≡ o
+unfolding addAnswer
+add-only buf n t o (adds f x e a r s) =
+    rw (e, passes (f .kind) (f .card) (f .earlier) x a, le-leb (longer n (whole x) + 2) (length buf) r, le-leb (longer n (whole x) + 2) 8192 s)
+add-only buf n t o (add-partial u k p e) = rw e
+add-only buf n t o (add-breaks f u k e b) = rw (e, breaks-only (f .kind) (f .card) (f .earlier) u k b)
+add-only buf n t o (add-short f x e a r) =
+    rw (e, passes (f .kind) (f .card) (f .earlier) x a, no-room (length buf) (longer n (whole x) + 2) r)
+
+pub add-exactly : (buf : List ℕ) (n : ℕ) (t : Token) (o : Outcome ℕ) → (addAnswer buf n t ≡ o) ↔ Add buf n t o
+add-exactly buf n t o = (λ e. subst (Add buf n t) e (add-is buf n t), add-only buf n t o)
+
+-- an accepted add: the partial frame was accepted, the item is allowed behind its items, and it fits with an end word
+pub record Added (buf : List ℕ) (n : ℕ) (t : Token) (m : ℕ) : Type 0 where
+  pub content : Partial
+  pub item : Item
+  pub token : t ≡ whole item
+  pub judged : partialVerdict buf n ≡ accepted content
+  pub allowed : Allowed (content .kind) (content .card) (content .earlier) item
+  pub reached : m ≡ n + length (bytes (wordsOf item))
+  pub room : m + 2 ≤ length buf
+  pub most : m + 2 ≤ 8192
+
+pub add-accepted : (buf : List ℕ) (n : ℕ) (t : Token) (m : ℕ) → addAnswer buf n t ≡ accepted m → Added buf n t m
+add-accepted buf n t m e = go t _ (add-is buf n t) e
+  where
+    go : (t : Token) (o : Outcome ℕ) → Add buf n t o → o ≡ accepted m → Added buf n t m
+    go t o (adds f x e a r s) q =
+        let l : longer n (whole x) ≡ m = accepted-is _ _ q in
+        record { content = f; item = x; token = refl; judged = e; allowed = a; reached = sym l; room = omega arith; most = omega arith }
+    go t o (add-partial u k p e) q = let z : _≡_ {A = ℕ} 0 1 = cc in absurd (omega arith)
+    go t o (add-breaks f u k e b) q = let z : _≡_ {A = ℕ} 0 1 = cc in absurd (omega arith)
+    go t o (add-short f x e a r) q = let z : _≡_ {A = ℕ} 0 1 = cc in absurd (omega arith)
+
+-- ---- close
+
+pub data Close (buf : List ℕ) (n : ℕ) : Outcome ℕ → Type 0 where
+  closes : (f : Partial) → partialVerdict buf n ≡ accepted f → mayEnd (f .earlier) ≡ true → n + 2 ≤ length buf → Close buf n (accepted (n + 2))
+  close-partial : (k p : ℕ) → partialVerdict buf n ≡ refused k p → Close buf n (refused k p)
+  close-open : (f : Partial) → partialVerdict buf n ≡ accepted f → mayEnd (f .earlier) ≡ false → Close buf n (refused 11 (n / 2))
+  close-short : (f : Partial) → partialVerdict buf n ≡ accepted f → mayEnd (f .earlier) ≡ true → length buf < n + 2 → Close buf n (refused 12 0)
+
+close-is : (buf : List ℕ) (n : ℕ) → Close buf n (closeAnswer buf n)
+unfolding closeAnswer
+close-is buf n = go (partialVerdict buf n) refl
+  where
+    go : (o : Outcome Partial) → partialVerdict buf n ≡ o
+        → Close buf n (andThen o (λ f. pick (mayEnd (f .earlier)) (pick (leb (n + 2) (length buf)) (accepted (n + 2)) (refused 12 0)) (refused 11 (n / 2))))
+    go (accepted f) e =
+        pick-elim (Close buf n) (mayEnd (f .earlier))
+        (λ m. pick-elim (Close buf n) (leb (n + 2) (length buf)) (λ r. closes f e m (leb-true _ _ r)) (λ r. close-short f e m (leb-false _ _ r)))
+        (λ m. close-open f e m)
+    go (refused k p) e = close-partial k p e
+
+close-only : (buf : List ℕ) (n : ℕ) (o : Outcome ℕ) → Close buf n o → closeAnswer buf n ≡ o
+unfolding closeAnswer
+close-only buf n o (closes f e m r) = rw (e, m, le-leb (n + 2) (length buf) r)
+close-only buf n o (close-partial k p e) = rw e
+close-only buf n o (close-open f e m) = rw (e, m)
+close-only buf n o (close-short f e m r) = rw (e, m, lt-leb (n + 2) (length buf) r)
+
+pub close-exactly : (buf : List ℕ) (n : ℕ) (o : Outcome ℕ) → (closeAnswer buf n ≡ o) ↔ Close buf n o
+close-exactly buf n o = (λ e. subst (Close buf n) e (close-is buf n), close-only buf n o)
+
+pub record Closed (buf : List ℕ) (n m : ℕ) : Type 0 where
+  pub content : Partial
+  pub judged : partialVerdict buf n ≡ accepted content
+  pub ended : mayEnd (content .earlier) ≡ true
+  pub reached : m ≡ n + 2
+  pub room : n + 2 ≤ length buf
+
+pub close-accepted : (buf : List ℕ) (n m : ℕ) → closeAnswer buf n ≡ accepted m → Closed buf n m
+close-accepted buf n m e = go _ (close-is buf n) e
+  where
+    go : (o : Outcome ℕ) → Close buf n o → o ≡ accepted m → Closed buf n m
+    go o (closes f e d r) q = record { content = f; judged = e; ended = d; reached = sym (accepted-is _ _ q); room = r }
+    go o (close-partial k p e) q = let z : _≡_ {A = ℕ} 0 1 = cc in absurd (omega arith)
+    go o (close-open f e d) q = let z : _≡_ {A = ℕ} 0 1 = cc in absurd (omega arith)
+    go o (close-short f e d r) q = let z : _≡_ {A = ℕ} 0 1 = cc in absurd (omega arith)
+
+pub record Beginning (buf : List ℕ) (card sequence m : ℕ) : Type 0 where
+  pub card-fits : card ≤ 31
+  pub sequence-fits : sequence ≤ 0x0100
+  pub reached : m ≡ 6
+  pub room : 8 ≤ length buf
+
+pub begin-accepted : (buf : List ℕ) (card sequence m : ℕ) → beginAnswer buf card sequence ≡ accepted m → Beginning buf card sequence m
+begin-accepted buf card sequence m e = go _ (begin-is buf card sequence) e
+  where
+    go : (o : Outcome ℕ) → Begin buf card sequence o → o ≡ accepted m → Beginning buf card sequence m
+    go o (begins a b c) q = record { card-fits = a; sequence-fits = b; reached = sym (accepted-is _ _ q); room = c }
+    go o (card-wide a) q = let z : _≡_ {A = ℕ} 0 1 = cc in absurd (omega arith)
+    go o (sequence-wide a b) q = let z : _≡_ {A = ℕ} 0 1 = cc in absurd (omega arith)
+    go o (begin-short a b c) q = let z : _≡_ {A = ℕ} 0 1 = cc in absurd (omega arith)

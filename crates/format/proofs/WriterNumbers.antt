@@ -1,0 +1,105 @@
+-- T35. The numbers that a partial frame and each call of the writer can be refused by, and 12 of add exactly.
+-- Assumes nothing.
+use Prim.Native.Nat.{ℕ, _+_, _/_, _<_}
+use mathlib.Core.Path.{_≡_, refl, sym, ap, _∙_}
+use mathlib.Core.List.{List, [], _∷_}
+use mathlib.Core.Logic.{_↔_, _⊎_}
+use mathlib.Core.Bool.{true, false}
+use native.Mathlib.Omega.{arith}
+use lib.ListN.{length}
+use Rattle.format.specs.Words.{Bytes, bytes}
+use Rattle.format.specs.Answers.{Outcome, accepted, refused}
+use Rattle.format.specs.Items.{Item, wordsOf, Token, whole}
+use Rattle.format.specs.Rules.{Kind}
+use Rattle.format.specs.Frames.{Allowed}
+use Rattle.format.specs.Writing.{Partial, partialVerdict, beginAnswer, addAnswer, closeAnswer}
+use Rattle.format.proofs.PartialRefusals.{oneOf, widen, handed, ruleNumbers, itemNumbers, headNumbers, PartialRefused, by-head, by-item, partial-refused, check-number, not-refused, refused-is}
+use Rattle.format.proofs.WriterLaws.{Begin, begins, card-wide, sequence-wide, begin-short, begin-exactly, Breaks, breaks-only, Add, adds, add-partial, add-breaks, add-short, add-exactly, Close, closes, close-partial, close-open, close-short, close-exactly}
+
+-- a partial frame's numbers, which 11 and 12 are not among
+abbrev pub partialNumbers : List ℕ
+partialNumbers = 1 ∷ 2 ∷ 3 ∷ 4 ∷ 6 ∷ 7 ∷ 8 ∷ 9 ∷ 10 ∷ []
+
+pub partial-numbers : (buf : List ℕ) → Bytes buf → (n k q : ℕ) → partialVerdict buf n ≡ refused k q → oneOf k partialNumbers ≡ true
+partial-numbers buf bs n k q e = go (partial-refused buf bs n k q e)
+  where
+    go : PartialRefused n k q → oneOf k partialNumbers ≡ true
+    go (by-head o z) = widen k headNumbers partialNumbers refl o
+    go (by-item o a b) = widen k itemNumbers partialNumbers refl o
+
+-- ---- the three calls
+
+-- a refusal by a number of the list
+by-one : (ns : List ℕ) (j r k p : ℕ) → oneOf j ns ≡ true → _≡_ {A = Outcome ℕ} (refused j r) (refused k p) → oneOf k ns ≡ true
+by-one ns j r k p o e = ap (λ (k : ℕ). oneOf k ns) (sym (refused-is j k r p e .0)) ∙ o
+
+abbrev pub beginNumbers : List ℕ
+beginNumbers = 9 ∷ 4 ∷ 12 ∷ []
+
+abbrev pub addNumbers : List ℕ
+addNumbers = 1 ∷ 2 ∷ 3 ∷ 4 ∷ 6 ∷ 7 ∷ 8 ∷ 9 ∷ 10 ∷ 12 ∷ []
+
+abbrev pub closeNumbers : List ℕ
+closeNumbers = 1 ∷ 2 ∷ 3 ∷ 4 ∷ 6 ∷ 7 ∷ 8 ∷ 9 ∷ 10 ∷ 11 ∷ 12 ∷ []
+
+pub begin-numbers : (buf : List ℕ) (card sequence k p : ℕ) → beginAnswer buf card sequence ≡ refused k p → (oneOf k beginNumbers ≡ true) × (p ≡ 0)
+begin-numbers buf card sequence k p e = go _ (begin-exactly buf card sequence (refused k p) .0 e) refl
+  where
+    go : (o : Outcome ℕ) → Begin buf card sequence o → o ≡ refused k p → (oneOf k beginNumbers ≡ true) × (p ≡ 0)
+    go o (begins a b c) q = not-refused _ _ _ q
+    go o (card-wide a) q = (by-one beginNumbers 9 0 k p refl q, sym (refused-is 9 k 0 p q .1))
+    go o (sequence-wide a b) q = (by-one beginNumbers 4 0 k p refl q, sym (refused-is 4 k 0 p q .1))
+    go o (begin-short a b c) q = (by-one beginNumbers 12 0 k p refl q, sym (refused-is 12 k 0 p q .1))
+
+pub breaks-number : (kind : Kind) (card : ℕ) (p : List Item) (t : Token) (k : ℕ) → handed t ≡ true → Breaks kind card p t k → oneOf k ruleNumbers ≡ true
+breaks-number kind card p t k h b = check-number kind card p t h k (breaks-only kind card p t k b)
+
+pub add-numbers : (buf : List ℕ) → Bytes buf → (n : ℕ) (t : Token) → handed t ≡ true → (k p : ℕ) → addAnswer buf n t ≡ refused k p → oneOf k addNumbers ≡ true
+add-numbers buf bs n t h k p e = go t _ h (add-exactly buf n t (refused k p) .0 e) refl
+  where
+    go : (t : Token) (o : Outcome ℕ) → handed t ≡ true → Add buf n t o → o ≡ refused k p → oneOf k addNumbers ≡ true
+    go t o h (adds f x e a r s) q = not-refused _ _ _ q
+    go t o h (add-partial u j r e) q = by-one addNumbers j r k p (widen j partialNumbers addNumbers refl (partial-numbers buf bs n j r e)) q
+    go t o h (add-breaks f u j e b) q = by-one addNumbers j (n / 2) k p (widen j ruleNumbers addNumbers refl (breaks-number _ _ _ u j h b)) q
+    go t o h (add-short f x e a r) q = by-one addNumbers 12 0 k p refl q
+
+pub close-numbers : (buf : List ℕ) → Bytes buf → (n k p : ℕ) → closeAnswer buf n ≡ refused k p → oneOf k closeNumbers ≡ true
+close-numbers buf bs n k p e = go _ (close-exactly buf n (refused k p) .0 e) refl
+  where
+    go : (o : Outcome ℕ) → Close buf n o → o ≡ refused k p → oneOf k closeNumbers ≡ true
+    go o (closes f e d r) q = not-refused _ _ _ q
+    go o (close-partial j r e) q = by-one closeNumbers j r k p (widen j partialNumbers closeNumbers refl (partial-numbers buf bs n j r e)) q
+    go o (close-open f e d) q = by-one closeNumbers 11 (n / 2) k p refl q
+    go o (close-short f e d r) q = by-one closeNumbers 12 0 k p refl q
+
+-- ---- 12 is given exactly where nothing else is wrong and the item does not fit with an end word
+
+pub record Short (buf : List ℕ) (n : ℕ) (t : Token) (p : ℕ) : Type 0 where
+  pub content : Partial
+  pub item : Item
+  pub token : t ≡ whole item
+  pub judged : partialVerdict buf n ≡ accepted content
+  pub allowed : Allowed (content .kind) (content .card) (content .earlier) item
+  pub short : (length buf < n + length (bytes (wordsOf item)) + 2) ⊎ (8192 < n + length (bytes (wordsOf item)) + 2)
+  pub place : p ≡ 0
+
+pub add-room : (buf : List ℕ) → Bytes buf → (n : ℕ) (t : Token) → handed t ≡ true → (p : ℕ) → (addAnswer buf n t ≡ refused 12 p) ↔ Short buf n t p
+add-room buf bs n t h p = (λ e. go t _ h (add-exactly buf n t (refused 12 p) .0 e) refl, back)
+  where
+    other : (j r : ℕ) (ns : List ℕ) → oneOf j ns ≡ true → oneOf 12 ns ≡ false → _≡_ {A = Outcome ℕ} (refused j r) (refused 12 p) → ⊥
+    other j r ns o m e =
+        let x = by-one ns j r 12 p o e in
+        let z : _≡_ {A = ℕ} 0 1 = cc in omega arith
+
+    go : (t : Token) (o : Outcome ℕ) → handed t ≡ true → Add buf n t o → o ≡ refused 12 p → Short buf n t p
+    go t o h (adds f x e a r s) q = not-refused _ _ _ q
+    go t o h (add-partial u j r e) q = absurd (other j r partialNumbers (partial-numbers buf bs n j r e) refl q)
+    go t o h (add-breaks f u j e b) q = absurd (other j (n / 2) ruleNumbers (breaks-number _ _ _ u j h b) refl q)
+    go t o h (add-short f x e a r) q =
+        record { content = f; item = x; token = refl; judged = e; allowed = a; short = r; place = sym (refused-is 12 12 0 p q .1) }
+
+    back : Short buf n t p → addAnswer buf n t ≡ refused 12 p
+    back s =
+        ap (addAnswer buf n) (s .token)
+        ∙ add-exactly buf n (whole (s .item)) (refused 12 0) .1 (add-short (s .content) (s .item) (s .judged) (s .allowed) (s .short))
+        ∙ ap (refused 12) (sym (s .place))
