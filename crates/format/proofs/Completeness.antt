@@ -111,3 +111,211 @@ module _ (kind : Kind) (card sequence : ℕ) (buf : List ℕ) where
 
     judged : partialVerdict b n ≡ accepted (content kind card sequence xs)
     judged = partial-complete b n (content kind card sequence xs) xs (r .begun)
+
+    -- close at the end of a legal list
+    ends : mayEnd (behind [] xs) ≡ true → closeAnswer b n ≡ accepted (n + 2)
+    ends e =
+        let k = r .kept in
+        let s = r .room in
+        close-exactly b n (accepted (n + 2)) .1 (closes (content kind card sequence xs) judged e (omega arith))
+
+    -- what an accepted close gives
+    closed : (m : ℕ) → closeAnswer b n ≡ accepted m → Legal (frame xs) × (m ≡ length (encode (frame xs))) × (closeLeft b n ≡ encode (frame xs) ++ drop m buf)
+    closed m e =
+        let (l, q) = close-legal b n (content kind card sequence xs) xs m (r .begun) e in
+        let c = close-accepted b n m e .reached in
+        (l, q, close-left b n (content kind card sequence xs) xs m (r .begun) e ∙ ap (λ (d : List ℕ). encode (frame xs) ++ d) (further c))
+      where
+        further : m ≡ n + 2 → drop m b ≡ drop m buf
+        further j = ap (λ (k : ℕ). drop k b) j ∙ sym (drop-drop 2 n b) ∙ ap (drop 2) (r .rest) ∙ drop-drop 2 n buf ∙ ap (λ (k : ℕ). drop k buf) (sym j)
+
+    -- the next item of a legal list is allowed, and the frame has room for it and an end word
+    record Next (x : Item) (ys : List Item) : Type 0 where
+      pub allowed : Allowed kind card (behind [] xs) x
+      pub fits : n + length (bytes (wordsOf x)) + 2 ≤ length (encode (frame (xs ++ (x ∷ ys))))
+
+    next-item : (x : Item) (ys : List Item) → Legal (frame (xs ++ (x ∷ ys))) → Next x ys
+    unfolding allWords
+    next-item x ys l =
+        let g = begun-length b n (content kind card sequence xs) xs (r .begun) in
+        let e = encode-length (frame (xs ++ (x ∷ ys))) in
+        let w = ap length (words-append xs (x ∷ ys)) ∙ length-append (allWords xs) (allWords (x ∷ ys)) in
+        let v = length-append (wordsOf x) (allWords ys) in
+        let s = length-bytes (wordsOf x) in
+        record {
+          allowed = sound-head kind card (behind [] xs) x ys (sound-rest kind card [] xs (x ∷ ys) (l .sound));
+          fits = omega arith;
+        }
+
+    -- so that it is added, if the buffer has room
+    added : (x : Item) (ys : List Item) → Legal (frame (xs ++ (x ∷ ys))) → n + length (bytes (wordsOf x)) + 2 ≤ length buf
+        → addAnswer b n (whole x) ≡ accepted (n + length (bytes (wordsOf x)))
+    added x ys l h =
+        let a = next-item x ys l in
+        let f = a .fits in
+        let s = l .short in
+        let k = r .kept in
+        add-exactly b n (whole x) (accepted (n + length (bytes (wordsOf x)))) .1 (adds (content kind card sequence xs) x judged (a .allowed) (omega arith) (omega arith))
+
+    -- and is refused by 12 otherwise
+    too-long : (x : Item) (ys : List Item) → Legal (frame (xs ++ (x ∷ ys))) → length buf < n + length (bytes (wordsOf x)) + 2
+        → addAnswer b n (whole x) ≡ refused 12 0
+    too-long x ys l h =
+        let k = r .kept in
+        add-exactly b n (whole x) (refused 12 0) .1 (add-short (content kind card sequence xs) x judged (next-item x ys l .allowed) (inl (omega arith)))
+
+  -- ---- the adds and close
+
+  done : List Item → Ran
+  done xs = ran (accepted (length (encode (frame xs)))) (encode (frame xs) ++ drop (length (encode (frame xs))) buf)
+
+  one-more : (xs : List Item) (x : Item) (ys : List Item) → (xs ++ (x ∷ [])) ++ ys ≡ xs ++ (x ∷ ys)
+  one-more xs x ys = append-assoc xs (x ∷ []) ys
+
+  runs : (ys : List Item) (b : List ℕ) (n : ℕ) (xs : List Item) → Running b n xs → Legal (frame (xs ++ ys)) → length (encode (frame (xs ++ ys))) ≤ length buf
+      → addAll b n (map whole ys) ≡ done (xs ++ ys)
+  unfolding done
+  runs [] b n xs r l h =
+      let i = append-nil xs in
+      let e = ends b n xs r (ap (λ (xs : List Item). mayEnd (behind [] xs)) (sym i) ∙ l .ended) in
+      let (_, m, c) = closed b n xs r (n + 2) e in
+      subst (λ (ys : List Item). addAll b n [] ≡ done ys) (sym i)
+      (close-on b n ∙ ap₂ ran (e ∙ ap accepted m) (c ∙ ap (λ (m : ℕ). encode (frame xs) ++ drop m buf) m))
+  runs (x ∷ ys) b n xs r l h =
+      let i = one-more xs x ys in
+      let f = next-item b n xs r x ys l .fits in
+      let e = added b n xs r x ys l (omega arith) in
+      add-on b n (whole x) (map whole ys) (n + length (bytes (wordsOf x))) e
+      ∙ runs ys (addLeft b n (whole x)) (n + length (bytes (wordsOf x))) (xs ++ (x ∷ [])) (goes-on b n xs r x (n + length (bytes (wordsOf x))) e)
+      (subst (λ (ys : List Item). Legal (frame ys)) (sym i) l) (subst (λ (ys : List Item). length (encode (frame ys)) ≤ length buf) (sym i) h)
+      ∙ ap done i
+
+  room-or-not : (m n : ℕ) → (m ≤ n) ⊎ (n < m)
+  room-or-not m n = go (leb m n) refl
+    where
+      go : (t : Bool) → leb m n ≡ t → (m ≤ n) ⊎ (n < m)
+      go true e = inl (leb-true m n e)
+      go false e = inr (leb-false m n e)
+
+  -- in a buffer that is too short the first refusal is 12
+  stops : (ys : List Item) (b : List ℕ) (n : ℕ) (xs : List Item) → Running b n xs → Legal (frame (xs ++ ys)) → length buf < length (encode (frame (xs ++ ys)))
+      → addAll b n (map whole ys) .answer ≡ refused 12 0
+  stops [] b n xs r l h =
+      let i : length (encode (frame (xs ++ []))) ≡ length (encode (frame xs)) = ap (λ (xs : List Item). length (encode (frame xs))) (append-nil xs) in
+      let g = begun-length b n (content kind card sequence xs) xs (r .begun) in
+      let e = encode-length (frame xs) in
+      let s = r .room in
+      absurd (omega arith)
+  stops (x ∷ ys) b n xs r l h =
+      let i = one-more xs x ys in
+      ⊎-elim
+      (λ (f : n + length (bytes (wordsOf x)) + 2 ≤ length buf).
+      let e = added b n xs r x ys l f in
+      ap (λ (o : Ran). o .answer) (add-on b n (whole x) (map whole ys) (n + length (bytes (wordsOf x))) e)
+      ∙ stops ys (addLeft b n (whole x)) (n + length (bytes (wordsOf x))) (xs ++ (x ∷ [])) (goes-on b n xs r x (n + length (bytes (wordsOf x))) e)
+      (subst (λ (ys : List Item). Legal (frame ys)) (sym i) l) (subst (λ (ys : List Item). length buf < length (encode (frame ys))) (sym i) h))
+      (λ (f : length buf < n + length (bytes (wordsOf x)) + 2). ap (λ (o : Ran). o .answer) (add-stops b n (whole x) (map whole ys) 12 0 (too-long b n xs r x ys l f)))
+      (room-or-not (n + length (bytes (wordsOf x)) + 2) (length buf))
+
+  -- ---- what an accepted run wrote
+
+  pub record RunWrote (xs : List Item) (ts : List Token) (m : ℕ) (left : List ℕ) : Type 0 where
+    pub items : List Item
+    pub handed : ts ≡ map whole items
+    pub legal : Legal (frame (xs ++ items))
+    pub reached : m ≡ length (encode (frame (xs ++ items)))
+    pub written : left ≡ encode (frame (xs ++ items)) ++ drop m buf
+
+  -- an accepted run made its next add
+  record Went (b : List ℕ) (n : ℕ) (xs : List Item) (t : Token) (ts : List Token) (m : ℕ) (left : List ℕ) : Type 0 where
+    pub item : Item
+    pub token : t ≡ whole item
+    pub at : ℕ
+    pub running : Running (addLeft b n t) at (xs ++ (item ∷ []))
+    pub rest : addAll (addLeft b n t) at ts ≡ ran (accepted m) left
+
+  went : (b : List ℕ) (n : ℕ) (xs : List Item) → Running b n xs → (t : Token) (ts : List Token) (m : ℕ) (left : List ℕ) → addAll b n (t ∷ ts) ≡ ran (accepted m) left
+      → Went b n xs t ts m left
+  went b n xs r t ts m left e = go (addAnswer b n t) refl
+    where
+      go : (o : Outcome ℕ) → addAnswer b n t ≡ o → Went b n xs t ts m left
+      go (accepted j) a =
+          let i = add-accepted b n t j a in
+          record {
+            item = i .item;
+            token = i .token;
+            at = j;
+            running = subst (λ (u : Token). Running (addLeft b n u) j (xs ++ (i .item ∷ []))) (sym (i .token))
+                (goes-on b n xs r (i .item) j (ap (addAnswer b n) (sym (i .token)) ∙ a));
+            rest = sym (add-on b n t ts j a) ∙ e;
+          }
+      go (refused k p) a =
+          let q : refused k p ≡ accepted m = ap (λ (o : Ran). o .answer) (sym (add-stops b n t ts k p a) ∙ e) in
+          let z : _≡_ {A = ℕ} 0 1 = cc in absurd (omega arith)
+
+  wrote : (ts : List Token) (b : List ℕ) (n : ℕ) (xs : List Item) → Running b n xs → (m : ℕ) (left : List ℕ) → addAll b n ts ≡ ran (accepted m) left → RunWrote xs ts m left
+  wrote [] b n xs r m left e =
+      let q = sym (close-on b n) ∙ e in
+      let (l, k, c) = closed b n xs r m (ap (λ (o : Ran). o .answer) q) in
+      let i = append-nil xs in
+      record {
+        items = [];
+        handed = refl;
+        legal = subst (λ (xs : List Item). Legal (frame xs)) (sym i) l;
+        reached = k ∙ ap (λ (xs : List Item). length (encode (frame xs))) (sym i);
+        written = sym (ap (λ (o : Ran). o .left) q) ∙ c ∙ ap (λ (xs : List Item). encode (frame xs) ++ drop m buf) (sym i);
+      }
+  wrote (t ∷ ts) b n xs r m left e =
+      let w = went b n xs r t ts m left e in
+      let v = wrote ts (addLeft b n t) (w .at) (xs ++ (w .item ∷ [])) (w .running) m left (w .rest) in
+      let i = one-more xs (w .item) (v .items) in
+      record {
+        items = w .item ∷ v .items;
+        handed = ap₂ _∷_ (w .token) (v .handed);
+        legal = subst (λ (xs : List Item). Legal (frame xs)) i (v .legal);
+        reached = v .reached ∙ ap (λ (xs : List Item). length (encode (frame xs))) i;
+        written = v .written ∙ ap (λ (xs : List Item). encode (frame xs) ++ drop m buf) i;
+      }
+
+-- T18: every legal frame is written, if it fits
+pub written : (f : Frame) → Legal f → (buf : List ℕ) → length (encode f) ≤ length buf
+    → writeAll buf (f .kind) (f .card) (f .sequence) (map whole (f .items)) ≡ ran (accepted (length (encode f))) (encode f ++ drop (length (encode f)) buf)
+unfolding done
+written f l buf h =
+    let k = encode-length f in
+    let e = begin-exactly buf (f .card) (f .sequence) (accepted 6) .1 (begins (l .card) (l .sequence) (omega arith)) in
+    begin-on buf (f .kind) (f .card) (f .sequence) (map whole (f .items)) 6 e
+    ∙ runs (f .kind) (f .card) (f .sequence) buf (f .items) (beginLeft buf (f .kind) (f .card) (f .sequence)) 6 [] (starts (f .kind) (f .card) (f .sequence) buf 6 e) l h
+
+-- T18b: and where it does not fit, that is why
+pub too-short : (f : Frame) → Legal f → (buf : List ℕ) → length buf < length (encode f)
+    → writeAll buf (f .kind) (f .card) (f .sequence) (map whole (f .items)) .answer ≡ refused 12 0
+too-short f l buf h = go (leb 8 (length buf)) refl
+  where
+    go : (t : Bool) → leb 8 (length buf) ≡ t → writeAll buf (f .kind) (f .card) (f .sequence) (map whole (f .items)) .answer ≡ refused 12 0
+    go true t =
+        let e = begin-exactly buf (f .card) (f .sequence) (accepted 6) .1 (begins (l .card) (l .sequence) (leb-true _ _ t)) in
+        ap (λ (o : Ran). o .answer) (begin-on buf (f .kind) (f .card) (f .sequence) (map whole (f .items)) 6 e)
+        ∙ stops (f .kind) (f .card) (f .sequence) buf (f .items) (beginLeft buf (f .kind) (f .card) (f .sequence)) 6 [] (starts (f .kind) (f .card) (f .sequence) buf 6 e) l h
+    go false t =
+        let e = begin-exactly buf (f .card) (f .sequence) (refused 12 0) .1 (begin-short (l .card) (l .sequence) (leb-false _ _ t)) in
+        ap (λ (o : Ran). o .answer) (begin-stops buf (f .kind) (f .card) (f .sequence) (map whole (f .items)) 12 0 e)
+
+-- T19: whatever a run accepts is what a legal frame is written as, whose items are those handed over
+pub run-wrote : (buf : List ℕ) (kind : Kind) (card sequence : ℕ) (ts : List Token) (m : ℕ) (left : List ℕ) → writeAll buf kind card sequence ts ≡ ran (accepted m) left
+    → RunWrote kind card sequence buf [] ts m left
+run-wrote buf kind card sequence ts m left e = go (beginAnswer buf card sequence) refl
+  where
+    go : (o : Outcome ℕ) → beginAnswer buf card sequence ≡ o → RunWrote kind card sequence buf [] ts m left
+    go (accepted n) a =
+        wrote kind card sequence buf ts (beginLeft buf kind card sequence) n [] (starts kind card sequence buf n a) m left (sym (begin-on buf kind card sequence ts n a) ∙ e)
+    go (refused k p) a =
+        let q : refused k p ≡ accepted m = ap (λ (o : Ran). o .answer) (sym (begin-stops buf kind card sequence ts k p a) ∙ e) in
+        let z : _≡_ {A = ℕ} 0 1 = cc in absurd (omega arith)
+
+-- T20: an accepted frame, written again from what was read, has the same bytes
+pub rewritten : (s : List ℕ) → Bytes s → (f : Frame) → verdict s ≡ accepted f → (buf : List ℕ) → length s ≤ length buf
+    → writeAll buf (f .kind) (f .card) (f .sequence) (map whole (f .items)) ≡ ran (accepted (length s)) (s ++ drop (length s) buf)
+rewritten s bs f e buf h =
+    let (l, q) = sound s bs f e in
+    written f l buf (subst (λ (t : List ℕ). length t ≤ length buf) q h) ∙ ap (λ (t : List ℕ). ran (accepted (length t)) (t ++ drop (length t) buf)) (sym q)
