@@ -18,3 +18,4 @@ pub mod StoreLaws
 pub mod WriterSteps
 pub mod WriterNumbers
 pub mod Completeness
+pub mod NoDeadEnd
