@@ -1,30 +1,31 @@
 -- T18, T19, T20. A run of begin, one add for each item, and close: it accepts exactly the legal frames that fit the buffer, and leaves what the
 -- frame is written as, the rest of the buffer untouched.
 -- Assumes nothing.
-use Prim.Native.Nat.{ℕ, zero, suc, _+_, _-_, _*_, _/_, _<_, _≤_}
+use Prim.Native.Nat.{ℕ, _+_, _-_, _<_, _≤_}
 use mathlib.Core.Path.{_≡_, refl, sym, ap, ap₂, subst, _∙_}
 use mathlib.Core.List.{List, [], _∷_, _++_, map, append-nil, append-assoc}
-use mathlib.Core.Logic.{_↔_, _⊎_, inl, inr, ⊎-elim}
+use mathlib.Core.Logic.{_⊎_, inl, inr, ⊎-elim}
 use mathlib.Core.Bool.{Bool, true, false}
 use native.Mathlib.Omega.{arith}
 use lib.Dec.{leb}
 use borrow.Author.Tests.{leb-true, leb-false}
 use lib.ListN.{length, take, drop, length-append}
-use lib.Seq.{drop-drop, drop-at}
+use lib.Seq.{drop-drop, drop-at, take-at}
 use Rattle.format.specs.Words.{Bytes, bytes}
 use Rattle.format.specs.Answers.{Outcome, accepted, refused}
 use Rattle.format.specs.Items.{Item, wordsOf, Token, whole}
 use Rattle.format.specs.Rules.{Kind, mayEnd}
-use Rattle.format.specs.Frames.{Frame, behind, Allowed, Sound, allWords, encode, Legal, verdict}
-use Rattle.format.specs.Writing.{Partial, partialWords, partialVerdict, beginAnswer, beginLeft, addAnswer, addLeft, closeAnswer, closeLeft}
+use Rattle.format.specs.Frames.{Frame, behind, Allowed, allWords, encode, Legal, verdict}
+use Rattle.format.specs.Writing.{partialWords, partialVerdict, beginAnswer, beginLeft, addAnswer, addLeft, closeAnswer, closeLeft}
 use Rattle.format.specs.Runs.{Ran, ran, next, addAll, writeAll}
+use Rattle.format.specs.WriterCases.{begins, begin-short, adds, add-short, closes, Begun, content, RunWrote}
 use Rattle.format.proofs.WordLaws.{length-bytes}
-use Rattle.format.proofs.Acceptance.{sound}
-use Rattle.format.proofs.SoundLaws.{sound-first, sound-rest, sound-head, behind-append, behind-one, words-append, words-one}
-use Rattle.format.proofs.PartialLaws.{Begun, partial-complete, begun-length}
-use Rattle.format.proofs.WriterLaws.{begins, begin-short, begin-exactly, Beginning, begin-accepted, adds, add-short, add-exactly, Added, add-accepted, closes, close-exactly, Closed, close-accepted}
-use Rattle.format.proofs.StoreLaws.{six, framed, begin-left, begin-kept, add-kept, close-left}
-use Rattle.format.proofs.WriterSteps.{content, with-item, begin-begun, add-begun, add-rest, encode-length, close-legal}
+use Rattle.format.proofs.Acceptance.{sound, complete}
+use Rattle.format.proofs.SoundLaws.{sound-rest, sound-head, behind-one, words-append}
+use Rattle.format.proofs.PartialLaws.{partial-complete, begun-length}
+use Rattle.format.proofs.WriterLaws.{begin-exactly, begin-accepted, add-exactly, add-accepted, close-exactly, close-accepted}
+use Rattle.format.proofs.StoreLaws.{six, begin-left, begin-kept, add-kept, close-left}
+use Rattle.format.proofs.WriterSteps.{begin-begun, add-begun, add-rest, encode-length, close-legal}
 
 -- ---- a run, a call at a time
 
@@ -219,7 +220,7 @@ module _ (kind : Kind) (card sequence : ℕ) (buf : List ℕ) where
 
   -- ---- what an accepted run wrote
 
-  pub record RunWrote (xs : List Item) (ts : List Token) (m : ℕ) (left : List ℕ) : Type 0 where
+  record Wrote (xs : List Item) (ts : List Token) (m : ℕ) (left : List ℕ) : Type 0 where
     pub items : List Item
     pub handed : ts ≡ map whole items
     pub legal : Legal (frame (xs ++ items))
@@ -253,7 +254,7 @@ module _ (kind : Kind) (card sequence : ℕ) (buf : List ℕ) where
           let q : refused k p ≡ accepted m = ap (λ (o : Ran). o .answer) (sym (add-stops b n t ts k p a) ∙ e) in
           let z : _≡_ {A = ℕ} 0 1 = cc in absurd (omega arith)
 
-  wrote : (ts : List Token) (b : List ℕ) (n : ℕ) (xs : List Item) → Running b n xs → (m : ℕ) (left : List ℕ) → addAll b n ts ≡ ran (accepted m) left → RunWrote xs ts m left
+  wrote : (ts : List Token) (b : List ℕ) (n : ℕ) (xs : List Item) → Running b n xs → (m : ℕ) (left : List ℕ) → addAll b n ts ≡ ran (accepted m) left → Wrote xs ts m left
   wrote [] b n xs r m left e =
       let q = sym (close-on b n) ∙ e in
       let (l, k, c) = closed b n xs r m (ap (λ (o : Ran). o .answer) q) in
@@ -301,14 +302,25 @@ too-short f l buf h = go (leb 8 (length buf)) refl
         let e = begin-exactly buf (f .card) (f .sequence) (refused 12 0) .1 (begin-short (l .card) (l .sequence) (leb-false _ _ t)) in
         ap (λ (o : Ran). o .answer) (begin-stops buf (f .kind) (f .card) (f .sequence) (map whole (f .items)) 12 0 e)
 
--- T19: whatever a run accepts is what a legal frame is written as, whose items are those handed over
+-- T19: whatever a run accepts is what a legal frame is written as, whose items are those handed over, and it reads back as that frame
 pub run-wrote : (buf : List ℕ) (kind : Kind) (card sequence : ℕ) (ts : List Token) (m : ℕ) (left : List ℕ) → writeAll buf kind card sequence ts ≡ ran (accepted m) left
-    → RunWrote kind card sequence buf [] ts m left
+    → RunWrote buf kind card sequence ts m left
 run-wrote buf kind card sequence ts m left e = go (beginAnswer buf card sequence) refl
   where
-    go : (o : Outcome ℕ) → beginAnswer buf card sequence ≡ o → RunWrote kind card sequence buf [] ts m left
+    named : Wrote kind card sequence buf [] ts m left → RunWrote buf kind card sequence ts m left
+    named w =
+        let f : Frame = record { kind = kind; card = card; sequence = sequence; items = w .items } in
+        let t : take m left ≡ encode f = ap (take m) (w .written) ∙ take-at (encode f) (drop m buf) m (sym (w .reached)) in
+        record {
+          items = w .items;
+          added = w .handed;
+          holds = record { legal = w .legal; reached = w .reached; written = w .written };
+          reads = ap verdict t ∙ complete f (w .legal);
+        }
+
+    go : (o : Outcome ℕ) → beginAnswer buf card sequence ≡ o → RunWrote buf kind card sequence ts m left
     go (accepted n) a =
-        wrote kind card sequence buf ts (beginLeft buf kind card sequence) n [] (starts kind card sequence buf n a) m left (sym (begin-on buf kind card sequence ts n a) ∙ e)
+        named (wrote kind card sequence buf ts (beginLeft buf kind card sequence) n [] (starts kind card sequence buf n a) m left (sym (begin-on buf kind card sequence ts n a) ∙ e))
     go (refused k p) a =
         let q : refused k p ≡ accepted m = ap (λ (o : Ran). o .answer) (sym (begin-stops buf kind card sequence ts k p a) ∙ e) in
         let z : _≡_ {A = ℕ} 0 1 = cc in absurd (omega arith)

@@ -19,3 +19,4 @@ pub mod WriterSteps
 pub mod WriterNumbers
 pub mod Completeness
 pub mod NoDeadEnd
+pub mod Writing

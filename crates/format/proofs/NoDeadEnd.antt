@@ -1,24 +1,29 @@
 -- T16. A list of items is sound exactly where some continuation makes it one that may end; the frame's length apart, so that the continuation may
 -- pass 8,192 bytes. It is: after Channel a Time bin and a Sample, after Time bin a Sample, then the open event's End event.
 -- Assumes nothing.
-use Prim.Native.Nat.{ℕ, zero, suc, _+_, _*_, _<_, _≤_}
+use Prim.Native.Nat.{ℕ, _+_, _≤_}
 use mathlib.Core.Path.{_≡_, refl, sym, ap, subst, _∙_}
-use mathlib.Core.List.{List, [], _∷_, _++_, append-nil}
+use mathlib.Core.List.{List, [], _∷_, append-nil}
 use mathlib.Core.Logic.{_↔_}
-use mathlib.Core.Bool.{Bool, true, false, not, _&&_, _||_}
+use mathlib.Core.Bool.{Bool, true, false, _||_}
 use native.Mathlib.Nat.{zero-add}
 use native.Mathlib.Omega.{arith}
-use lib.Dec.{leb, ltb, eqb}
+use lib.Dec.{ltb}
 use lib.ListN.{length, length-append}
 use borrow.Author.Tests.{leb-true, le-leb, lt-leb, lt-ltb, eq-eqb}
-use Rattle.format.specs.Words.{pick}
-use Rattle.format.specs.Book.{Class, channel, histogram, hitCount, sample, bin, lastCell, timeBin, text, startEvent, endEvent}
+use Rattle.format.specs.Words.{pick, Bytes}
+use Rattle.format.specs.Answers.{accepted}
+use Rattle.format.specs.Book.{Class, histogram, bin, startEvent, endEvent}
 use Rattle.format.specs.Items.{Item, Channel, Histogram, HitCount, Sample, Bin, LastCell, TimeBin, Text, StartEvent, EndEvent, classFor, wordsOf, inRange}
-use Rattle.format.specs.Rules.{Kind, dataKind, monitorKind, commandKind, same, since, count, total, gather, inEvent, time, among, allowed, headed, unheaded, latest, within, place, mayEnd, eventSize, sized, value}
+use Rattle.format.specs.Rules.{Kind, dataKind, monitorKind, commandKind, same, since, count, total, gather, inEvent, time, among, allowed, latest, within, place, mayEnd, eventSize, sized}
 use Rattle.format.specs.Frames.{behind, Allowed, Sound, allWords}
+use Rattle.format.specs.Writing.{Partial, partialVerdict}
+use Rattle.format.specs.WriterCases.{Ends}
 use Rattle.format.proofs.PrefixLaws.{and-left, and-both}
 use Rattle.format.proofs.WordLaws.{pick-elim}
-use Rattle.format.proofs.SoundLaws.{behind-append, sound-join, sound-first, sound-none, sound-one, sound-more}
+use Rattle.format.proofs.Acceptance.{in-order}
+use Rattle.format.proofs.PartialLaws.{partial-sound, begun-length}
+use Rattle.format.proofs.SoundLaws.{behind-append, sound-join, sound-first, sound-one, sound-more}
 
 -- ---- what a sound list keeps
 
@@ -165,12 +170,6 @@ module _ (card : ℕ) where
 
 -- ---- T16
 
--- some continuation of the items xs is sound and may end
-pub record Ends (kind : Kind) (card : ℕ) (xs : List Item) : Type 0 where
-  pub more : List Item
-  pub sound : Sound kind card [] (xs ++ more)
-  pub ended : mayEnd (behind [] (xs ++ more)) ≡ true
-
 -- outside an event nothing need be added
 as-it-stands : (kind : Kind) (card : ℕ) (xs : List Item) → Sound kind card [] xs → inEvent (behind [] xs) ≡ false → Ends kind card xs
 as-it-stands kind card xs s e =
@@ -195,3 +194,11 @@ ends dataKind card xs s b = go (inEvent (behind [] xs)) refl
 
 pub no-dead-end : (kind : Kind) (card : ℕ) (xs : List Item) → length (allWords xs) ≤ 4092 → Sound kind card [] xs ↔ Ends kind card xs
 no-dead-end kind card xs b = (λ s. ends kind card xs s b, λ e. sound-first kind card [] xs (e .more) (e .sound))
+
+-- an accepted partial frame is short enough for that
+pub partial-ends : (buf : List ℕ) → Bytes buf → (n : ℕ) (f : Partial) → partialVerdict buf n ≡ accepted f → Ends (f .kind) (f .card) (behind [] (f .earlier))
+partial-ends buf bs n f e =
+    let (xs, b) = partial-sound buf bs n f e in
+    let l = begun-length buf n f xs b in
+    let m = b .most in
+    subst (Ends (f .kind) (f .card)) (sym (ap (behind []) (b .earlier) ∙ in-order xs)) (ends (f .kind) (f .card) xs (b .sound) (omega arith))

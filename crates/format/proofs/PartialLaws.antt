@@ -1,25 +1,26 @@
 -- T15. The first bytes of a buffer are accepted as a partial frame exactly where they are what a sound list of items begins to be written
 -- as; and what a refusal of them can be.
 -- Assumes nothing.
-use Prim.Native.Nat.{ℕ, zero, suc, _+_, _-_, _*_, _/_, _%_, _<_, _≤_}
+use Prim.Native.Nat.{ℕ, suc, _+_, _*_, _%_, _<_, _≤_}
 use mathlib.Core.Path.{_≡_, refl, sym, ap, ap₂, subst, _∙_}
-use mathlib.Core.List.{List, [], _∷_, _++_}
+use mathlib.Core.List.{List, [], _∷_}
 use mathlib.Core.Logic.{_↔_}
-use mathlib.Core.Bool.{Bool, true, false, _&&_, _||_}
+use mathlib.Core.Bool.{Bool, true, false, _&&_}
 use native.Mathlib.Omega.{arith}
 use lib.Dec.{leb, eqb}
-use lib.ListN.{length, getD, take, drop, length-drop}
+use lib.ListN.{length, getD, take, drop}
 use lib.Seq.{getD-take, length-take-le}
 use borrow.Author.Tests.{leb-true, eqb-true, le-leb, eq-eqb}
 use Rattle.format.specs.Words.{pick, Bytes, words, bytes, wordAt}
 use Rattle.format.specs.Answers.{Outcome, accepted, refused, andThen}
 use Rattle.format.specs.Items.{Item, tokens}
 use Rattle.format.specs.Rules.{Kind}
-use Rattle.format.specs.Frames.{behind, Sound, startWord, allWords, startFits, kindIn, cardIn, walk}
+use Rattle.format.specs.Frames.{startWord, allWords, startFits, kindIn, cardIn, walk}
 use Rattle.format.specs.Writing.{Partial, partialWords, partialFault, partialBody, partialOf, partialJudged, partialVerdict}
-use Rattle.format.proofs.PrefixLaws.{and-left, and-right, and-both}
+use Rattle.format.specs.WriterCases.{Begun}
+use Rattle.format.proofs.PrefixLaws.{and-left, and-right}
 use Rattle.format.proofs.WordLaws.{words-bytes, bytes-words, length-words, length-bytes, word-at, words-below, below-take, below-drop}
-use Rattle.format.proofs.WalkLaws.{Walked, walk-sound, walk-complete}
+use Rattle.format.proofs.WalkLaws.{walk-sound, walk-complete}
 use Rattle.format.proofs.HeadLaws.{start-word, Starts, starts, three-first}
 
 -- ---- what an accepted answer says of the tests before it
@@ -83,16 +84,6 @@ head-zero buf n h =
     )
 
 -- ---- T15
-
--- a partial frame's content, with the items xs in their order, stands in the first n bytes of the buffer
-pub record Begun (buf : List ℕ) (n : ℕ) (f : Partial) (xs : List Item) : Type 0 where
-  pub card : f .card ≤ 31
-  pub sequence : f .sequence ≤ 0x0100
-  pub sound : Sound (f .kind) (f .card) [] xs
-  pub earlier : f .earlier ≡ behind [] xs
-  pub most : n ≤ 8190
-  pub inside : n ≤ length buf
-  pub written : take n buf ≡ bytes (partialWords (f .kind) (f .card) (f .sequence) xs)
 
 -- a word of the first n bytes
 taken-word : (buf : List ℕ) (n i : ℕ) → 2 * i + 2 ≤ n → getD (words (take n buf)) i 0 ≡ wordAt buf i

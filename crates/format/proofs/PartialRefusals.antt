@@ -1,8 +1,8 @@
 -- T15, refusals: those of a partial frame are 1 to 4 at place 0, and 6 to 10 at the word of an item in it.
 -- Assumes nothing.
-use Prim.Native.Nat.{ℕ, zero, suc, _+_, _-_, _*_, _/_, _%_, _<_, _≤_}
-use mathlib.Core.Path.{_≡_, refl, sym, ap, subst, _∙_}
-use mathlib.Core.List.{List, [], _∷_, _++_}
+use Prim.Native.Nat.{ℕ, zero, suc, _+_, _%_, _<_, _≤_}
+use mathlib.Core.Path.{_≡_, refl, sym, ap, _∙_}
+use mathlib.Core.List.{List, [], _∷_}
 use mathlib.Core.Logic.{_⊎_, inl, inr, ⊎-elim}
 use mathlib.Core.Bool.{Bool, true, false, _&&_, _||_}
 use mathlib.Core.Option.{Option, none, some}
@@ -10,26 +10,22 @@ use native.Mathlib.Omega.{arith}
 use lib.Dec.{leb, eqb}
 use lib.ListN.{length, getD, take, drop, length-drop}
 use lib.Seq.{length-take-le}
-use borrow.Author.Tests.{leb-true, eqb-true, eqb-false, eq-eqb}
+use borrow.Author.Tests.{eqb-true}
 use Rattle.format.specs.Words.{pick, Bytes, words, wordAt}
 use Rattle.format.specs.Answers.{Outcome, accepted, refused, andThen}
 use Rattle.format.specs.Book.{Class, classOf, after, assigned}
 use Rattle.format.specs.Items.{Item, classFor, wordsOf, decode, Token, whole, broken, flawed, tokenFor, tokenOf, tokens}
 use Rattle.format.specs.Rules.{Kind, place, value, order, Checked, good, bad, check}
 use Rattle.format.specs.Frames.{startFits, kindIn, cardIn, width, walk}
-use Rattle.format.specs.Writing.{Partial, partialFault, partialBody, partialOf, partialJudged, partialVerdict}
+use Rattle.format.specs.Writing.{partialFault, partialBody, partialOf, partialJudged, partialVerdict}
+use Rattle.format.specs.WriterCases.{oneOf, headNumbers, itemNumbers, PartialRefused, by-head, by-item, handed}
 use Rattle.format.proofs.PrefixLaws.{and-left, and-right}
 use Rattle.format.proofs.WordLaws.{pick-elim, length-words, words-below, below-take, below-drop}
-use Rattle.format.proofs.ItemLaws.{tokens-skip, Read, written-read, Passed, token-passed}
+use Rattle.format.proofs.ItemLaws.{tokens-skip, written-read, token-passed}
 use Rattle.format.proofs.WalkLaws.{passed, walk-good, walk-bad, not-whole}
 use Rattle.format.proofs.PartialLaws.{PartialHead, partial-head}
 
 -- ---- closed lists of numbers
-
--- the number is one of these
-abbrev pub oneOf : ℕ → List ℕ → Bool
-oneOf k [] = false
-oneOf k (n ∷ ns) = eqb k n || oneOf k ns
 
 -- each of these is one of those
 abbrev pub included : List ℕ → List ℕ → Bool
@@ -44,15 +40,9 @@ widen k (n ∷ ns) ms i e = go (eqb k n) refl e (widen k ns ms (and-right (oneOf
     go true p e f = ap (λ (m : ℕ). oneOf m ms) (eqb-true k n p) ∙ and-left (oneOf n ms) (included ns ms) i
     go false p e f = f e
 
--- the rules that an item handed over can break, those that an item in a frame can, and those of a partial frame's first words
+-- the rules that an item handed over can break
 abbrev pub ruleNumbers : List ℕ
 ruleNumbers = 8 ∷ 9 ∷ 10 ∷ []
-
-abbrev pub itemNumbers : List ℕ
-itemNumbers = 6 ∷ 7 ∷ 8 ∷ 9 ∷ 10 ∷ []
-
-abbrev pub headNumbers : List ℕ
-headNumbers = 1 ∷ 2 ∷ 3 ∷ 4 ∷ []
 
 -- ---- what a refused answer says
 
@@ -76,12 +66,6 @@ then-refused (accepted a) f n p e = inr (a, refl, e)
 then-refused (refused m q) f n p e = let (g, h) = refused-is m n q p e in inl (cc)
 
 -- ---- one item
-
--- a token that is no fault of its words alone
-abbrev pub handed : Token → Bool
-handed (whole x) = true
-handed (broken c) = true
-handed (flawed n) = false
 
 module _ (kind : Kind) (card : ℕ) (p : List Item) where
   Numbered : List ℕ → Checked (List Item) → Type 0
@@ -179,12 +163,6 @@ module _ (kind : Kind) (card : ℕ) where
       (refused-step p at w ws k q (λ i. b (suc i)) e)
 
 -- ---- the partial frame
-
-pub data PartialRefused (n k q : ℕ) : Type 0 where
-  -- one of the first four rules
-  by-head : oneOf k headNumbers ≡ true → q ≡ 0 → PartialRefused n k q
-  -- an item's
-  by-item : oneOf k itemNumbers ≡ true → 3 ≤ q → q < n / 2 → PartialRefused n k q
 
 head-number : (buf : List ℕ) (n : ℕ) → oneOf (partialFault buf n) (0 ∷ headNumbers) ≡ true
 unfolding partialFault

@@ -1,10 +1,8 @@
 -- Sound lists of items, one after the other: their rules, their words and the earlier items that they leave.
 -- Assumes nothing.
-use Prim.Native.Nat.{ℕ, _+_, _*_}
+use Prim.Native.Nat.{ℕ}
 use mathlib.Core.Path.{_≡_, refl, sym, ap, _∙_}
 use mathlib.Core.List.{List, [], _∷_, _++_, append-nil, append-assoc}
-use native.Mathlib.Omega.{arith}
-use lib.ListN.{length, length-append}
 use Rattle.format.specs.Words.{bytes}
 use Rattle.format.specs.Items.{Item, wordsOf}
 use Rattle.format.specs.Rules.{Kind}

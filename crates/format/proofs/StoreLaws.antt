@@ -1,24 +1,22 @@
 -- What the writer's calls leave: runs of stores in the lent buffer, and every other byte as it was.
 -- Assumes nothing.
-use Prim.Native.Nat.{ℕ, zero, suc, _+_, _-_, _*_, _/_, _%_, _<_, _≤_}
-use mathlib.Core.Path.{_≡_, refl, sym, ap, ap₂, subst, _∙_}
-use mathlib.Core.List.{List, [], _∷_, _++_, append-nil, append-assoc}
+use Prim.Native.Nat.{ℕ, suc, _+_, _*_, _/_, _%_, _<_, _≤_}
+use mathlib.Core.Path.{_≡_, refl, sym, ap, ap₂, _∙_}
+use mathlib.Core.List.{List, [], _∷_, _++_, append-assoc}
 use mathlib.Core.Logic.{_⊎_, inl, inr}
-use mathlib.Core.Bool.{Bool, true, false, _&&_}
 use native.Mathlib.Omega.{arith}
-use lib.Dec.{leb}
-use lib.ListN.{length, getD, take, drop, set, length-set, length-append, take-append-drop}
+use lib.ListN.{length, getD, take, drop, set, take-append-drop}
 use lib.Seq.{sets, sets-eq, length-sets, getD-set-other, take-at, drop-at, drop-drop}
-use Rattle.format.specs.Words.{pick, Bytes, words, bytes, wordAt}
-use Rattle.format.specs.Answers.{Outcome, accepted, refused, andThen, leaves}
-use Rattle.format.specs.Items.{Item, wordsOf, Token, whole, broken, flawed}
-use Rattle.format.specs.Rules.{Kind, mayEnd}
-use Rattle.format.specs.Frames.{Frame, behind, Allowed, Sound, startWord, allWords, frameWords, encode, Legal}
-use Rattle.format.specs.Writing.{Partial, partialWords, partialVerdict, beginAnswer, beginLeft, tokenBytes, addAnswer, addLeft, closeAnswer, closeLeft}
+use Rattle.format.specs.Words.{bytes}
+use Rattle.format.specs.Answers.{Outcome, accepted, refused, leaves}
+use Rattle.format.specs.Items.{Item, wordsOf, Token, whole}
+use Rattle.format.specs.Rules.{Kind}
+use Rattle.format.specs.Frames.{startWord, allWords, frameWords, encode}
+use Rattle.format.specs.Writing.{Partial, partialWords, beginAnswer, beginLeft, tokenBytes, addAnswer, addLeft, closeAnswer, closeLeft}
+use Rattle.format.specs.WriterCases.{Begun, framed}
 use Rattle.format.proofs.WordLaws.{bytes-append, length-bytes}
-use Rattle.format.proofs.SoundLaws.{sound-join, sound-one, sound-none, behind-one, partial-one}
-use Rattle.format.proofs.PartialLaws.{Begun, partial-sound, partial-complete, partial-length, begun-length}
-use Rattle.format.proofs.WriterLaws.{Beginning, begin-accepted, Added, add-accepted, Closed, close-accepted}
+use Rattle.format.proofs.PartialLaws.{begun-length}
+use Rattle.format.proofs.WriterLaws.{begin-accepted, add-accepted, close-accepted}
 
 -- ---- stores
 
@@ -177,10 +175,6 @@ end-in s rest n e h =
     sets-at (0x0F ∷ 0 ∷ []) (s ++ rest) n (n + 2) refl h
     ∙ ap₂ (λ (t d : List ℕ). t ++ ((0x0F ∷ 0 ∷ []) ++ d)) (take-at s rest n e) (sym (drop-drop 2 n (s ++ rest)) ∙ ap (drop 2) (drop-at s rest n e))
     ∙ sym (append-assoc s (0x0F ∷ 0 ∷ []) (drop 2 rest))
-
--- the frame of a partial frame's content, with the items xs in their order
-abbrev pub framed : Partial → List Item → Frame
-framed f xs = record { kind = f .kind; card = f .card; sequence = f .sequence; items = xs }
 
 pub close-left : (buf : List ℕ) (n : ℕ) (f : Partial) (xs : List Item) (m : ℕ) → Begun buf n f xs → closeAnswer buf n ≡ accepted m
     → closeLeft buf n ≡ encode (framed f xs) ++ drop m buf

@@ -1,33 +1,27 @@
 -- T17. The writer's calls: every answer with exactly what it says of the buffer and the arguments, in the order of the refusals.
 -- Assumes nothing.
-use Prim.Native.Nat.{ℕ, zero, suc, _+_, _-_, _*_, _/_, _%_, _<_, _≤_}
-use mathlib.Core.Path.{_≡_, refl, sym, ap, ap₂, subst, _∙_}
-use mathlib.Core.List.{List, [], _∷_, _++_}
+use Prim.Native.Nat.{ℕ, _+_, _/_, _<_, _≤_}
+use mathlib.Core.Path.{_≡_, refl, sym, subst}
+use mathlib.Core.List.{List, _∷_}
 use mathlib.Core.Logic.{_↔_, _⊎_, inl, inr, ⊎-elim}
-use mathlib.Core.Bool.{Bool, true, false, _&&_, _||_}
+use mathlib.Core.Bool.{Bool, true, false, _&&_}
 use native.Mathlib.Omega.{arith}
-use lib.Dec.{leb, eqb}
+use lib.Dec.{leb}
 use lib.ListN.{length}
 use borrow.Author.Tests.{leb-true, leb-false, le-leb, lt-leb}
 use Rattle.format.specs.Words.{pick, bytes}
 use Rattle.format.specs.Answers.{Outcome, accepted, refused, andThen}
-use Rattle.format.specs.Book.{Class}
 use Rattle.format.specs.Items.{Item, classFor, wordsOf, Token, whole, broken, flawed}
 use Rattle.format.specs.Rules.{Kind, place, value, order, mayEnd, Checked, good, bad, check}
 use Rattle.format.specs.Frames.{Allowed}
-use Rattle.format.specs.Writing.{Partial, partialVerdict, beginAnswer, tokenBytes, roomFor, addRoom, addChecked, addAnswer, closeAnswer}
-use Rattle.format.proofs.PrefixLaws.{and-left, and-right, and-both}
+use Rattle.format.specs.Writing.{Partial, partialVerdict, beginAnswer, roomFor, addChecked, addAnswer, closeAnswer}
+use Rattle.format.specs.WriterCases.{Begin, begins, card-wide, sequence-wide, begin-short, Breaks, misplaced, misvalued, misordered, class-misplaced, class-broken, flaw, longer, Add, adds, add-partial, add-breaks, add-short, Close, closes, close-partial, close-open, close-short}
+use Rattle.format.proofs.PrefixLaws.{and-left, and-right}
 use Rattle.format.proofs.WordLaws.{pick-elim}
 use Rattle.format.proofs.WalkLaws.{passes}
 use Rattle.format.proofs.PartialLaws.{accepted-is}
 
 -- ---- begin
-
-pub data Begin (buf : List ℕ) (card sequence : ℕ) : Outcome ℕ → Type 0 where
-  begins : card ≤ 31 → sequence ≤ 0x0100 → 8 ≤ length buf → Begin buf card sequence (accepted 6)
-  card-wide : 31 < card → Begin buf card sequence (refused 9 0)
-  sequence-wide : card ≤ 31 → 0x0100 < sequence → Begin buf card sequence (refused 4 0)
-  begin-short : card ≤ 31 → sequence ≤ 0x0100 → length buf < 8 → Begin buf card sequence (refused 12 0)
 
 begin-is : (buf : List ℕ) (card sequence : ℕ) → Begin buf card sequence (beginAnswer buf card sequence)
 unfolding beginAnswer
@@ -51,14 +45,6 @@ pub begin-exactly : (buf : List ℕ) (card sequence : ℕ) (o : Outcome ℕ) →
 begin-exactly buf card sequence o = (λ e. subst (Begin buf card sequence) e (begin-is buf card sequence), begin-only buf card sequence o)
 
 -- ---- the rules at a new item: the first of 8, 9 and 10 that is broken
-
-pub data Breaks (kind : Kind) (card : ℕ) (p : List Item) : Token → ℕ → Type 0 where
-  misplaced : (x : Item) → place kind p (classFor x) ≡ false → Breaks kind card p (whole x) 8
-  misvalued : (x : Item) → place kind p (classFor x) ≡ true → value card p x ≡ false → Breaks kind card p (whole x) 9
-  misordered : (x : Item) → place kind p (classFor x) ≡ true → value card p x ≡ true → order p x ≡ false → Breaks kind card p (whole x) 10
-  class-misplaced : (c : Class) → place kind p c ≡ false → Breaks kind card p (broken c) 8
-  class-broken : (c : Class) → place kind p c ≡ true → Breaks kind card p (broken c) 9
-  flaw : (n : ℕ) → Breaks kind card p (flawed n) n
 
 pub data Check (kind : Kind) (card : ℕ) (p : List Item) : Token → Checked (List Item) → Type 0 where
   passing : (x : Item) → Allowed kind card p x → Check kind card p (whole x) (good (x ∷ p))
@@ -92,18 +78,6 @@ module _ (kind : Kind) (card : ℕ) (p : List Item) where
 
 -- ---- add
 
--- the length with the token's bytes
-abbrev pub longer : ℕ → Token → ℕ
-longer n t = n + length (tokenBytes t)
-
-pub data Add (buf : List ℕ) (n : ℕ) : Token → Outcome ℕ → Type 0 where
-  adds : (f : Partial) (x : Item) → partialVerdict buf n ≡ accepted f → Allowed (f .kind) (f .card) (f .earlier) x
-      → longer n (whole x) + 2 ≤ length buf → longer n (whole x) + 2 ≤ 8192 → Add buf n (whole x) (accepted (longer n (whole x)))
-  add-partial : (t : Token) (k p : ℕ) → partialVerdict buf n ≡ refused k p → Add buf n t (refused k p)
-  add-breaks : (f : Partial) (t : Token) (k : ℕ) → partialVerdict buf n ≡ accepted f → Breaks (f .kind) (f .card) (f .earlier) t k → Add buf n t (refused k (n / 2))
-  add-short : (f : Partial) (x : Item) → partialVerdict buf n ≡ accepted f → Allowed (f .kind) (f .card) (f .earlier) x
-      → (length buf < longer n (whole x) + 2) ⊎ (8192 < longer n (whole x) + 2) → Add buf n (whole x) (refused 12 0)
-
 -- of two tests, both hold or one fails
 two-tests : (a b : Bool) → a && b ≡ false → (a ≡ false) ⊎ (b ≡ false)
 two-tests true b e = inr e
@@ -123,9 +97,9 @@ add-is buf n t = go (partialVerdict buf n) refl
   where
     item : (f : Partial) → partialVerdict buf n ≡ accepted f → (u : Token) (c : Checked (List Item)) → Check (f .kind) (f .card) (f .earlier) u c → Add buf n u (addChecked buf n u c)
     item f e u c (passing x a) =
-        pick-elim (Add buf n (whole x)) (roomFor buf (longer n (whole x)))
-        (λ r. adds f x e a (leb-true _ _ (and-left (leb (longer n (whole x) + 2) (length buf)) _ r)) (leb-true _ _ (and-right (leb (longer n (whole x) + 2) (length buf)) _ r)))
-        (λ r. add-short f x e a (⊎-elim (λ s. inl (leb-false _ _ s)) (λ s. inr (leb-false _ _ s)) (two-tests (leb (longer n (whole x) + 2) (length buf)) (leb (longer n (whole x) + 2) 8192) r)))
+        pick-elim (Add buf n (whole x)) (roomFor buf (longer n x))
+        (λ r. adds f x e a (leb-true _ _ (and-left (leb (longer n x + 2) (length buf)) _ r)) (leb-true _ _ (and-right (leb (longer n x + 2) (length buf)) _ r)))
+        (λ r. add-short f x e a (⊎-elim (λ s. inl (leb-false _ _ s)) (λ s. inr (leb-false _ _ s)) (two-tests (leb (longer n x + 2) (length buf)) (leb (longer n x + 2) 8192) r)))
     item f e u c (breaking t k b) = add-breaks f t k e b
 
     go : (o : Outcome Partial) → partialVerdict buf n ≡ o → Add buf n t (andThen o (λ f. addChecked buf n t (check (f .kind) (f .card) (f .earlier) t)))
@@ -135,11 +109,11 @@ add-is buf n t = go (partialVerdict buf n) refl
 add-only : (buf : List ℕ) (n : ℕ) (t : Token) (o : Outcome ℕ) → Add buf n t o → addAnswer buf n t ≡ o
 unfolding addAnswer
 add-only buf n t o (adds f x e a r s) =
-    rw (e, passes (f .kind) (f .card) (f .earlier) x a, le-leb (longer n (whole x) + 2) (length buf) r, le-leb (longer n (whole x) + 2) 8192 s)
+    rw (e, passes (f .kind) (f .card) (f .earlier) x a, le-leb (longer n x + 2) (length buf) r, le-leb (longer n x + 2) 8192 s)
 add-only buf n t o (add-partial u k p e) = rw e
 add-only buf n t o (add-breaks f u k e b) = rw (e, breaks-only (f .kind) (f .card) (f .earlier) u k b)
 add-only buf n t o (add-short f x e a r) =
-    rw (e, passes (f .kind) (f .card) (f .earlier) x a, no-room (length buf) (longer n (whole x) + 2) r)
+    rw (e, passes (f .kind) (f .card) (f .earlier) x a, no-room (length buf) (longer n x + 2) r)
 
 pub add-exactly : (buf : List ℕ) (n : ℕ) (t : Token) (o : Outcome ℕ) → (addAnswer buf n t ≡ o) ↔ Add buf n t o
 add-exactly buf n t o = (λ e. subst (Add buf n t) e (add-is buf n t), add-only buf n t o)
@@ -160,19 +134,13 @@ add-accepted buf n t m e = go t _ (add-is buf n t) e
   where
     go : (t : Token) (o : Outcome ℕ) → Add buf n t o → o ≡ accepted m → Added buf n t m
     go t o (adds f x e a r s) q =
-        let l : longer n (whole x) ≡ m = accepted-is _ _ q in
+        let l : longer n x ≡ m = accepted-is _ _ q in
         record { content = f; item = x; token = refl; judged = e; allowed = a; reached = sym l; room = omega arith; most = omega arith }
     go t o (add-partial u k p e) q = let z : _≡_ {A = ℕ} 0 1 = cc in absurd (omega arith)
     go t o (add-breaks f u k e b) q = let z : _≡_ {A = ℕ} 0 1 = cc in absurd (omega arith)
     go t o (add-short f x e a r) q = let z : _≡_ {A = ℕ} 0 1 = cc in absurd (omega arith)
 
 -- ---- close
-
-pub data Close (buf : List ℕ) (n : ℕ) : Outcome ℕ → Type 0 where
-  closes : (f : Partial) → partialVerdict buf n ≡ accepted f → mayEnd (f .earlier) ≡ true → n + 2 ≤ length buf → Close buf n (accepted (n + 2))
-  close-partial : (k p : ℕ) → partialVerdict buf n ≡ refused k p → Close buf n (refused k p)
-  close-open : (f : Partial) → partialVerdict buf n ≡ accepted f → mayEnd (f .earlier) ≡ false → Close buf n (refused 11 (n / 2))
-  close-short : (f : Partial) → partialVerdict buf n ≡ accepted f → mayEnd (f .earlier) ≡ true → length buf < n + 2 → Close buf n (refused 12 0)
 
 close-is : (buf : List ℕ) (n : ℕ) → Close buf n (closeAnswer buf n)
 unfolding closeAnswer

@@ -1,20 +1,19 @@
 -- T35. The numbers that a partial frame and each call of the writer can be refused by, and 12 of add exactly.
 -- Assumes nothing.
-use Prim.Native.Nat.{ℕ, _+_, _/_, _<_}
+use Prim.Native.Nat.{ℕ, _/_}
 use mathlib.Core.Path.{_≡_, refl, sym, ap, _∙_}
 use mathlib.Core.List.{List, [], _∷_}
-use mathlib.Core.Logic.{_↔_, _⊎_}
+use mathlib.Core.Logic.{_↔_}
 use mathlib.Core.Bool.{true, false}
 use native.Mathlib.Omega.{arith}
-use lib.ListN.{length}
-use Rattle.format.specs.Words.{Bytes, bytes}
-use Rattle.format.specs.Answers.{Outcome, accepted, refused}
-use Rattle.format.specs.Items.{Item, wordsOf, Token, whole}
+use Rattle.format.specs.Words.{Bytes}
+use Rattle.format.specs.Answers.{Outcome, refused}
+use Rattle.format.specs.Items.{Item, Token, whole}
 use Rattle.format.specs.Rules.{Kind}
-use Rattle.format.specs.Frames.{Allowed}
-use Rattle.format.specs.Writing.{Partial, partialVerdict, beginAnswer, addAnswer, closeAnswer}
-use Rattle.format.proofs.PartialRefusals.{oneOf, widen, handed, ruleNumbers, itemNumbers, headNumbers, PartialRefused, by-head, by-item, partial-refused, check-number, not-refused, refused-is}
-use Rattle.format.proofs.WriterLaws.{Begin, begins, card-wide, sequence-wide, begin-short, begin-exactly, Breaks, breaks-only, Add, adds, add-partial, add-breaks, add-short, add-exactly, Close, closes, close-partial, close-open, close-short, close-exactly}
+use Rattle.format.specs.Writing.{partialVerdict, beginAnswer, addAnswer, closeAnswer}
+use Rattle.format.specs.WriterCases.{oneOf, headNumbers, itemNumbers, PartialRefused, by-head, by-item, handed, Begin, begins, card-wide, sequence-wide, begin-short, Breaks, Add, adds, add-partial, add-breaks, add-short, Short, Close, closes, close-partial, close-open, close-short}
+use Rattle.format.proofs.PartialRefusals.{widen, ruleNumbers, partial-refused, check-number, not-refused, refused-is}
+use Rattle.format.proofs.WriterLaws.{begin-exactly, breaks-only, add-exactly, close-exactly}
 
 -- a partial frame's numbers, which 11 and 12 are not among
 abbrev pub partialNumbers : List ℕ
@@ -74,15 +73,6 @@ close-numbers buf bs n k p e = go _ (close-exactly buf n (refused k p) .0 e) ref
 
 -- ---- 12 is given exactly where nothing else is wrong and the item does not fit with an end word
 
-pub record Short (buf : List ℕ) (n : ℕ) (t : Token) (p : ℕ) : Type 0 where
-  pub content : Partial
-  pub item : Item
-  pub token : t ≡ whole item
-  pub judged : partialVerdict buf n ≡ accepted content
-  pub allowed : Allowed (content .kind) (content .card) (content .earlier) item
-  pub short : (length buf < n + length (bytes (wordsOf item)) + 2) ⊎ (8192 < n + length (bytes (wordsOf item)) + 2)
-  pub place : p ≡ 0
-
 pub add-room : (buf : List ℕ) → Bytes buf → (n : ℕ) (t : Token) → handed t ≡ true → (p : ℕ) → (addAnswer buf n t ≡ refused 12 p) ↔ Short buf n t p
 add-room buf bs n t h p = (λ e. go t _ h (add-exactly buf n t (refused 12 p) .0 e) refl, back)
   where
@@ -96,10 +86,10 @@ add-room buf bs n t h p = (λ e. go t _ h (add-exactly buf n t (refused 12 p) .0
     go t o h (add-partial u j r e) q = absurd (other j r partialNumbers (partial-numbers buf bs n j r e) refl q)
     go t o h (add-breaks f u j e b) q = absurd (other j (n / 2) ruleNumbers (breaks-number _ _ _ u j h b) refl q)
     go t o h (add-short f x e a r) q =
-        record { content = f; item = x; token = refl; judged = e; allowed = a; short = r; place = sym (refused-is 12 12 0 p q .1) }
+        record { partial = f; item = x; token = refl; judged = e; allowed = a; short = r; at = sym (refused-is 12 12 0 p q .1) }
 
     back : Short buf n t p → addAnswer buf n t ≡ refused 12 p
     back s =
         ap (addAnswer buf n) (s .token)
-        ∙ add-exactly buf n (whole (s .item)) (refused 12 0) .1 (add-short (s .content) (s .item) (s .judged) (s .allowed) (s .short))
-        ∙ ap (refused 12) (sym (s .place))
+        ∙ add-exactly buf n (whole (s .item)) (refused 12 0) .1 (add-short (s .partial) (s .item) (s .judged) (s .allowed) (s .short))
+        ∙ ap (refused 12) (sym (s .at))

@@ -5,28 +5,21 @@ use Prim.Native.Nat.{ℕ, _+_, _*_, _≤_}
 use mathlib.Core.Path.{_≡_, refl, sym, ap, subst, _∙_}
 use mathlib.Core.List.{List, [], _∷_, _++_, append-assoc}
 use native.Mathlib.Omega.{arith}
-use lib.ListN.{length, take, drop, length-append}
+use lib.ListN.{length, drop, length-append}
 use lib.Seq.{take-at, drop-at, length-take-le}
 use Rattle.format.specs.Words.{Bytes, bytes}
 use Rattle.format.specs.Answers.{accepted}
-use Rattle.format.specs.Items.{Item, wordsOf, Token, whole}
+use Rattle.format.specs.Items.{Item, wordsOf, whole}
 use Rattle.format.specs.Rules.{Kind, mayEnd}
 use Rattle.format.specs.Frames.{Frame, behind, Allowed, Sound, allWords, encode, frameWords, Legal}
 use Rattle.format.specs.Writing.{Partial, partialWords, partialVerdict, beginAnswer, beginLeft, addAnswer, addLeft, closeAnswer, closeLeft}
+use Rattle.format.specs.WriterCases.{Begun, content, with-item, framed, Holds}
 use Rattle.format.proofs.WordLaws.{length-bytes}
 use Rattle.format.proofs.Acceptance.{in-order}
 use Rattle.format.proofs.SoundLaws.{sound-join, sound-one, sound-none, behind-one, partial-one}
-use Rattle.format.proofs.PartialLaws.{accepted-is, Begun, partial-sound, partial-complete, partial-length, begun-length}
-use Rattle.format.proofs.WriterLaws.{Beginning, begin-accepted, Added, add-accepted, Closed, close-accepted}
-use Rattle.format.proofs.StoreLaws.{framed, begin-left, add-left, close-left}
-
--- the content of a partial frame with the items xs
-abbrev pub content : Kind → ℕ → ℕ → List Item → Partial
-content kind card sequence xs = record { kind = kind; card = card; sequence = sequence; earlier = behind [] xs }
-
--- a content with one item more
-abbrev pub with-item : Partial → Item → Partial
-with-item f x = record { kind = f .kind; card = f .card; sequence = f .sequence; earlier = x ∷ f .earlier }
+use Rattle.format.proofs.PartialLaws.{accepted-is, partial-sound, partial-complete, partial-length, begun-length}
+use Rattle.format.proofs.WriterLaws.{begin-accepted, add-accepted, close-accepted}
+use Rattle.format.proofs.StoreLaws.{begin-left, add-left, close-left}
 
 -- a partial frame that stands at the front
 pub begun-front : (f : Partial) (xs : List Item) (rest : List ℕ) (n : ℕ) → f .card ≤ 31 → f .sequence ≤ 0x0100 → Sound (f .kind) (f .card) [] xs
@@ -134,15 +127,11 @@ close-legal buf n f xs m b e =
       omega arith,
     )
 
-pub record ClosedFrame (buf : List ℕ) (n : ℕ) (f : Partial) (m : ℕ) : Type 0 where
-  pub legal : Legal (framed f (behind [] (f .earlier)))
-  pub reached : m ≡ length (encode (framed f (behind [] (f .earlier))))
-  pub left : closeLeft buf n ≡ encode (framed f (behind [] (f .earlier))) ++ drop m buf
-
-pub close-frame : (buf : List ℕ) → Bytes buf → (n : ℕ) (f : Partial) (m : ℕ) → partialVerdict buf n ≡ accepted f → closeAnswer buf n ≡ accepted m → ClosedFrame buf n f m
+pub close-frame : (buf : List ℕ) → Bytes buf → (n : ℕ) (f : Partial) (m : ℕ) → partialVerdict buf n ≡ accepted f → closeAnswer buf n ≡ accepted m
+    → Holds buf (closeLeft buf n) (framed f (behind [] (f .earlier))) m
 close-frame buf bs n f m j e =
     let (xs, b) = partial-sound buf bs n f j in
     let i : xs ≡ behind [] (f .earlier) = sym (ap (behind []) (b .earlier) ∙ in-order xs) in
     let c = subst (Begun buf n f) i b in
     let (l, r) = close-legal buf n f (behind [] (f .earlier)) m c e in
-    record { legal = l; reached = r; left = close-left buf n f (behind [] (f .earlier)) m c e }
+    record { legal = l; reached = r; written = close-left buf n f (behind [] (f .earlier)) m c e }

@@ -9,3 +9,4 @@ pub mod Questions
 pub mod Writing
 pub mod Figures
 pub mod Runs
+pub mod WriterCases
