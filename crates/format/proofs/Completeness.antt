@@ -4,7 +4,7 @@
 use Prim.Native.Nat.{ℕ, _+_, _-_, _<_, _≤_}
 use mathlib.Core.Path.{_≡_, refl, sym, ap, ap₂, subst, _∙_}
 use mathlib.Core.List.{List, [], _∷_, _++_, map, append-nil, append-assoc}
-use mathlib.Core.Logic.{_⊎_, inl, inr, ⊎-elim}
+use mathlib.Core.Logic.{_⊎_, inl, inr, ⊎-elim, ⊎-map}
 use mathlib.Core.Bool.{Bool, true, false}
 use native.Mathlib.Omega.{arith}
 use lib.Dec.{leb}
@@ -15,10 +15,10 @@ use Rattle.format.specs.Words.{Bytes, bytes}
 use Rattle.format.specs.Answers.{Outcome, accepted, refused}
 use Rattle.format.specs.Items.{Item, wordsOf, Token, whole}
 use Rattle.format.specs.Rules.{Kind, mayEnd}
-use Rattle.format.specs.Frames.{Frame, behind, Allowed, allWords, encode, Legal, verdict}
+use Rattle.format.specs.Frames.{Frame, behind, Allowed, Sound, allWords, encode, Legal, verdict}
 use Rattle.format.specs.Writing.{partialWords, partialVerdict, beginAnswer, beginLeft, addAnswer, addLeft, closeAnswer, closeLeft}
 use Rattle.format.specs.Runs.{Ran, ran, next, addAll, writeAll}
-use Rattle.format.specs.WriterCases.{begins, begin-short, adds, add-short, closes, Begun, content, RunWrote}
+use Rattle.format.specs.WriterCases.{longer, begins, begin-short, adds, add-short, closes, Begun, content, RunWrote}
 use Rattle.format.proofs.WordLaws.{length-bytes}
 use Rattle.format.proofs.Acceptance.{sound, complete}
 use Rattle.format.proofs.SoundLaws.{sound-rest, sound-head, behind-one, words-append}
@@ -70,6 +70,10 @@ module _ (kind : Kind) (card sequence : ℕ) (buf : List ℕ) where
     pub rest : drop n b ≡ drop n buf
     pub kept : length b ≡ length buf
     pub room : n + 2 ≤ length buf
+
+  -- a length is too much for the buffer, or for a frame
+  abbrev Over : ℕ → Type 0
+  Over m = (length buf < m) ⊎ (8192 < m)
 
   starts : (n : ℕ) → beginAnswer buf card sequence ≡ accepted n → Running (beginLeft buf kind card sequence) n []
   starts n e =
@@ -130,12 +134,12 @@ module _ (kind : Kind) (card sequence : ℕ) (buf : List ℕ) where
         further : m ≡ n + 2 → drop m b ≡ drop m buf
         further j = ap (λ (k : ℕ). drop k b) j ∙ sym (drop-drop 2 n b) ∙ ap (drop 2) (r .rest) ∙ drop-drop 2 n buf ∙ ap (λ (k : ℕ). drop k buf) (sym j)
 
-    -- the next item of a legal list is allowed, and the frame has room for it and an end word
+    -- the next item of a sound list is allowed, and the frame has room for it and an end word
     record Next (x : Item) (ys : List Item) : Type 0 where
       pub allowed : Allowed kind card (behind [] xs) x
-      pub fits : n + length (bytes (wordsOf x)) + 2 ≤ length (encode (frame (xs ++ (x ∷ ys))))
+      pub fits : longer n x + 2 ≤ length (encode (frame (xs ++ (x ∷ ys))))
 
-    next-item : (x : Item) (ys : List Item) → Legal (frame (xs ++ (x ∷ ys))) → Next x ys
+    next-item : (x : Item) (ys : List Item) → Sound kind card [] (xs ++ (x ∷ ys)) → Next x ys
     unfolding allWords
     next-item x ys l =
         let g = begun-length b n (content kind card sequence xs) xs (r .begun) in
@@ -144,26 +148,23 @@ module _ (kind : Kind) (card sequence : ℕ) (buf : List ℕ) where
         let v = length-append (wordsOf x) (allWords ys) in
         let s = length-bytes (wordsOf x) in
         record {
-          allowed = sound-head kind card (behind [] xs) x ys (sound-rest kind card [] xs (x ∷ ys) (l .sound));
+          allowed = sound-head kind card (behind [] xs) x ys (sound-rest kind card [] xs (x ∷ ys) l);
           fits = omega arith;
         }
 
-    -- so that it is added, if the buffer has room
-    added : (x : Item) (ys : List Item) → Legal (frame (xs ++ (x ∷ ys))) → n + length (bytes (wordsOf x)) + 2 ≤ length buf
-        → addAnswer b n (whole x) ≡ accepted (n + length (bytes (wordsOf x)))
-    added x ys l h =
-        let a = next-item x ys l in
-        let f = a .fits in
-        let s = l .short in
+    -- so that it is added, if there is room
+    added : (x : Item) (ys : List Item) → Sound kind card [] (xs ++ (x ∷ ys)) → longer n x + 2 ≤ length buf → longer n x + 2 ≤ 8192
+        → addAnswer b n (whole x) ≡ accepted (longer n x)
+    added x ys l h s =
         let k = r .kept in
-        add-exactly b n (whole x) (accepted (n + length (bytes (wordsOf x)))) .1 (adds (content kind card sequence xs) x judged (a .allowed) (omega arith) (omega arith))
+        add-exactly b n (whole x) (accepted (longer n x)) .1 (adds (content kind card sequence xs) x judged (next-item x ys l .allowed) (omega arith) s)
 
     -- and is refused by 12 otherwise
-    too-long : (x : Item) (ys : List Item) → Legal (frame (xs ++ (x ∷ ys))) → length buf < n + length (bytes (wordsOf x)) + 2
-        → addAnswer b n (whole x) ≡ refused 12 0
+    too-long : (x : Item) (ys : List Item) → Sound kind card [] (xs ++ (x ∷ ys)) → Over (longer n x + 2) → addAnswer b n (whole x) ≡ refused 12 0
     too-long x ys l h =
         let k = r .kept in
-        add-exactly b n (whole x) (refused 12 0) .1 (add-short (content kind card sequence xs) x judged (next-item x ys l .allowed) (inl (omega arith)))
+        add-exactly b n (whole x) (refused 12 0) .1 (add-short (content kind card sequence xs) x judged (next-item x ys l .allowed)
+        (⊎-map (λ (h : length buf < longer n x + 2). omega arith) (λ h. h) h))
 
   -- ---- the adds and close
 
@@ -184,39 +185,42 @@ module _ (kind : Kind) (card sequence : ℕ) (buf : List ℕ) where
       (close-on b n ∙ ap₂ ran (e ∙ ap accepted m) (c ∙ ap (λ (m : ℕ). encode (frame xs) ++ drop m buf) m))
   runs (x ∷ ys) b n xs r l h =
       let i = one-more xs x ys in
-      let f = next-item b n xs r x ys l .fits in
-      let e = added b n xs r x ys l (omega arith) in
-      add-on b n (whole x) (map whole ys) (n + length (bytes (wordsOf x))) e
-      ∙ runs ys (addLeft b n (whole x)) (n + length (bytes (wordsOf x))) (xs ++ (x ∷ [])) (goes-on b n xs r x (n + length (bytes (wordsOf x))) e)
+      let f = next-item b n xs r x ys (l .sound) .fits in
+      let s = l .short in
+      let e = added b n xs r x ys (l .sound) (omega arith) (omega arith) in
+      add-on b n (whole x) (map whole ys) (longer n x) e
+      ∙ runs ys (addLeft b n (whole x)) (longer n x) (xs ++ (x ∷ [])) (goes-on b n xs r x (longer n x) e)
       (subst (λ (ys : List Item). Legal (frame ys)) (sym i) l) (subst (λ (ys : List Item). length (encode (frame ys)) ≤ length buf) (sym i) h)
       ∙ ap done i
 
-  room-or-not : (m n : ℕ) → (m ≤ n) ⊎ (n < m)
-  room-or-not m n = go (leb m n) refl
+  room-or-not : (m : ℕ) → ((m ≤ length buf) × (m ≤ 8192)) ⊎ Over m
+  room-or-not m = go (leb m (length buf)) refl (leb m 8192) refl
     where
-      go : (t : Bool) → leb m n ≡ t → (m ≤ n) ⊎ (n < m)
-      go true e = inl (leb-true m n e)
-      go false e = inr (leb-false m n e)
+      go : (t : Bool) → leb m (length buf) ≡ t → (u : Bool) → leb m 8192 ≡ u → ((m ≤ length buf) × (m ≤ 8192)) ⊎ Over m
+      go true e true f = inl (leb-true m (length buf) e, leb-true m 8192 f)
+      go true e false f = inr (inr (leb-false m 8192 f))
+      go false e u f = inr (inl (leb-false m (length buf) e))
 
-  -- in a buffer that is too short the first refusal is 12
-  stops : (ys : List Item) (b : List ℕ) (n : ℕ) (xs : List Item) → Running b n xs → Legal (frame (xs ++ ys)) → length buf < length (encode (frame (xs ++ ys)))
+  -- a sound list that is too long is refused by 12 first
+  stops : (ys : List Item) (b : List ℕ) (n : ℕ) (xs : List Item) → Running b n xs → Sound kind card [] (xs ++ ys) → Over (length (encode (frame (xs ++ ys))))
       → addAll b n (map whole ys) .answer ≡ refused 12 0
   stops [] b n xs r l h =
       let i : length (encode (frame (xs ++ []))) ≡ length (encode (frame xs)) = ap (λ (xs : List Item). length (encode (frame xs))) (append-nil xs) in
       let g = begun-length b n (content kind card sequence xs) xs (r .begun) in
       let e = encode-length (frame xs) in
       let s = r .room in
-      absurd (omega arith)
+      let m = r .begun .most in
+      ⊎-elim (λ (h : length buf < length (encode (frame (xs ++ [])))). absurd (omega arith)) (λ (h : 8192 < length (encode (frame (xs ++ [])))). absurd (omega arith)) h
   stops (x ∷ ys) b n xs r l h =
       let i = one-more xs x ys in
       ⊎-elim
-      (λ (f : n + length (bytes (wordsOf x)) + 2 ≤ length buf).
-      let e = added b n xs r x ys l f in
-      ap (λ (o : Ran). o .answer) (add-on b n (whole x) (map whole ys) (n + length (bytes (wordsOf x))) e)
-      ∙ stops ys (addLeft b n (whole x)) (n + length (bytes (wordsOf x))) (xs ++ (x ∷ [])) (goes-on b n xs r x (n + length (bytes (wordsOf x))) e)
-      (subst (λ (ys : List Item). Legal (frame ys)) (sym i) l) (subst (λ (ys : List Item). length buf < length (encode (frame ys))) (sym i) h))
-      (λ (f : length buf < n + length (bytes (wordsOf x)) + 2). ap (λ (o : Ran). o .answer) (add-stops b n (whole x) (map whole ys) 12 0 (too-long b n xs r x ys l f)))
-      (room-or-not (n + length (bytes (wordsOf x)) + 2) (length buf))
+      (λ (f : (longer n x + 2 ≤ length buf) × (longer n x + 2 ≤ 8192)).
+      let e = added b n xs r x ys l (f .0) (f .1) in
+      ap (λ (o : Ran). o .answer) (add-on b n (whole x) (map whole ys) (longer n x) e)
+      ∙ stops ys (addLeft b n (whole x)) (longer n x) (xs ++ (x ∷ [])) (goes-on b n xs r x (longer n x) e)
+      (subst (Sound kind card []) (sym i) l) (subst (λ (ys : List Item). Over (length (encode (frame ys)))) (sym i) h))
+      (λ (f : Over (longer n x + 2)). ap (λ (o : Ran). o .answer) (add-stops b n (whole x) (map whole ys) 12 0 (too-long b n xs r x ys l f)))
+      (room-or-not (longer n x + 2))
 
   -- ---- what an accepted run wrote
 
@@ -288,18 +292,18 @@ written f l buf h =
     begin-on buf (f .kind) (f .card) (f .sequence) (map whole (f .items)) 6 e
     ∙ runs (f .kind) (f .card) (f .sequence) buf (f .items) (beginLeft buf (f .kind) (f .card) (f .sequence)) 6 [] (starts (f .kind) (f .card) (f .sequence) buf 6 e) l h
 
--- T18b: and where it does not fit, that is why
-pub too-short : (f : Frame) → Legal f → (buf : List ℕ) → length buf < length (encode f)
-    → writeAll buf (f .kind) (f .card) (f .sequence) (map whole (f .items)) .answer ≡ refused 12 0
-too-short f l buf h = go (leb 8 (length buf)) refl
+-- T18b: and where it does not fit, the buffer or a frame, that is why
+pub too-short : (f : Frame) → f .card ≤ 31 → f .sequence ≤ 0x0100 → Sound (f .kind) (f .card) [] (f .items) → (buf : List ℕ)
+    → (length buf < length (encode f)) ⊎ (8192 < length (encode f)) → writeAll buf (f .kind) (f .card) (f .sequence) (map whole (f .items)) .answer ≡ refused 12 0
+too-short f c q s buf h = go (leb 8 (length buf)) refl
   where
     go : (t : Bool) → leb 8 (length buf) ≡ t → writeAll buf (f .kind) (f .card) (f .sequence) (map whole (f .items)) .answer ≡ refused 12 0
     go true t =
-        let e = begin-exactly buf (f .card) (f .sequence) (accepted 6) .1 (begins (l .card) (l .sequence) (leb-true _ _ t)) in
+        let e = begin-exactly buf (f .card) (f .sequence) (accepted 6) .1 (begins c q (leb-true _ _ t)) in
         ap (λ (o : Ran). o .answer) (begin-on buf (f .kind) (f .card) (f .sequence) (map whole (f .items)) 6 e)
-        ∙ stops (f .kind) (f .card) (f .sequence) buf (f .items) (beginLeft buf (f .kind) (f .card) (f .sequence)) 6 [] (starts (f .kind) (f .card) (f .sequence) buf 6 e) l h
+        ∙ stops (f .kind) (f .card) (f .sequence) buf (f .items) (beginLeft buf (f .kind) (f .card) (f .sequence)) 6 [] (starts (f .kind) (f .card) (f .sequence) buf 6 e) s h
     go false t =
-        let e = begin-exactly buf (f .card) (f .sequence) (refused 12 0) .1 (begin-short (l .card) (l .sequence) (leb-false _ _ t)) in
+        let e = begin-exactly buf (f .card) (f .sequence) (refused 12 0) .1 (begin-short c q (leb-false _ _ t)) in
         ap (λ (o : Ran). o .answer) (begin-stops buf (f .kind) (f .card) (f .sequence) (map whole (f .items)) 12 0 e)
 
 -- T19: whatever a run accepts is what a legal frame is written as, whose items are those handed over, and it reads back as that frame

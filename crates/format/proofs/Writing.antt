@@ -85,9 +85,9 @@ pub every-frame-is-written : (f : Frame) → Legal f → (buf : List ℕ) → le
     → writeAll buf (f .kind) (f .card) (f .sequence) (map whole (f .items)) ≡ ran (accepted (length (encode f))) (encode f ++ drop (length (encode f)) buf)
 every-frame-is-written = written
 
--- and a buffer that is too short is the only reason against
-pub only-room : (f : Frame) → Legal f → (buf : List ℕ) → length buf < length (encode f)
-    → writeAll buf (f .kind) (f .card) (f .sequence) (map whole (f .items)) .answer ≡ refused 12 0
+-- and that it does not fit, the buffer or a frame, is the only reason against
+pub only-room : (f : Frame) → f .card ≤ 31 → f .sequence ≤ 0x0100 → Sound (f .kind) (f .card) [] (f .items) → (buf : List ℕ)
+    → (length buf < length (encode f)) ⊎ (8192 < length (encode f)) → writeAll buf (f .kind) (f .card) (f .sequence) (map whole (f .items)) .answer ≡ refused 12 0
 only-room = too-short
 
 -- T19. Whatever such a run accepts is a legal frame of exactly the items added, in order, and reads back as it
