@@ -74,81 +74,27 @@ pub close-found : (buf : List ℕ) (n k p : ℕ) → closeAnswer buf n ≡ refus
 unfolding closeLeft
 close-found buf n k p e = as-found _ _ _ k p e
 
--- ---- what an accepted call leaves
-
-begin-stores : (buf : List ℕ) (kind : Kind) (card sequence m : ℕ) → beginAnswer buf card sequence ≡ accepted m
-    → beginLeft buf kind card sequence ≡ sets buf 0 (bytes (partialWords kind card sequence []))
-unfolding beginLeft
-begin-stores buf kind card sequence m e = as-written _ _ _ m e
-
-add-stores : (buf : List ℕ) (n : ℕ) (t : Token) (m : ℕ) → addAnswer buf n t ≡ accepted m → addLeft buf n t ≡ sets buf n (tokenBytes t)
-unfolding addLeft
-add-stores buf n t m e = as-written _ _ _ m e
-
-close-stores : (buf : List ℕ) (n m : ℕ) → closeAnswer buf n ≡ accepted m
-    → closeLeft buf n ≡ sets (sets buf 2 (bytes ((n + 2) ∷ []))) n (bytes (0x000F ∷ []))
-unfolding closeLeft
-close-stores buf n m e = as-written _ _ _ m e
-
--- ---- T34: begin writes bytes 0 to 5 only, add those of the item, close the size and end words
+-- ---- the whole buffer after an accepted call
 
 pub six : (kind : Kind) (card sequence : ℕ) → length (bytes (partialWords kind card sequence [])) ≡ 6
 unfolding bytes partialWords allWords
 six kind card sequence = refl
 
-pub begin-bytes : (buf : List ℕ) (kind : Kind) (card sequence i : ℕ) → 6 ≤ i → getD (beginLeft buf kind card sequence) i 0 ≡ getD buf i 0
-unfolding beginLeft
-begin-bytes buf kind card sequence i h =
-    let l = six kind card sequence in
-    either-way (λ l. getD l i 0 ≡ getD buf i 0) (beginAnswer buf card sequence) refl
-    (sets-other (bytes (partialWords kind card sequence [])) buf 0 i (inr (omega arith)))
-
-pub add-bytes : (buf : List ℕ) (n : ℕ) (t : Token) (m i : ℕ) → addAnswer buf n t ≡ accepted m → (i < n) ⊎ (m ≤ i) → getD (addLeft buf n t) i 0 ≡ getD buf i 0
-add-bytes buf n t m i e h =
-    let a = add-accepted buf n t m e in
-    ap (λ (l : List ℕ). getD l i 0) (add-stores buf n t m e) ∙ sets-other (tokenBytes t) buf n i (away (ap (λ (t : Token). length (tokenBytes t)) (a .token)) (a .reached) h)
-  where
-    away : {l : ℕ} → length (tokenBytes t) ≡ l → m ≡ n + l → (i < n) ⊎ (m ≤ i) → (i < n) ⊎ (n + length (tokenBytes t) ≤ i)
-    away p q (inl h) = inl h
-    away p q (inr h) = inr (omega arith)
-
-pub close-bytes : (buf : List ℕ) (n i : ℕ) → (i ≡ 2 → ⊥) → (i ≡ 3 → ⊥) → (i ≡ n → ⊥) → (i ≡ n + 1 → ⊥) → getD (closeLeft buf n) i 0 ≡ getD buf i 0
-unfolding closeLeft
-close-bytes buf n i a b c d =
-    either-way (λ l. getD l i 0 ≡ getD buf i 0) (closeAnswer buf n) refl
-    (two-other (sets buf 2 (bytes ((n + 2) ∷ []))) 0x000F n i c d ∙ two-other buf (n + 2) 2 i a b)
-
--- no call makes the buffer longer or shorter
-pub begin-kept : (buf : List ℕ) (kind : Kind) (card sequence : ℕ) → length (beginLeft buf kind card sequence) ≡ length buf
-unfolding beginLeft
-begin-kept buf kind card sequence =
-    either-way (λ l. length l ≡ length buf) (beginAnswer buf card sequence) refl (length-sets buf 0 (bytes (partialWords kind card sequence [])))
-
-pub add-kept : (buf : List ℕ) (n : ℕ) (t : Token) → length (addLeft buf n t) ≡ length buf
-unfolding addLeft
-add-kept buf n t = either-way (λ l. length l ≡ length buf) (addAnswer buf n t) refl (length-sets buf n (tokenBytes t))
-
-pub close-kept : (buf : List ℕ) (n : ℕ) → length (closeLeft buf n) ≡ length buf
-unfolding closeLeft
-close-kept buf n =
-    either-way (λ l. length l ≡ length buf) (closeAnswer buf n) refl
-    (length-sets (sets buf 2 (bytes ((n + 2) ∷ []))) n (bytes (0x000F ∷ [])) ∙ length-sets buf 2 (bytes ((n + 2) ∷ [])))
-
--- ---- the whole buffer after an accepted call
-
 pub begin-left : (buf : List ℕ) (kind : Kind) (card sequence m : ℕ) → beginAnswer buf card sequence ≡ accepted m
     → beginLeft buf kind card sequence ≡ bytes (partialWords kind card sequence []) ++ drop 6 buf
+unfolding beginLeft
 begin-left buf kind card sequence m e =
     let b = begin-accepted buf card sequence m e .room in
-    begin-stores buf kind card sequence m e ∙ sets-front (bytes (partialWords kind card sequence [])) buf 6 (six kind card sequence) (omega arith)
+    as-written _ _ _ m e ∙ sets-front (bytes (partialWords kind card sequence [])) buf 6 (six kind card sequence) (omega arith)
 
 pub add-left : (buf : List ℕ) (n : ℕ) (x : Item) (m : ℕ) → addAnswer buf n (whole x) ≡ accepted m
     → addLeft buf n (whole x) ≡ take n buf ++ (bytes (wordsOf x) ++ drop m buf)
+unfolding addLeft
 add-left buf n x m e =
     let a = add-accepted buf n (whole x) m e in
     let r = a .room in
     let k : a .item ≡ x = whole-is _ _ (sym (a .token)) in
-    add-stores buf n (whole x) m e ∙ sets-at (bytes (wordsOf x)) buf n m (a .reached ∙ ap (λ (y : Item). n + length (bytes (wordsOf y))) k) (omega arith)
+    as-written _ _ _ m e ∙ sets-at (bytes (wordsOf x)) buf n m (a .reached ∙ ap (λ (y : Item). n + length (bytes (wordsOf y))) k) (omega arith)
   where
     whole-is : (x y : Item) → whole x ≡ whole y → x ≡ y
     whole-is x y e = cc
@@ -178,6 +124,7 @@ end-in s rest n e h =
 
 pub close-left : (buf : List ℕ) (n : ℕ) (f : Partial) (xs : List Item) (m : ℕ) → Begun buf n f xs → closeAnswer buf n ≡ accepted m
     → closeLeft buf n ≡ encode (framed f xs) ++ drop m buf
+unfolding closeLeft
 close-left buf n f xs m b e =
     let c = close-accepted buf n m e in
     let r = c .room in
@@ -189,7 +136,48 @@ close-left buf n f xs m b e =
     let sized : sets buf 2 (bytes ((n + 2) ∷ [])) ≡ s ++ rest =
     ap (λ (l : List ℕ). sets l 2 (bytes ((n + 2) ∷ []))) whole-buf ∙ size-in (f .kind) (f .card) (f .sequence) (n + 2) xs rest in
     let k : length (s ++ rest) ≡ length buf = ap length (sym sized) ∙ length-sets buf 2 (bytes ((n + 2) ∷ [])) in
-    close-stores buf n m e
+    as-written _ _ _ m e
     ∙ ap (λ (l : List ℕ). sets l n (bytes (0x000F ∷ []))) sized
     ∙ end-in s rest n (length-bytes (startWord (f .kind) (f .card) ∷ (n + 2) ∷ f .sequence ∷ allWords xs) ∙ omega arith) (omega arith)
     ∙ ap₂ _++_ (frame-words (f .kind) (f .card) (f .sequence) n xs l) (drop-drop 2 n buf ∙ ap (λ (k : ℕ). drop k buf) (sym (c .reached)))
+
+-- ---- T34: begin writes bytes 0 to 5 only, add those of the item, close the size and end words
+
+pub begin-bytes : (buf : List ℕ) (kind : Kind) (card sequence i : ℕ) → 6 ≤ i → getD (beginLeft buf kind card sequence) i 0 ≡ getD buf i 0
+unfolding beginLeft
+begin-bytes buf kind card sequence i h =
+    let l = six kind card sequence in
+    either-way (λ l. getD l i 0 ≡ getD buf i 0) (beginAnswer buf card sequence) refl
+    (sets-other (bytes (partialWords kind card sequence [])) buf 0 i (inr (omega arith)))
+
+pub add-bytes : (buf : List ℕ) (n : ℕ) (t : Token) (m i : ℕ) → addAnswer buf n t ≡ accepted m → (i < n) ⊎ (m ≤ i) → getD (addLeft buf n t) i 0 ≡ getD buf i 0
+unfolding addLeft
+add-bytes buf n t m i e h =
+    let a = add-accepted buf n t m e in
+    ap (λ (l : List ℕ). getD l i 0) (as-written _ _ _ m e) ∙ sets-other (tokenBytes t) buf n i (away (ap (λ (t : Token). length (tokenBytes t)) (a .token)) (a .reached) h)
+  where
+    away : {l : ℕ} → length (tokenBytes t) ≡ l → m ≡ n + l → (i < n) ⊎ (m ≤ i) → (i < n) ⊎ (n + length (tokenBytes t) ≤ i)
+    away p q (inl h) = inl h
+    away p q (inr h) = inr (omega arith)
+
+pub close-bytes : (buf : List ℕ) (n i : ℕ) → (i ≡ 2 → ⊥) → (i ≡ 3 → ⊥) → (i ≡ n → ⊥) → (i ≡ n + 1 → ⊥) → getD (closeLeft buf n) i 0 ≡ getD buf i 0
+unfolding closeLeft
+close-bytes buf n i a b c d =
+    either-way (λ l. getD l i 0 ≡ getD buf i 0) (closeAnswer buf n) refl
+    (two-other (sets buf 2 (bytes ((n + 2) ∷ []))) 0x000F n i c d ∙ two-other buf (n + 2) 2 i a b)
+
+-- no call makes the buffer longer or shorter
+pub begin-kept : (buf : List ℕ) (kind : Kind) (card sequence : ℕ) → length (beginLeft buf kind card sequence) ≡ length buf
+unfolding beginLeft
+begin-kept buf kind card sequence =
+    either-way (λ l. length l ≡ length buf) (beginAnswer buf card sequence) refl (length-sets buf 0 (bytes (partialWords kind card sequence [])))
+
+pub add-kept : (buf : List ℕ) (n : ℕ) (t : Token) → length (addLeft buf n t) ≡ length buf
+unfolding addLeft
+add-kept buf n t = either-way (λ l. length l ≡ length buf) (addAnswer buf n t) refl (length-sets buf n (tokenBytes t))
+
+pub close-kept : (buf : List ℕ) (n : ℕ) → length (closeLeft buf n) ≡ length buf
+unfolding closeLeft
+close-kept buf n =
+    either-way (λ l. length l ≡ length buf) (closeAnswer buf n) refl
+    (length-sets (sets buf 2 (bytes ((n + 2) ∷ []))) n (bytes (0x000F ∷ [])) ∙ length-sets buf 2 (bytes ((n + 2) ∷ [])))
