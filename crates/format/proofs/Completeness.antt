@@ -14,14 +14,14 @@ use lib.Seq.{drop-drop, drop-at, take-at}
 use Rattle.format.specs.Words.{Bytes, bytes}
 use Rattle.format.specs.Answers.{Outcome, accepted, refused}
 use Rattle.format.specs.Items.{Item, wordsOf, Token, whole}
-use Rattle.format.specs.Rules.{Kind, mayEnd}
+use Rattle.format.specs.Rules.{Kind, since, count, mayEnd}
 use Rattle.format.specs.Frames.{Frame, behind, Allowed, Sound, allWords, encode, Legal, verdict}
 use Rattle.format.specs.Writing.{partialWords, partialVerdict, beginAnswer, beginLeft, addAnswer, addLeft, closeAnswer, closeLeft}
 use Rattle.format.specs.Runs.{Ran, ran, next, addAll, writeAll}
-use Rattle.format.specs.WriterCases.{longer, begins, begin-short, adds, add-short, closes, Begun, content, RunWrote}
+use Rattle.format.specs.WriterCases.{longer, begins, beginShort, adds, addShort, closes, Begun, content, RunWrote}
 use Rattle.format.proofs.WordLaws.{length-bytes}
 use Rattle.format.proofs.Acceptance.{sound, complete}
-use Rattle.format.proofs.SoundLaws.{sound-rest, sound-head, behind-one, words-append}
+use Rattle.format.proofs.SoundLaws.{sound-none, sound-rest, sound-head, behind-one, words-append}
 use Rattle.format.proofs.PartialLaws.{partial-complete, begun-length}
 use Rattle.format.proofs.WriterLaws.{begin-exactly, begin-accepted, add-exactly, add-accepted, close-exactly, close-accepted}
 use Rattle.format.proofs.StoreLaws.{six, begin-left, begin-kept, add-kept, close-left}
@@ -163,7 +163,7 @@ module _ (kind : Kind) (card sequence : ℕ) (buf : List ℕ) where
     too-long : (x : Item) (ys : List Item) → Sound kind card [] (xs ++ (x ∷ ys)) → Over (longer n x + 2) → addAnswer b n (whole x) ≡ refused 12 0
     too-long x ys l h =
         let k = r .kept in
-        add-exactly b n (whole x) (refused 12 0) .1 (add-short (content kind card sequence xs) x judged (next-item x ys l .allowed)
+        add-exactly b n (whole x) (refused 12 0) .1 (addShort (content kind card sequence xs) x judged (next-item x ys l .allowed)
         (⊎-map (λ (h : length buf < longer n x + 2). omega arith) (λ h. h) h))
 
   -- ---- the adds and close
@@ -282,6 +282,14 @@ module _ (kind : Kind) (card sequence : ℕ) (buf : List ℕ) where
         written = v .written ∙ ap (λ (xs : List Item). encode (frame xs) ++ drop m buf) i;
       }
 
+-- there are legal frames of every kind, card and sequence word
+pub empty-legal : (kind : Kind) (card sequence : ℕ) → card ≤ 31 → sequence ≤ 0x0100 → Legal (record { kind = kind; card = card; sequence = sequence; items = [] })
+unfolding behind since count allWords
+empty-legal kind card sequence c q =
+    let f : Frame = record { kind = kind; card = card; sequence = sequence; items = [] } in
+    let l = encode-length f in
+    record { card = c; sequence = q; sound = sound-none kind card []; ended = refl; short = omega arith }
+
 -- T18: every legal frame is written, if it fits
 pub written : (f : Frame) → Legal f → (buf : List ℕ) → length (encode f) ≤ length buf
     → writeAll buf (f .kind) (f .card) (f .sequence) (map whole (f .items)) ≡ ran (accepted (length (encode f))) (encode f ++ drop (length (encode f)) buf)
@@ -303,7 +311,7 @@ too-short f c q s buf h = go (leb 8 (length buf)) refl
         ap (λ (o : Ran). o .answer) (begin-on buf (f .kind) (f .card) (f .sequence) (map whole (f .items)) 6 e)
         ∙ stops (f .kind) (f .card) (f .sequence) buf (f .items) (beginLeft buf (f .kind) (f .card) (f .sequence)) 6 [] (starts (f .kind) (f .card) (f .sequence) buf 6 e) s h
     go false t =
-        let e = begin-exactly buf (f .card) (f .sequence) (refused 12 0) .1 (begin-short c q (leb-false _ _ t)) in
+        let e = begin-exactly buf (f .card) (f .sequence) (refused 12 0) .1 (beginShort c q (leb-false _ _ t)) in
         ap (λ (o : Ran). o .answer) (begin-stops buf (f .kind) (f .card) (f .sequence) (map whole (f .items)) 12 0 e)
 
 -- T19: whatever a run accepts is what a legal frame is written as, whose items are those handed over, and it reads back as that frame

@@ -18,7 +18,7 @@ use Rattle.format.specs.Items.{Item, classFor, wordsOf, decode, Token, w
 use Rattle.format.specs.Rules.{Kind, place, value, order, Checked, good, bad, check}
 use Rattle.format.specs.Frames.{startFits, kindIn, cardIn, width, walk}
 use Rattle.format.specs.Writing.{partialFault, partialBody, partialOf, partialJudged, partialVerdict}
-use Rattle.format.specs.WriterCases.{oneOf, headNumbers, itemNumbers, PartialRefused, by-head, by-item, handed}
+use Rattle.format.specs.WriterCases.{oneOf, headNumbers, itemNumbers, PartialRefused, byHead, byItem, handed}
 use Rattle.format.proofs.PrefixLaws.{and-left, and-right}
 use Rattle.format.proofs.WordLaws.{pick-elim, length-words, words-below, below-take, below-drop}
 use Rattle.format.proofs.ItemLaws.{tokens-skip, written-read, token-passed}
@@ -196,11 +196,11 @@ partial-refused buf bs n k q e = go (pick-refused _ _ _ _ _ _ e)
         (below-drop 3 (words (take n buf)) 65536 (words-below (take n buf) (below-take n buf 256 (omega arith) bs))) w in
         let a = z .from in
         let b = z .before in
-        by-item (ap (λ (k : ℕ). oneOf k itemNumbers) (sym g) ∙ z .number) (omega arith) (omega arith)
+        byItem (ap (λ (k : ℕ). oneOf k itemNumbers) (sym g) ∙ z .number) (omega arith) (omega arith)
 
     go : ((eqb (partialFault buf n) 0 ≡ true) × (partialJudged buf n ≡ refused k q)) ⊎ ((eqb (partialFault buf n) 0 ≡ false) × (partialFault buf n ≡ k) × (0 ≡ q)) → PartialRefused n k q
     go (inl (t, f)) = items (partial-head buf n (eqb-true _ _ t)) _ refl f
-    go (inr (t, f, g)) = by-head (not-zero k (ap (λ (k : ℕ). eqb k 0) (sym f) ∙ t) (ap (λ (k : ℕ). oneOf k (0 ∷ headNumbers)) (sym f) ∙ head-number buf n)) (sym g)
+    go (inr (t, f, g)) = byHead (not-zero k (ap (λ (k : ℕ). eqb k 0) (sym f) ∙ t) (ap (λ (k : ℕ). oneOf k (0 ∷ headNumbers)) (sym f) ∙ head-number buf n)) (sym g)
       where
         not-zero : (k : ℕ) → eqb k 0 ≡ false → oneOf k (0 ∷ headNumbers) ≡ true → oneOf k headNumbers ≡ true
         not-zero k h e = rw h at e

@@ -15,7 +15,7 @@ use Rattle.format.specs.Items.{Item, classFor, wordsOf, Token, whole, br
 use Rattle.format.specs.Rules.{Kind, place, value, order, mayEnd, Checked, good, bad, check}
 use Rattle.format.specs.Frames.{Allowed}
 use Rattle.format.specs.Writing.{Partial, partialVerdict, beginAnswer, roomFor, addChecked, addAnswer, closeAnswer}
-use Rattle.format.specs.WriterCases.{Begin, begins, card-wide, sequence-wide, begin-short, Breaks, misplaced, misvalued, misordered, class-misplaced, class-broken, flaw, longer, Add, adds, add-partial, add-breaks, add-short, Close, closes, close-partial, close-open, close-short}
+use Rattle.format.specs.WriterCases.{Begin, begins, cardWide, sequenceWide, beginShort, Breaks, misplaced, misvalued, misordered, classMisplaced, classBroken, flaw, longer, Add, adds, addPartial, addBreaks, addShort, Close, closes, closePartial, closeOpen, closeShort}
 use Rattle.format.proofs.PrefixLaws.{and-left, and-right}
 use Rattle.format.proofs.WordLaws.{pick-elim}
 use Rattle.format.proofs.WalkLaws.{passes}
@@ -30,16 +30,16 @@ begin-is buf card sequence =
     (λ a. pick-elim (Begin buf card sequence) (leb sequence 0x0100)
     (λ b. pick-elim (Begin buf card sequence) (leb 8 (length buf))
     (λ c. begins (leb-true _ _ a) (leb-true _ _ b) (leb-true _ _ c))
-    (λ c. begin-short (leb-true _ _ a) (leb-true _ _ b) (leb-false _ _ c)))
-    (λ b. sequence-wide (leb-true _ _ a) (leb-false _ _ b)))
-    (λ a. card-wide (leb-false _ _ a))
+    (λ c. beginShort (leb-true _ _ a) (leb-true _ _ b) (leb-false _ _ c)))
+    (λ b. sequenceWide (leb-true _ _ a) (leb-false _ _ b)))
+    (λ a. cardWide (leb-false _ _ a))
 
 begin-only : (buf : List ℕ) (card sequence : ℕ) (o : Outcome ℕ) → Begin buf card sequence o → beginAnswer buf card sequence ≡ o
 unfolding beginAnswer
 begin-only buf card sequence o (begins a b c) = rw (le-leb card 31 a, le-leb sequence 0x0100 b, le-leb 8 (length buf) c)
-begin-only buf card sequence o (card-wide a) = rw (lt-leb card 31 a)
-begin-only buf card sequence o (sequence-wide a b) = rw (le-leb card 31 a, lt-leb sequence 0x0100 b)
-begin-only buf card sequence o (begin-short a b c) = rw (le-leb card 31 a, le-leb sequence 0x0100 b, lt-leb 8 (length buf) c)
+begin-only buf card sequence o (cardWide a) = rw (lt-leb card 31 a)
+begin-only buf card sequence o (sequenceWide a b) = rw (le-leb card 31 a, lt-leb sequence 0x0100 b)
+begin-only buf card sequence o (beginShort a b c) = rw (le-leb card 31 a, le-leb sequence 0x0100 b, lt-leb 8 (length buf) c)
 
 pub begin-exactly : (buf : List ℕ) (card sequence : ℕ) (o : Outcome ℕ) → (beginAnswer buf card sequence ≡ o) ↔ Begin buf card sequence o
 begin-exactly buf card sequence o = (λ e. subst (Begin buf card sequence) e (begin-is buf card sequence), begin-only buf card sequence o)
@@ -63,8 +63,8 @@ module _ (kind : Kind) (card : ℕ) (p : List Item) where
       (λ a. breaking (whole x) 8 (misplaced x a))
   check-is (broken c) =
       pick-elim (Check kind card p (broken c)) (place kind p c)
-      (λ a. breaking (broken c) 9 (class-broken c a))
-      (λ a. breaking (broken c) 8 (class-misplaced c a))
+      (λ a. breaking (broken c) 9 (classBroken c a))
+      (λ a. breaking (broken c) 8 (classMisplaced c a))
   check-is (flawed n) = breaking (flawed n) n (flaw n)
 
   pub breaks-only : (t : Token) (k : ℕ) → Breaks kind card p t k → check kind card p t ≡ bad k
@@ -72,8 +72,8 @@ module _ (kind : Kind) (card : ℕ) (p : List Item) where
   breaks-only t k (misplaced x a) = rw a
   breaks-only t k (misvalued x a b) = rw (a, b)
   breaks-only t k (misordered x a b c) = rw (a, b, c)
-  breaks-only t k (class-misplaced c a) = rw a
-  breaks-only t k (class-broken c a) = rw a
+  breaks-only t k (classMisplaced c a) = rw a
+  breaks-only t k (classBroken c a) = rw a
   breaks-only t k (flaw n) = refl
 
 -- ---- add
@@ -99,20 +99,20 @@ add-is buf n t = go (partialVerdict buf n) refl
     item f e u c (passing x a) =
         pick-elim (Add buf n (whole x)) (roomFor buf (longer n x))
         (λ r. adds f x e a (leb-true _ _ (and-left (leb (longer n x + 2) (length buf)) _ r)) (leb-true _ _ (and-right (leb (longer n x + 2) (length buf)) _ r)))
-        (λ r. add-short f x e a (⊎-elim (λ s. inl (leb-false _ _ s)) (λ s. inr (leb-false _ _ s)) (two-tests (leb (longer n x + 2) (length buf)) (leb (longer n x + 2) 8192) r)))
-    item f e u c (breaking t k b) = add-breaks f t k e b
+        (λ r. addShort f x e a (⊎-elim (λ s. inl (leb-false _ _ s)) (λ s. inr (leb-false _ _ s)) (two-tests (leb (longer n x + 2) (length buf)) (leb (longer n x + 2) 8192) r)))
+    item f e u c (breaking t k b) = addBreaks f t k e b
 
     go : (o : Outcome Partial) → partialVerdict buf n ≡ o → Add buf n t (andThen o (λ f. addChecked buf n t (check (f .kind) (f .card) (f .earlier) t)))
     go (accepted f) e = item f e t _ (check-is (f .kind) (f .card) (f .earlier) t)
-    go (refused k p) e = add-partial t k p e
+    go (refused k p) e = addPartial t k p e
 
 add-only : (buf : List ℕ) (n : ℕ) (t : Token) (o : Outcome ℕ) → Add buf n t o → addAnswer buf n t ≡ o
 unfolding addAnswer
 add-only buf n t o (adds f x e a r s) =
     rw (e, passes (f .kind) (f .card) (f .earlier) x a, le-leb (longer n x + 2) (length buf) r, le-leb (longer n x + 2) 8192 s)
-add-only buf n t o (add-partial u k p e) = rw e
-add-only buf n t o (add-breaks f u k e b) = rw (e, breaks-only (f .kind) (f .card) (f .earlier) u k b)
-add-only buf n t o (add-short f x e a r) =
+add-only buf n t o (addPartial u k p e) = rw e
+add-only buf n t o (addBreaks f u k e b) = rw (e, breaks-only (f .kind) (f .card) (f .earlier) u k b)
+add-only buf n t o (addShort f x e a r) =
     rw (e, passes (f .kind) (f .card) (f .earlier) x a, no-room (length buf) (longer n x + 2) r)
 
 pub add-exactly : (buf : List ℕ) (n : ℕ) (t : Token) (o : Outcome ℕ) → (addAnswer buf n t ≡ o) ↔ Add buf n t o
@@ -136,9 +136,9 @@ add-accepted buf n t m e = go t _ (add-is buf n t) e
     go t o (adds f x e a r s) q =
         let l : longer n x ≡ m = accepted-is _ _ q in
         record { content = f; item = x; token = refl; judged = e; allowed = a; reached = sym l; room = omega arith; most = omega arith }
-    go t o (add-partial u k p e) q = let z : _≡_ {A = ℕ} 0 1 = cc in absurd (omega arith)
-    go t o (add-breaks f u k e b) q = let z : _≡_ {A = ℕ} 0 1 = cc in absurd (omega arith)
-    go t o (add-short f x e a r) q = let z : _≡_ {A = ℕ} 0 1 = cc in absurd (omega arith)
+    go t o (addPartial u k p e) q = let z : _≡_ {A = ℕ} 0 1 = cc in absurd (omega arith)
+    go t o (addBreaks f u k e b) q = let z : _≡_ {A = ℕ} 0 1 = cc in absurd (omega arith)
+    go t o (addShort f x e a r) q = let z : _≡_ {A = ℕ} 0 1 = cc in absurd (omega arith)
 
 -- ---- close
 
@@ -150,16 +150,16 @@ close-is buf n = go (partialVerdict buf n) refl
         → Close buf n (andThen o (λ f. pick (mayEnd (f .earlier)) (pick (leb (n + 2) (length buf)) (accepted (n + 2)) (refused 12 0)) (refused 11 (n / 2))))
     go (accepted f) e =
         pick-elim (Close buf n) (mayEnd (f .earlier))
-        (λ m. pick-elim (Close buf n) (leb (n + 2) (length buf)) (λ r. closes f e m (leb-true _ _ r)) (λ r. close-short f e m (leb-false _ _ r)))
-        (λ m. close-open f e m)
-    go (refused k p) e = close-partial k p e
+        (λ m. pick-elim (Close buf n) (leb (n + 2) (length buf)) (λ r. closes f e m (leb-true _ _ r)) (λ r. closeShort f e m (leb-false _ _ r)))
+        (λ m. closeOpen f e m)
+    go (refused k p) e = closePartial k p e
 
 close-only : (buf : List ℕ) (n : ℕ) (o : Outcome ℕ) → Close buf n o → closeAnswer buf n ≡ o
 unfolding closeAnswer
 close-only buf n o (closes f e m r) = rw (e, m, le-leb (n + 2) (length buf) r)
-close-only buf n o (close-partial k p e) = rw e
-close-only buf n o (close-open f e m) = rw (e, m)
-close-only buf n o (close-short f e m r) = rw (e, m, lt-leb (n + 2) (length buf) r)
+close-only buf n o (closePartial k p e) = rw e
+close-only buf n o (closeOpen f e m) = rw (e, m)
+close-only buf n o (closeShort f e m r) = rw (e, m, lt-leb (n + 2) (length buf) r)
 
 pub close-exactly : (buf : List ℕ) (n : ℕ) (o : Outcome ℕ) → (closeAnswer buf n ≡ o) ↔ Close buf n o
 close-exactly buf n o = (λ e. subst (Close buf n) e (close-is buf n), close-only buf n o)
@@ -176,9 +176,9 @@ close-accepted buf n m e = go _ (close-is buf n) e
   where
     go : (o : Outcome ℕ) → Close buf n o → o ≡ accepted m → Closed buf n m
     go o (closes f e d r) q = record { content = f; judged = e; ended = d; reached = sym (accepted-is _ _ q); room = r }
-    go o (close-partial k p e) q = let z : _≡_ {A = ℕ} 0 1 = cc in absurd (omega arith)
-    go o (close-open f e d) q = let z : _≡_ {A = ℕ} 0 1 = cc in absurd (omega arith)
-    go o (close-short f e d r) q = let z : _≡_ {A = ℕ} 0 1 = cc in absurd (omega arith)
+    go o (closePartial k p e) q = let z : _≡_ {A = ℕ} 0 1 = cc in absurd (omega arith)
+    go o (closeOpen f e d) q = let z : _≡_ {A = ℕ} 0 1 = cc in absurd (omega arith)
+    go o (closeShort f e d r) q = let z : _≡_ {A = ℕ} 0 1 = cc in absurd (omega arith)
 
 pub record Beginning (buf : List ℕ) (card sequence m : ℕ) : Type 0 where
   pub card-fits : card ≤ 31
@@ -191,6 +191,6 @@ begin-accepted buf card sequence m e = go _ (begin-is buf card sequence) e
   where
     go : (o : Outcome ℕ) → Begin buf card sequence o → o ≡ accepted m → Beginning buf card sequence m
     go o (begins a b c) q = record { card-fits = a; sequence-fits = b; reached = sym (accepted-is _ _ q); room = c }
-    go o (card-wide a) q = let z : _≡_ {A = ℕ} 0 1 = cc in absurd (omega arith)
-    go o (sequence-wide a b) q = let z : _≡_ {A = ℕ} 0 1 = cc in absurd (omega arith)
-    go o (begin-short a b c) q = let z : _≡_ {A = ℕ} 0 1 = cc in absurd (omega arith)
+    go o (cardWide a) q = let z : _≡_ {A = ℕ} 0 1 = cc in absurd (omega arith)
+    go o (sequenceWide a b) q = let z : _≡_ {A = ℕ} 0 1 = cc in absurd (omega arith)
+    go o (beginShort a b c) q = let z : _≡_ {A = ℕ} 0 1 = cc in absurd (omega arith)

@@ -8,10 +8,10 @@ use mathlib.Core.Bool.{true, false}
 use native.Mathlib.Omega.{arith}
 use Rattle.format.specs.Words.{Bytes}
 use Rattle.format.specs.Answers.{Outcome, refused}
-use Rattle.format.specs.Items.{Item, Token, whole}
+use Rattle.format.specs.Items.{ItemOf, Item, Channel, Histogram, HitCount, Sample, Bin, LastCell, TimeBin, Text, StartEvent, EndEvent, Token, whole}
 use Rattle.format.specs.Rules.{Kind}
-use Rattle.format.specs.Writing.{partialVerdict, beginAnswer, addAnswer, closeAnswer}
-use Rattle.format.specs.WriterCases.{oneOf, headNumbers, itemNumbers, PartialRefused, by-head, by-item, handed, Begin, begins, card-wide, sequence-wide, begin-short, Breaks, Add, adds, add-partial, add-breaks, add-short, Short, Close, closes, close-partial, close-open, close-short}
+use Rattle.format.specs.Writing.{partialVerdict, beginAnswer, given, addAnswer, closeAnswer}
+use Rattle.format.specs.WriterCases.{oneOf, headNumbers, itemNumbers, PartialRefused, byHead, byItem, handed, Begin, begins, cardWide, sequenceWide, beginShort, Breaks, Add, adds, addPartial, addBreaks, addShort, Short, Close, closes, closePartial, closeOpen, closeShort}
 use Rattle.format.proofs.PartialRefusals.{widen, ruleNumbers, partial-refused, check-number, not-refused, refused-is}
 use Rattle.format.proofs.WriterLaws.{begin-exactly, breaks-only, add-exactly, close-exactly}
 
@@ -23,8 +23,8 @@ pub partial-numbers : (buf : List ℕ) → Bytes buf → (n k q : ℕ) → parti
 partial-numbers buf bs n k q e = go (partial-refused buf bs n k q e)
   where
     go : PartialRefused n k q → oneOf k partialNumbers ≡ true
-    go (by-head o z) = widen k headNumbers partialNumbers refl o
-    go (by-item o a b) = widen k itemNumbers partialNumbers refl o
+    go (byHead o z) = widen k headNumbers partialNumbers refl o
+    go (byItem o a b) = widen k itemNumbers partialNumbers refl o
 
 -- ---- the three calls
 
@@ -46,9 +46,22 @@ begin-numbers buf card sequence k p e = go _ (begin-exactly buf card sequence (r
   where
     go : (o : Outcome ℕ) → Begin buf card sequence o → o ≡ refused k p → (oneOf k beginNumbers ≡ true) × (p ≡ 0)
     go o (begins a b c) q = not-refused _ _ _ q
-    go o (card-wide a) q = (by-one beginNumbers 9 0 k p refl q, sym (refused-is 9 k 0 p q .1))
-    go o (sequence-wide a b) q = (by-one beginNumbers 4 0 k p refl q, sym (refused-is 4 k 0 p q .1))
-    go o (begin-short a b c) q = (by-one beginNumbers 12 0 k p refl q, sym (refused-is 12 k 0 p q .1))
+    go o (cardWide a) q = (by-one beginNumbers 9 0 k p refl q, sym (refused-is 9 k 0 p q .1))
+    go o (sequenceWide a b) q = (by-one beginNumbers 4 0 k p refl q, sym (refused-is 4 k 0 p q .1))
+    go o (beginShort a b c) q = (by-one beginNumbers 12 0 k p refl q, sym (refused-is 12 k 0 p q .1))
+
+-- whatever item a caller hands over is a token of the kind that the next law speaks of
+pub given-handed : (x : ItemOf ℕ) → handed (given x) ≡ true
+given-handed (Channel a b c) = refl
+given-handed (Histogram a b c) = refl
+given-handed (HitCount a b c) = refl
+given-handed (Sample v) = refl
+given-handed (Bin b n) = refl
+given-handed (LastCell a b) = refl
+given-handed (TimeBin t) = refl
+given-handed (Text n) = refl
+given-handed (StartEvent a b c) = refl
+given-handed (EndEvent n) = refl
 
 pub breaks-number : (kind : Kind) (card : ℕ) (p : List Item) (t : Token) (k : ℕ) → handed t ≡ true → Breaks kind card p t k → oneOf k ruleNumbers ≡ true
 breaks-number kind card p t k h b = check-number kind card p t h k (breaks-only kind card p t k b)
@@ -58,18 +71,18 @@ add-numbers buf bs n t h k p e = go t _ h (add-exactly buf n t (refused k p) .0 
   where
     go : (t : Token) (o : Outcome ℕ) → handed t ≡ true → Add buf n t o → o ≡ refused k p → oneOf k addNumbers ≡ true
     go t o h (adds f x e a r s) q = not-refused _ _ _ q
-    go t o h (add-partial u j r e) q = by-one addNumbers j r k p (widen j partialNumbers addNumbers refl (partial-numbers buf bs n j r e)) q
-    go t o h (add-breaks f u j e b) q = by-one addNumbers j (n / 2) k p (widen j ruleNumbers addNumbers refl (breaks-number _ _ _ u j h b)) q
-    go t o h (add-short f x e a r) q = by-one addNumbers 12 0 k p refl q
+    go t o h (addPartial u j r e) q = by-one addNumbers j r k p (widen j partialNumbers addNumbers refl (partial-numbers buf bs n j r e)) q
+    go t o h (addBreaks f u j e b) q = by-one addNumbers j (n / 2) k p (widen j ruleNumbers addNumbers refl (breaks-number _ _ _ u j h b)) q
+    go t o h (addShort f x e a r) q = by-one addNumbers 12 0 k p refl q
 
 pub close-numbers : (buf : List ℕ) → Bytes buf → (n k p : ℕ) → closeAnswer buf n ≡ refused k p → oneOf k closeNumbers ≡ true
 close-numbers buf bs n k p e = go _ (close-exactly buf n (refused k p) .0 e) refl
   where
     go : (o : Outcome ℕ) → Close buf n o → o ≡ refused k p → oneOf k closeNumbers ≡ true
     go o (closes f e d r) q = not-refused _ _ _ q
-    go o (close-partial j r e) q = by-one closeNumbers j r k p (widen j partialNumbers closeNumbers refl (partial-numbers buf bs n j r e)) q
-    go o (close-open f e d) q = by-one closeNumbers 11 (n / 2) k p refl q
-    go o (close-short f e d r) q = by-one closeNumbers 12 0 k p refl q
+    go o (closePartial j r e) q = by-one closeNumbers j r k p (widen j partialNumbers closeNumbers refl (partial-numbers buf bs n j r e)) q
+    go o (closeOpen f e d) q = by-one closeNumbers 11 (n / 2) k p refl q
+    go o (closeShort f e d r) q = by-one closeNumbers 12 0 k p refl q
 
 -- ---- 12 is given exactly where nothing else is wrong and the item does not fit with an end word
 
@@ -83,13 +96,13 @@ add-room buf bs n t h p = (λ e. go t _ h (add-exactly buf n t (refused 12 p) .0
 
     go : (t : Token) (o : Outcome ℕ) → handed t ≡ true → Add buf n t o → o ≡ refused 12 p → Short buf n t p
     go t o h (adds f x e a r s) q = not-refused _ _ _ q
-    go t o h (add-partial u j r e) q = absurd (other j r partialNumbers (partial-numbers buf bs n j r e) refl q)
-    go t o h (add-breaks f u j e b) q = absurd (other j (n / 2) ruleNumbers (breaks-number _ _ _ u j h b) refl q)
-    go t o h (add-short f x e a r) q =
+    go t o h (addPartial u j r e) q = absurd (other j r partialNumbers (partial-numbers buf bs n j r e) refl q)
+    go t o h (addBreaks f u j e b) q = absurd (other j (n / 2) ruleNumbers (breaks-number _ _ _ u j h b) refl q)
+    go t o h (addShort f x e a r) q =
         record { partial = f; item = x; token = refl; judged = e; allowed = a; short = r; at = sym (refused-is 12 12 0 p q .1) }
 
     back : Short buf n t p → addAnswer buf n t ≡ refused 12 p
     back s =
         ap (addAnswer buf n) (s .token)
-        ∙ add-exactly buf n (whole (s .item)) (refused 12 0) .1 (add-short (s .partial) (s .item) (s .judged) (s .allowed) (s .short))
+        ∙ add-exactly buf n (whole (s .item)) (refused 12 0) .1 (addShort (s .partial) (s .item) (s .judged) (s .allowed) (s .short))
         ∙ ap (refused 12) (sym (s .at))

@@ -13,7 +13,7 @@ use Rattle.format.specs.Items.{Item, wordsOf, whole}
 use Rattle.format.specs.Rules.{Kind, mayEnd}
 use Rattle.format.specs.Frames.{Frame, behind, Allowed, Sound, allWords, encode, frameWords, Legal}
 use Rattle.format.specs.Writing.{Partial, partialWords, partialVerdict, beginAnswer, beginLeft, addAnswer, addLeft, closeAnswer, closeLeft}
-use Rattle.format.specs.WriterCases.{Begun, content, with-item, framed, Holds}
+use Rattle.format.specs.WriterCases.{Begun, content, withItem, framed, Holds}
 use Rattle.format.proofs.WordLaws.{length-bytes}
 use Rattle.format.proofs.Acceptance.{in-order}
 use Rattle.format.proofs.SoundLaws.{sound-join, sound-one, sound-none, behind-one, partial-one}
@@ -76,11 +76,11 @@ module _ (buf : List ℕ) (n : ℕ) (f : Partial) (xs : List Item) (b : Begun bu
       ∙ sym add-reached
 
   -- the partial frame stands there with the item added
-  pub add-begun : Begun (addLeft buf n (whole x)) m (with-item f x) (xs ++ (x ∷ []))
+  pub add-begun : Begun (addLeft buf n (whole x)) m (withItem f x) (xs ++ (x ∷ []))
   add-begun =
       let s = add-accepted buf n (whole x) m e .most in
-      subst (λ (l : List ℕ). Begun l m (with-item f x) (xs ++ (x ∷ []))) (sym add-front)
-      (begun-front (with-item f x) (xs ++ (x ∷ [])) (drop m buf) m (b .card) (b .sequence)
+      subst (λ (l : List ℕ). Begun l m (withItem f x) (xs ++ (x ∷ []))) (sym add-front)
+      (begun-front (withItem f x) (xs ++ (x ∷ [])) (drop m buf) m (b .card) (b .sequence)
       (sound-join (f .kind) (f .card) [] xs (x ∷ []) (b .sound)
       (sound-one (f .kind) (f .card) (behind [] xs) x (subst (λ (p : List Item). Allowed (f .kind) (f .card) p x) (b .earlier) add-allowed)))
       (ap (λ (p : List Item). x ∷ p) (b .earlier) ∙ sym (behind-one [] xs x)) (omega arith) front-length)
@@ -91,10 +91,10 @@ module _ (buf : List ℕ) (n : ℕ) (f : Partial) (xs : List Item) (b : Begun bu
 
 -- T17: the buffer that an accepted add leaves is accepted with the item added
 pub add-judged : (buf : List ℕ) → Bytes buf → (n : ℕ) (x : Item) (m : ℕ) (f : Partial) → partialVerdict buf n ≡ accepted f → addAnswer buf n (whole x) ≡ accepted m
-    → partialVerdict (addLeft buf n (whole x)) m ≡ accepted (with-item f x)
+    → partialVerdict (addLeft buf n (whole x)) m ≡ accepted (withItem f x)
 add-judged buf bs n x m f j e =
     let (xs, b) = partial-sound buf bs n f j in
-    partial-complete (addLeft buf n (whole x)) m (with-item f x) (xs ++ (x ∷ [])) (add-begun buf n f xs b x m e)
+    partial-complete (addLeft buf n (whole x)) m (withItem f x) (xs ++ (x ∷ [])) (add-begun buf n f xs b x m e)
 
 pub begin-judged : (buf : List ℕ) (kind : Kind) (card sequence m : ℕ) → beginAnswer buf card sequence ≡ accepted m
     → partialVerdict (beginLeft buf kind card sequence) 6 ≡ accepted (content kind card sequence [])

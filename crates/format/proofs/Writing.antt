@@ -9,11 +9,11 @@ use mathlib.Core.Bool.{true}
 use lib.ListN.{length, getD, take, drop}
 use Rattle.format.specs.Words.{Bytes, bytes}
 use Rattle.format.specs.Answers.{Outcome, accepted, refused}
-use Rattle.format.specs.Items.{Item, wordsOf, Token, whole}
+use Rattle.format.specs.Items.{ItemOf, Item, wordsOf, Token, whole}
 use Rattle.format.specs.Rules.{Kind}
 use Rattle.format.specs.Frames.{Frame, behind, Sound, allWords, encode, Legal, verdict}
-use Rattle.format.specs.Writing.{Partial, partialWords, partialVerdict, beginAnswer, beginLeft, addAnswer, addLeft, closeAnswer, closeLeft}
-use Rattle.format.specs.WriterCases.{Begun, content, with-item, framed, Ends, oneOf, PartialRefused, Begin, handed, Add, Short, Close, Holds, RunWrote}
+use Rattle.format.specs.Writing.{Partial, partialWords, partialVerdict, beginAnswer, beginLeft, given, addAnswer, addLeft, closeAnswer, closeLeft}
+use Rattle.format.specs.WriterCases.{Begun, content, withItem, framed, Ends, oneOf, PartialRefused, Begin, handed, Add, Short, Close, Holds, RunWrote}
 use Rattle.format.specs.Runs.{ran, writeAll}
 use Rattle.format.proofs.PartialLaws.{partial-exactly}
 use Rattle.format.proofs.PartialRefusals.{partial-refused}
@@ -22,8 +22,8 @@ use Rattle.format.proofs.NoDeadEnd.{no-dead-end, partial-ends}
 use Rattle.format.proofs.WriterLaws.{begin-exactly, add-exactly, close-exactly}
 use Rattle.format.proofs.StoreLaws.{begin-left, add-left, begin-found, add-found, close-found, begin-bytes, add-bytes, close-bytes, begin-kept, add-kept, close-kept}
 use Rattle.format.proofs.WriterSteps.{begin-judged, add-judged, close-frame}
-use Rattle.format.proofs.WriterNumbers.{partial-numbers, add-room, begin-numbers, add-numbers, close-numbers}
-use Rattle.format.proofs.Completeness.{written, too-short, run-wrote, rewritten}
+use Rattle.format.proofs.WriterNumbers.{partial-numbers, add-room, begin-numbers, given-handed, add-numbers, close-numbers}
+use Rattle.format.proofs.Completeness.{empty-legal, written, too-short, run-wrote, rewritten}
 
 -- T15. "Add and close first judge the partial frame by rules 1 to 10, with this length (even, at most the buffer's) and size word and without
 -- rule 5": it is accepted exactly where a sound list of items begins to be written so; a refusal has a number and place of the paper's.
@@ -69,7 +69,7 @@ pub add-writes : (buf : List ℕ) (n : ℕ) (x : Item) (m : ℕ) → addAnswer b
 add-writes = add-left
 
 pub add-makes : (buf : List ℕ) → Bytes buf → (n : ℕ) (x : Item) (m : ℕ) (f : Partial) → partialVerdict buf n ≡ accepted f → addAnswer buf n (whole x) ≡ accepted m
-    → partialVerdict (addLeft buf n (whole x)) m ≡ accepted (with-item f x)
+    → partialVerdict (addLeft buf n (whole x)) m ≡ accepted (withItem f x)
 add-makes = add-judged
 
 -- T17, close. "Close refuses 11, then 12 if the end word doesn't fit; it writes the size and end words"
@@ -79,6 +79,10 @@ close-answers = close-exactly
 pub close-makes : (buf : List ℕ) → Bytes buf → (n : ℕ) (f : Partial) (m : ℕ) → partialVerdict buf n ≡ accepted f → closeAnswer buf n ≡ accepted m
     → Holds buf (closeLeft buf n) (framed f (behind [] (f .earlier))) m
 close-makes = close-frame
+
+-- there are legal frames of every kind, card and sequence word, so that what follows speaks of something
+pub some-are-legal : (kind : Kind) (card sequence : ℕ) → card ≤ 31 → sequence ≤ 0x0100 → Legal (record { kind = kind; card = card; sequence = sequence; items = [] })
+some-are-legal = empty-legal
 
 -- T18. "Every list that the rules allow can be written, if it fits": begin, one add for each item in order, close
 pub every-frame-is-written : (f : Frame) → Legal f → (buf : List ℕ) → length (encode f) ≤ length buf
@@ -130,13 +134,16 @@ add-length = add-kept
 pub close-length : (buf : List ℕ) (n : ℕ) → length (closeLeft buf n) ≡ length buf
 close-length = close-kept
 
--- T35. The numbers that a partial frame and the calls can be refused by; begin's place is 0
+-- T35. The numbers that a partial frame and the calls can be refused by; begin's place is 0. Every item that a caller can hand over is `handed`
 pub partial-list : (buf : List ℕ) → Bytes buf → (n k q : ℕ) → partialVerdict buf n ≡ refused k q
     → oneOf k (1 ∷ 2 ∷ 3 ∷ 4 ∷ 6 ∷ 7 ∷ 8 ∷ 9 ∷ 10 ∷ []) ≡ true
 partial-list = partial-numbers
 
 pub begin-list : (buf : List ℕ) (card sequence k p : ℕ) → beginAnswer buf card sequence ≡ refused k p → (oneOf k (9 ∷ 4 ∷ 12 ∷ []) ≡ true) × (p ≡ 0)
 begin-list = begin-numbers
+
+pub items-are-handed : (x : ItemOf ℕ) → handed (given x) ≡ true
+items-are-handed = given-handed
 
 pub add-list : (buf : List ℕ) → Bytes buf → (n : ℕ) (t : Token) → handed t ≡ true → (k p : ℕ) → addAnswer buf n t ≡ refused k p
     → oneOf k (1 ∷ 2 ∷ 3 ∷ 4 ∷ 6 ∷ 7 ∷ 8 ∷ 9 ∷ 10 ∷ 12 ∷ []) ≡ true

@@ -31,8 +31,8 @@ pub record Begun (buf : List ℕ) (n : ℕ) (f : Partial) (xs : List Item) : Typ
 abbrev pub content : Kind → ℕ → ℕ → List Item → Partial
 content kind card sequence xs = record { kind = kind; card = card; sequence = sequence; earlier = behind [] xs }
 
-abbrev pub with-item : Partial → Item → Partial
-with-item f x = record { kind = f .kind; card = f .card; sequence = f .sequence; earlier = x ∷ f .earlier }
+abbrev pub withItem : Partial → Item → Partial
+withItem f x = record { kind = f .kind; card = f .card; sequence = f .sequence; earlier = x ∷ f .earlier }
 
 -- the frame of a partial frame's content, with the items xs in their order
 abbrev pub framed : Partial → List Item → Frame
@@ -60,16 +60,16 @@ itemNumbers = 6 ∷ 7 ∷ 8 ∷ 9 ∷ 10 ∷ []
 
 -- refusal k at place q of a partial frame of n bytes: "the word index of the item for 6 to 10, .. else 0"
 pub data PartialRefused (n k q : ℕ) : Type 0 where
-  by-head : oneOf k headNumbers ≡ true → q ≡ 0 → PartialRefused n k q
-  by-item : oneOf k itemNumbers ≡ true → 3 ≤ q → q < n / 2 → PartialRefused n k q
+  byHead : oneOf k headNumbers ≡ true → q ≡ 0 → PartialRefused n k q
+  byItem : oneOf k itemNumbers ≡ true → 3 ≤ q → q < n / 2 → PartialRefused n k q
 
 -- ---- begin: "card over 31 by 9, sequence word by 4, a buffer under 8 bytes by 12, in that order"
 
 pub data Begin (buf : List ℕ) (card sequence : ℕ) : Outcome ℕ → Type 0 where
   begins : card ≤ 31 → sequence ≤ 0x0100 → 8 ≤ length buf → Begin buf card sequence (accepted 6)
-  card-wide : 31 < card → Begin buf card sequence (refused 9 0)
-  sequence-wide : card ≤ 31 → 0x0100 < sequence → Begin buf card sequence (refused 4 0)
-  begin-short : card ≤ 31 → sequence ≤ 0x0100 → length buf < 8 → Begin buf card sequence (refused 12 0)
+  cardWide : 31 < card → Begin buf card sequence (refused 9 0)
+  sequenceWide : card ≤ 31 → 0x0100 < sequence → Begin buf card sequence (refused 4 0)
+  beginShort : card ≤ 31 → sequence ≤ 0x0100 → length buf < 8 → Begin buf card sequence (refused 12 0)
 
 -- ---- add: "Add then tests 8, 9, 10 for the new item and last 12"
 
@@ -84,8 +84,8 @@ pub data Breaks (kind : Kind) (card : ℕ) (p : List Item) : Token → ℕ → T
   misplaced : (x : Item) → place kind p (classFor x) ≡ false → Breaks kind card p (whole x) 8
   misvalued : (x : Item) → place kind p (classFor x) ≡ true → value card p x ≡ false → Breaks kind card p (whole x) 9
   misordered : (x : Item) → place kind p (classFor x) ≡ true → value card p x ≡ true → order p x ≡ false → Breaks kind card p (whole x) 10
-  class-misplaced : (c : Class) → place kind p c ≡ false → Breaks kind card p (broken c) 8
-  class-broken : (c : Class) → place kind p c ≡ true → Breaks kind card p (broken c) 9
+  classMisplaced : (c : Class) → place kind p c ≡ false → Breaks kind card p (broken c) 8
+  classBroken : (c : Class) → place kind p c ≡ true → Breaks kind card p (broken c) 9
   flaw : (n : ℕ) → Breaks kind card p (flawed n) n
 
 -- the length with the item
@@ -95,9 +95,9 @@ longer n x = n + length (bytes (wordsOf x))
 pub data Add (buf : List ℕ) (n : ℕ) : Token → Outcome ℕ → Type 0 where
   adds : (f : Partial) (x : Item) → partialVerdict buf n ≡ accepted f → Allowed (f .kind) (f .card) (f .earlier) x
       → longer n x + 2 ≤ length buf → longer n x + 2 ≤ 8192 → Add buf n (whole x) (accepted (longer n x))
-  add-partial : (t : Token) (k p : ℕ) → partialVerdict buf n ≡ refused k p → Add buf n t (refused k p)
-  add-breaks : (f : Partial) (t : Token) (k : ℕ) → partialVerdict buf n ≡ accepted f → Breaks (f .kind) (f .card) (f .earlier) t k → Add buf n t (refused k (n / 2))
-  add-short : (f : Partial) (x : Item) → partialVerdict buf n ≡ accepted f → Allowed (f .kind) (f .card) (f .earlier) x
+  addPartial : (t : Token) (k p : ℕ) → partialVerdict buf n ≡ refused k p → Add buf n t (refused k p)
+  addBreaks : (f : Partial) (t : Token) (k : ℕ) → partialVerdict buf n ≡ accepted f → Breaks (f .kind) (f .card) (f .earlier) t k → Add buf n t (refused k (n / 2))
+  addShort : (f : Partial) (x : Item) → partialVerdict buf n ≡ accepted f → Allowed (f .kind) (f .card) (f .earlier) x
       → (length buf < longer n x + 2) ⊎ (8192 < longer n x + 2) → Add buf n (whole x) (refused 12 0)
 
 -- nothing else is wrong with the item, and the frame with it and an end word would pass the buffer or 8,192 bytes
@@ -114,9 +114,9 @@ pub record Short (buf : List ℕ) (n : ℕ) (t : Token) (p : ℕ) : Type 0 where
 
 pub data Close (buf : List ℕ) (n : ℕ) : Outcome ℕ → Type 0 where
   closes : (f : Partial) → partialVerdict buf n ≡ accepted f → mayEnd (f .earlier) ≡ true → n + 2 ≤ length buf → Close buf n (accepted (n + 2))
-  close-partial : (k p : ℕ) → partialVerdict buf n ≡ refused k p → Close buf n (refused k p)
-  close-open : (f : Partial) → partialVerdict buf n ≡ accepted f → mayEnd (f .earlier) ≡ false → Close buf n (refused 11 (n / 2))
-  close-short : (f : Partial) → partialVerdict buf n ≡ accepted f → mayEnd (f .earlier) ≡ true → length buf < n + 2 → Close buf n (refused 12 0)
+  closePartial : (k p : ℕ) → partialVerdict buf n ≡ refused k p → Close buf n (refused k p)
+  closeOpen : (f : Partial) → partialVerdict buf n ≡ accepted f → mayEnd (f .earlier) ≡ false → Close buf n (refused 11 (n / 2))
+  closeShort : (f : Partial) → partialVerdict buf n ≡ accepted f → mayEnd (f .earlier) ≡ true → length buf < n + 2 → Close buf n (refused 12 0)
 
 -- the buffer holds the frame f in its first m bytes, and is as it was behind them
 pub record Holds (buf left : List ℕ) (f : Frame) (m : ℕ) : Type 0 where
