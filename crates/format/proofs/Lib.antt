@@ -10,6 +10,7 @@ pub mod WalkLaws
 pub mod HeadLaws
 pub mod Acceptance
 pub mod Figures
+pub mod WalkFaults
 pub mod PartialLaws
 pub mod PartialRefusals
 pub mod SoundLaws

@@ -1,10 +1,9 @@
--- T15. The first bytes of a buffer are accepted as a partial frame exactly where they are what a sound list of items begins to be written
--- as; and what a refusal of them can be.
+-- T15, acceptance: the first bytes of a buffer are accepted as a partial frame exactly where they are what a sound list of items begins to be
+-- written as.
 -- Assumes nothing.
 use Prim.Native.Nat.{ℕ, suc, _+_, _*_, _%_, _<_, _≤_}
 use mathlib.Core.Path.{_≡_, refl, sym, ap, ap₂, subst, _∙_}
 use mathlib.Core.List.{List, [], _∷_}
-use mathlib.Core.Logic.{_↔_}
 use mathlib.Core.Bool.{Bool, true, false, _&&_}
 use native.Mathlib.Omega.{arith}
 use lib.Dec.{leb, eqb}
@@ -15,9 +14,9 @@ use Rattle.format.specs.Words.{pick, Bytes, words, bytes, wordAt}
 use Rattle.format.specs.Answers.{Outcome, accepted, refused, andThen}
 use Rattle.format.specs.Items.{Item, tokens}
 use Rattle.format.specs.Rules.{Kind}
-use Rattle.format.specs.Frames.{startWord, allWords, startFits, kindIn, cardIn, walk}
+use Rattle.format.specs.Frames.{startWord, allWords, kindIn, cardIn, walk}
 use Rattle.format.specs.Writing.{Partial, partialWords, partialFault, partialBody, partialOf, partialJudged, partialVerdict}
-use Rattle.format.specs.WriterCases.{Begun}
+use Rattle.format.specs.WriterCases.{Begun, partialLength, PartialHead}
 use Rattle.format.proofs.PrefixLaws.{and-left, and-right}
 use Rattle.format.proofs.WordLaws.{words-bytes, bytes-words, length-words, length-bytes, word-at, words-below, below-take, below-drop}
 use Rattle.format.proofs.WalkLaws.{walk-sound, walk-complete}
@@ -38,50 +37,43 @@ then-kept (refused n p) f b e = let z : _≡_ {A = ℕ} 0 1 = cc in absurd (omeg
 
 -- ---- the first four rules
 
-pub record PartialHead (buf : List ℕ) (n : ℕ) : Type 0 where
+-- what rule 1 says of the length
+pub record Measured (buf : List ℕ) (n : ℕ) : Type 0 where
   pub even : n % 2 ≡ 0
   pub least : 6 ≤ n
   pub most : n ≤ 8190
   pub inside : n ≤ length buf
-  pub started : startFits (wordAt buf 0) ≡ true
-  pub sized : wordAt buf 1 ≡ 0
-  pub sequence : wordAt buf 2 ≤ 0x0100
+
+pub measured-of : (buf : List ℕ) (n : ℕ) → partialLength buf n ≡ true → Measured buf n
+measured-of buf n t =
+    let u = and-left (eqb (n % 2) 0 && leb 6 n && leb n 8190) (leb n (length buf)) t in
+    let v = and-left (eqb (n % 2) 0 && leb 6 n) (leb n 8190) u in
+    record {
+      even = eqb-true _ _ (and-left (eqb (n % 2) 0) (leb 6 n) v);
+      least = leb-true _ _ (and-right (eqb (n % 2) 0) (leb 6 n) v);
+      most = leb-true _ _ (and-right (eqb (n % 2) 0 && leb 6 n) (leb n 8190) u);
+      inside = leb-true _ _ (and-right (eqb (n % 2) 0 && leb 6 n && leb n 8190) (leb n (length buf)) t);
+    }
+
+measured-is : (buf : List ℕ) (n : ℕ) → Measured buf n → partialLength buf n ≡ true
+measured-is buf n m = rw (eq-eqb (n % 2) 0 (m .even), le-leb 6 n (m .least), le-leb n 8190 (m .most), le-leb n (length buf) (m .inside))
 
 none-broken : (b : Bool) (x n : ℕ) → pick b x (suc n) ≡ 0 → (b ≡ true) × (x ≡ 0)
 none-broken true x n e = (refl, e)
 none-broken false x n e = absurd (omega arith)
 
-pub partial-head : (buf : List ℕ) (n : ℕ) → partialFault buf n ≡ 0 → PartialHead buf n
+partial-head : (buf : List ℕ) (n : ℕ) → partialFault buf n ≡ 0 → PartialHead buf n
 unfolding partialFault
 partial-head buf n e =
     let (t₁, e₁) = none-broken _ _ 0 e in
     let (t₂, e₂) = none-broken _ _ 1 e₁ in
     let (t₃, e₃) = none-broken _ _ 2 e₂ in
     let (t₄, e₄) = none-broken _ _ 3 e₃ in
-    let u = and-left (eqb (n % 2) 0 && leb 6 n && leb n 8190) (leb n (length buf)) t₁ in
-    let v = and-left (eqb (n % 2) 0 && leb 6 n) (leb n 8190) u in
-    record {
-      even = eqb-true _ _ (and-left (eqb (n % 2) 0) (leb 6 n) v);
-      least = leb-true _ _ (and-right (eqb (n % 2) 0) (leb 6 n) v);
-      most = leb-true _ _ (and-right (eqb (n % 2) 0 && leb 6 n) (leb n 8190) u);
-      inside = leb-true _ _ (and-right (eqb (n % 2) 0 && leb 6 n && leb n 8190) (leb n (length buf)) t₁);
-      started = t₂;
-      sized = eqb-true _ _ t₃;
-      sequence = leb-true _ _ t₄;
-    }
+    record { measured = t₁; started = t₂; sized = eqb-true _ _ t₃; sequence = leb-true _ _ t₄ }
 
 head-zero : (buf : List ℕ) (n : ℕ) → PartialHead buf n → partialFault buf n ≡ 0
 unfolding partialFault
-head-zero buf n h =
-    rw (
-      eq-eqb (n % 2) 0 (h .even),
-      le-leb 6 n (h .least),
-      le-leb n 8190 (h .most),
-      le-leb n (length buf) (h .inside),
-      h .started,
-      eq-eqb (wordAt buf 1) 0 (h .sized),
-      le-leb (wordAt buf 2) 0x0100 (h .sequence),
-    )
+head-zero buf n h = rw (h .measured, h .started, eq-eqb (wordAt buf 1) 0 (h .sized), le-leb (wordAt buf 2) 0x0100 (h .sequence))
 
 -- ---- T15
 
@@ -98,10 +90,11 @@ partial-is : (buf : List ℕ) (n : ℕ) → Bytes buf → PartialHead buf n → 
     → take n buf ≡ bytes (partialWords (kindIn buf) (cardIn buf) (wordAt buf 2) xs)
 unfolding partialWords
 partial-is buf n bs h xs r =
-    let e = h .even in
-    let l : length (take n buf) ≡ n = length-take-le n buf (h .inside) in
+    let m = measured-of buf n (h .measured) in
+    let e = m .even in
+    let l : length (take n buf) ≡ n = length-take-le n buf (m .inside) in
     let k = length-words (take n buf) in
-    let least = h .least in
+    let least = m .least in
     sym (bytes-words (take n buf) (omega arith) (below-take n buf 256 (omega arith) bs))
     ∙ ap bytes
     (three-first (words (take n buf)) (omega arith)
@@ -111,30 +104,36 @@ partial-is buf n bs h xs r =
     (taken-word buf n 2 (omega arith))
     r)
 
-pub partial-sound : (buf : List ℕ) → Bytes buf → (n : ℕ) (f : Partial) → partialVerdict buf n ≡ accepted f → (xs : List Item) × Begun buf n f xs
-unfolding partialVerdict partialJudged
-partial-sound buf bs n f e =
-    let (t, g) = kept _ _ _ _ _ e in
-    let h = partial-head buf n (eqb-true _ _ t) in
-    let (q, w, a) = then-kept (walk (kindIn buf) (cardIn buf) [] 3 (partialBody buf n)) (partialOf buf) f g in
+-- a walk that is accepted
+pub partial-walked : (buf : List ℕ) → Bytes buf → (n : ℕ) (q : List Item) → PartialHead buf n → walk (kindIn buf) (cardIn buf) [] 3 (partialBody buf n) ≡ accepted q
+    → (xs : List Item) × Begun buf n (record { kind = kindIn buf; card = cardIn buf; sequence = wordAt buf 2; earlier = q }) xs
+partial-walked buf bs n q h w =
     let ws = drop 3 (words (take n buf)) in
     let below = below-drop 3 (words (take n buf)) 65536 (words-below (take n buf) (below-take n buf 256 (omega arith) bs)) in
     let s = walk-sound (kindIn buf) (cardIn buf) (length ws) [] 3 ws q (omega arith) below w in
-    let k : record { kind = kindIn buf; card = cardIn buf; sequence = wordAt buf 2; earlier = q } ≡ f = accepted-is _ _ a in (
+    let m = measured-of buf n (h .measured) in (
       s .items,
-      subst (λ (f : Partial). Begun buf n f (s .items)) k (record {
+      record {
         card = below-32 (wordAt buf 0);
         sequence = h .sequence;
         sound = s .sound;
         earlier = s .earlier;
-        most = h .most;
-        inside = h .inside;
+        most = m .most;
+        inside = m .inside;
         written = partial-is buf n bs h (s .items) (s .written);
-      }),
+      },
     )
   where
     below-32 : (w : ℕ) → w % 32 ≤ 31
     below-32 w = omega arith
+
+pub partial-sound : (buf : List ℕ) → Bytes buf → (n : ℕ) (f : Partial) → partialVerdict buf n ≡ accepted f → (xs : List Item) × Begun buf n f xs
+unfolding partialVerdict partialJudged
+partial-sound buf bs n f e =
+    let (t, g) = kept _ _ _ _ _ e in
+    let (q, w, a) = then-kept (walk (kindIn buf) (cardIn buf) [] 3 (partialBody buf n)) (partialOf buf) f g in
+    let (xs, b) = partial-walked buf bs n q (partial-head buf n (eqb-true _ _ t)) w in
+    (xs, subst (λ (f : Partial). Begun buf n f xs) (accepted-is _ _ a) b)
 
 -- three words and the items'
 pub partial-length : (kind : Kind) (card sequence : ℕ) (xs : List Item) → length (bytes (partialWords kind card sequence xs)) ≡ 2 * (3 + length (allWords xs))
@@ -170,10 +169,7 @@ module _ (buf : List ℕ) (n : ℕ) (f : Partial) (xs : List Item) (b : Begun bu
   head-is =
       let l = begun-length in
       record {
-        even = omega arith;
-        least = omega arith;
-        most = b .most;
-        inside = b .inside;
+        measured = measured-is buf n (record { even = omega arith; least = omega arith; most = b .most; inside = b .inside });
         started = start-is .fits;
         sized = second-is;
         sequence = omega (arith, third-is, b .sequence);
@@ -200,7 +196,3 @@ module _ (buf : List ℕ) (n : ℕ) (f : Partial) (xs : List Item) (b : Begun bu
   pub partial-complete : partialVerdict buf n ≡ accepted f
   unfolding partialVerdict
   partial-complete = rw (head-zero buf n head-is) judged-is
-
--- T15, both ways
-pub partial-exactly : (buf : List ℕ) → Bytes buf → (n : ℕ) (f : Partial) → (partialVerdict buf n ≡ accepted f) ↔ ((xs : List Item) × Begun buf n f xs)
-partial-exactly buf bs n f = (partial-sound buf bs n f, λ h. partial-complete buf n f (h .0) (h .1))

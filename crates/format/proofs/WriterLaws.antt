@@ -2,7 +2,7 @@
 -- Assumes nothing.
 use Prim.Native.Nat.{ℕ, _+_, _/_, _<_, _≤_}
 use mathlib.Core.Path.{_≡_, refl, sym, subst}
-use mathlib.Core.List.{List, _∷_}
+use mathlib.Core.List.{List}
 use mathlib.Core.Logic.{_↔_, _⊎_, inl, inr, ⊎-elim}
 use mathlib.Core.Bool.{Bool, true, false, _&&_}
 use native.Mathlib.Omega.{arith}
@@ -11,14 +11,15 @@ use lib.ListN.{length}
 use borrow.Author.Tests.{leb-true, leb-false, le-leb, lt-leb}
 use Rattle.format.specs.Words.{pick, bytes}
 use Rattle.format.specs.Answers.{Outcome, accepted, refused, andThen}
-use Rattle.format.specs.Items.{Item, classFor, wordsOf, Token, whole, broken, flawed}
-use Rattle.format.specs.Rules.{Kind, place, value, order, mayEnd, Checked, good, bad, check}
+use Rattle.format.specs.Items.{Item, wordsOf, Token, whole}
+use Rattle.format.specs.Rules.{mayEnd, Checked, check}
 use Rattle.format.specs.Frames.{Allowed}
 use Rattle.format.specs.Writing.{Partial, partialVerdict, beginAnswer, roomFor, addChecked, addAnswer, closeAnswer}
-use Rattle.format.specs.WriterCases.{Begin, begins, cardWide, sequenceWide, beginShort, Breaks, misplaced, misvalued, misordered, classMisplaced, classBroken, flaw, longer, Add, adds, addPartial, addBreaks, addShort, Close, closes, closePartial, closeOpen, closeShort}
+use Rattle.format.specs.WriterCases.{Begin, begins, cardWide, sequenceWide, beginShort, longer, Add, adds, addPartial, addBreaks, addShort, Close, closes, closePartial, closeOpen, closeShort}
 use Rattle.format.proofs.PrefixLaws.{and-left, and-right}
 use Rattle.format.proofs.WordLaws.{pick-elim}
 use Rattle.format.proofs.WalkLaws.{passes}
+use Rattle.format.proofs.WalkFaults.{Check, passing, breaking, check-is, breaks-only}
 use Rattle.format.proofs.PartialLaws.{accepted-is}
 
 -- ---- begin
@@ -43,38 +44,6 @@ begin-only buf card sequence o (beginShort a b c) = rw (le-leb card 31 a, le-leb
 
 pub begin-exactly : (buf : List ℕ) (card sequence : ℕ) (o : Outcome ℕ) → (beginAnswer buf card sequence ≡ o) ↔ Begin buf card sequence o
 begin-exactly buf card sequence o = (λ e. subst (Begin buf card sequence) e (begin-is buf card sequence), begin-only buf card sequence o)
-
--- ---- the rules at a new item: the first of 8, 9 and 10 that is broken
-
-pub data Check (kind : Kind) (card : ℕ) (p : List Item) : Token → Checked (List Item) → Type 0 where
-  passing : (x : Item) → Allowed kind card p x → Check kind card p (whole x) (good (x ∷ p))
-  breaking : (t : Token) (k : ℕ) → Breaks kind card p t k → Check kind card p t (bad k)
-
-module _ (kind : Kind) (card : ℕ) (p : List Item) where
-  check-is : (t : Token) → Check kind card p t (check kind card p t)
-  unfolding check
-  check-is (whole x) =
-      pick-elim (Check kind card p (whole x)) (place kind p (classFor x))
-      (λ a. pick-elim (Check kind card p (whole x)) (value card p x)
-      (λ b. pick-elim (Check kind card p (whole x)) (order p x)
-      (λ c. passing x (record { placed = a; valued = b; ordered = c }))
-      (λ c. breaking (whole x) 10 (misordered x a b c)))
-      (λ b. breaking (whole x) 9 (misvalued x a b)))
-      (λ a. breaking (whole x) 8 (misplaced x a))
-  check-is (broken c) =
-      pick-elim (Check kind card p (broken c)) (place kind p c)
-      (λ a. breaking (broken c) 9 (classBroken c a))
-      (λ a. breaking (broken c) 8 (classMisplaced c a))
-  check-is (flawed n) = breaking (flawed n) n (flaw n)
-
-  pub breaks-only : (t : Token) (k : ℕ) → Breaks kind card p t k → check kind card p t ≡ bad k
-  unfolding check
-  breaks-only t k (misplaced x a) = rw a
-  breaks-only t k (misvalued x a b) = rw (a, b)
-  breaks-only t k (misordered x a b c) = rw (a, b, c)
-  breaks-only t k (classMisplaced c a) = rw a
-  breaks-only t k (classBroken c a) = rw a
-  breaks-only t k (flaw n) = refl
 
 -- ---- add
 

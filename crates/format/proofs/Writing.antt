@@ -13,21 +13,21 @@ use Rattle.format.specs.Items.{ItemOf, Item, wordsOf, Token, whole}
 use Rattle.format.specs.Rules.{Kind}
 use Rattle.format.specs.Frames.{Frame, behind, Sound, allWords, encode, Legal, verdict}
 use Rattle.format.specs.Writing.{Partial, partialWords, partialVerdict, beginAnswer, beginLeft, given, addAnswer, addLeft, closeAnswer, closeLeft}
-use Rattle.format.specs.WriterCases.{Begun, content, withItem, framed, Ends, oneOf, PartialRefused, Begin, handed, Add, Short, Close, Holds, RunWrote}
+use Rattle.format.specs.WriterCases.{PartialAnswer, content, withItem, framed, Ends, oneOf, PartialRefused, Begin, handed, Add, Short, Close, Holds, RunWrote}
 use Rattle.format.specs.Runs.{ran, writeAll}
-use Rattle.format.proofs.PartialLaws.{partial-exactly}
-use Rattle.format.proofs.PartialRefusals.{partial-refused}
+use Rattle.format.proofs.PartialRefusals.{partial-exactly}
 use Rattle.format.proofs.SoundLaws.{sound-first}
 use Rattle.format.proofs.NoDeadEnd.{no-dead-end, partial-ends}
 use Rattle.format.proofs.WriterLaws.{begin-exactly, add-exactly, close-exactly}
 use Rattle.format.proofs.StoreLaws.{begin-left, add-left, begin-found, add-found, close-found, begin-bytes, add-bytes, close-bytes, begin-kept, add-kept, close-kept}
 use Rattle.format.proofs.WriterSteps.{begin-judged, add-judged, close-frame}
-use Rattle.format.proofs.WriterNumbers.{partial-numbers, add-room, begin-numbers, given-handed, add-numbers, close-numbers}
+use Rattle.format.proofs.WriterNumbers.{partial-refused, partial-numbers, add-room, begin-numbers, given-handed, add-numbers, close-numbers}
 use Rattle.format.proofs.Completeness.{empty-legal, written, too-short, run-wrote, rewritten}
 
 -- T15. "Add and close first judge the partial frame by rules 1 to 10, with this length (even, at most the buffer's) and size word and without
--- rule 5": it is accepted exactly where a sound list of items begins to be written so; a refusal has a number and place of the paper's.
-pub partial-frame : (buf : List ℕ) → Bytes buf → (n : ℕ) (f : Partial) → (partialVerdict buf n ≡ accepted f) ↔ ((xs : List Item) × Begun buf n f xs)
+-- rule 5": it is accepted exactly where a sound list of items begins to be written so, and refused by the first broken rule of 1 to 4, or "the first
+-- faulty item gives its first of 6 to 10", with its place
+pub partial-frame : (buf : List ℕ) → Bytes buf → (n : ℕ) (o : Outcome Partial) → (partialVerdict buf n ≡ o) ↔ PartialAnswer buf n o
 partial-frame = partial-exactly
 
 pub partial-refusal : (buf : List ℕ) → Bytes buf → (n k q : ℕ) → partialVerdict buf n ≡ refused k q → PartialRefused n k q

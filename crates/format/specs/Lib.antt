@@ -9,4 +9,5 @@ pub mod Questions
 pub mod Writing
 pub mod Figures
 pub mod Runs
+pub mod Faults
 pub mod WriterCases

@@ -1,18 +1,18 @@
 -- The answers of the writer, case by case in document 01's order: what stands in the buffer, and when each call gives which answer.
 -- Assumes nothing.
-use Prim.Native.Nat.{ℕ, _+_, _/_, _<_, _≤_}
+use Prim.Native.Nat.{ℕ, _+_, _/_, _%_, _<_, _≤_}
 use mathlib.Core.Path.{_≡_}
 use mathlib.Core.List.{List, [], _∷_, _++_, map}
 use mathlib.Core.Logic.{_⊎_}
-use mathlib.Core.Bool.{Bool, true, false, _||_}
-use lib.Dec.{eqb}
+use mathlib.Core.Bool.{Bool, true, false, _&&_, _||_}
+use lib.Dec.{leb, eqb}
 use lib.ListN.{length, take, drop}
-use Rattle.format.specs.Words.{bytes}
+use Rattle.format.specs.Words.{words, bytes, wordAt}
 use Rattle.format.specs.Answers.{Outcome, accepted, refused}
-use Rattle.format.specs.Book.{Class}
-use Rattle.format.specs.Items.{Item, classFor, wordsOf, Token, whole, broken, flawed}
-use Rattle.format.specs.Rules.{Kind, place, value, order, mayEnd}
-use Rattle.format.specs.Frames.{Frame, behind, Allowed, Sound, encode, Legal, verdict}
+use Rattle.format.specs.Items.{Item, wordsOf, Token, whole, broken, flawed}
+use Rattle.format.specs.Rules.{Kind, mayEnd}
+use Rattle.format.specs.Frames.{Frame, behind, Allowed, Sound, encode, Legal, startFits, kindIn, cardIn, verdict}
+use Rattle.format.specs.Faults.{Breaks, FirstFault}
 use Rattle.format.specs.Writing.{Partial, partialWords, partialVerdict}
 
 -- ---- partial frames
@@ -26,6 +26,26 @@ pub record Begun (buf : List ℕ) (n : ℕ) (f : Partial) (xs : List Item) : Typ
   pub most : n ≤ 8190
   pub inside : n ≤ length buf
   pub written : take n buf ≡ bytes (partialWords (f .kind) (f .card) (f .sequence) xs)
+
+-- rules 1 to 4 hold of the first n bytes
+abbrev pub partialLength : List ℕ → ℕ → Bool
+partialLength buf n = eqb (n % 2) 0 && leb 6 n && leb n 8190 && leb n (length buf)
+
+pub record PartialHead (buf : List ℕ) (n : ℕ) : Type 0 where
+  pub measured : partialLength buf n ≡ true
+  pub started : startFits (wordAt buf 0) ≡ true
+  pub sized : wordAt buf 1 ≡ 0
+  pub sequence : wordAt buf 2 ≤ 0x0100
+
+-- the verdict, case by case: a partial frame stands there; or the first of rules 1 to 4 that is broken, at place 0; or the first faulty item, at its
+-- word
+pub data PartialAnswer (buf : List ℕ) (n : ℕ) : Outcome Partial → Type 0 where
+  stands : (f : Partial) (xs : List Item) → Begun buf n f xs → PartialAnswer buf n (accepted f)
+  wrongLength : partialLength buf n ≡ false → PartialAnswer buf n (refused 1 0)
+  wrongKind : partialLength buf n ≡ true → startFits (wordAt buf 0) ≡ false → PartialAnswer buf n (refused 2 0)
+  wrongSize : partialLength buf n ≡ true → startFits (wordAt buf 0) ≡ true → (wordAt buf 1 ≡ 0 → ⊥) → PartialAnswer buf n (refused 3 0)
+  wrongSequence : partialLength buf n ≡ true → startFits (wordAt buf 0) ≡ true → wordAt buf 1 ≡ 0 → 0x0100 < wordAt buf 2 → PartialAnswer buf n (refused 4 0)
+  faulty : (k q : ℕ) → PartialHead buf n → FirstFault (kindIn buf) (cardIn buf) [] 3 (drop 3 (words (take n buf))) k q → PartialAnswer buf n (refused k q)
 
 -- the content of a partial frame with the items xs, and a content with one item more
 abbrev pub content : Kind → ℕ → ℕ → List Item → Partial
@@ -78,15 +98,6 @@ abbrev pub handed : Token → Bool
 handed (whole x) = true
 handed (broken c) = true
 handed (flawed n) = false
-
--- the first rule that a new item breaks, after the items of p
-pub data Breaks (kind : Kind) (card : ℕ) (p : List Item) : Token → ℕ → Type 0 where
-  misplaced : (x : Item) → place kind p (classFor x) ≡ false → Breaks kind card p (whole x) 8
-  misvalued : (x : Item) → place kind p (classFor x) ≡ true → value card p x ≡ false → Breaks kind card p (whole x) 9
-  misordered : (x : Item) → place kind p (classFor x) ≡ true → value card p x ≡ true → order p x ≡ false → Breaks kind card p (whole x) 10
-  classMisplaced : (c : Class) → place kind p c ≡ false → Breaks kind card p (broken c) 8
-  classBroken : (c : Class) → place kind p c ≡ true → Breaks kind card p (broken c) 9
-  flaw : (n : ℕ) → Breaks kind card p (flawed n) n
 
 -- the length with the item
 abbrev pub longer : ℕ → Item → ℕ
