@@ -1,4 +1,4 @@
--- What the writer's calls leave: runs of stores in the lent buffer, and every other byte as it was.
+-- T33, T34. What the writer's calls leave: as found where refused, else runs of stores in the lent buffer, and every other byte as it was.
 -- Assumes nothing.
 use Prim.Native.Nat.{ℕ, suc, _+_, _*_, _/_, _%_, _<_, _≤_}
 use mathlib.Core.Path.{_≡_, refl, sym, ap, ap₂, _∙_}

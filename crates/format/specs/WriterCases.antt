@@ -27,7 +27,7 @@ pub record Begun (buf : List ℕ) (n : ℕ) (f : Partial) (xs : List Item) : Typ
   pub inside : n ≤ length buf
   pub written : take n buf ≡ bytes (partialWords (f .kind) (f .card) (f .sequence) xs)
 
--- rules 1 to 4 hold of the first n bytes
+-- rule 1 of the first n bytes: "even, at most the buffer's", "6 to 8,190 bytes"; and rules 1 to 4
 abbrev pub partialLength : List ℕ → ℕ → Bool
 partialLength buf n = eqb (n % 2) 0 && leb 6 n && leb n 8190 && leb n (length buf)
 
