@@ -21,7 +21,7 @@ use Rattle.format.specs.Runs.{Ran, ran, next, addAll, writeAll}
 use Rattle.format.specs.WriterCases.{longer, begins, beginShort, adds, addShort, closes, Begun, content, RunWrote}
 use Rattle.format.proofs.WordLaws.{length-bytes}
 use Rattle.format.proofs.Acceptance.{sound, complete}
-use Rattle.format.proofs.SoundLaws.{sound-none, sound-rest, sound-head, behind-one, words-append}
+use Rattle.format.proofs.JoinLaws.{sound-none, sound-rest, sound-head, behind-one, words-append}
 use Rattle.format.proofs.PartialLaws.{partial-complete, begun-length}
 use Rattle.format.proofs.WriterLaws.{begin-exactly, begin-accepted, add-exactly, add-accepted, close-exactly, close-accepted}
 use Rattle.format.proofs.StoreLaws.{six, begin-left, begin-kept, add-kept, close-left}

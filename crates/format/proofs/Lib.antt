@@ -13,7 +13,7 @@ pub mod Figures
 pub mod WalkFaults
 pub mod PartialLaws
 pub mod PartialRefusals
-pub mod SoundLaws
+pub mod JoinLaws
 pub mod WriterLaws
 pub mod StoreLaws
 pub mod WriterSteps

@@ -23,7 +23,7 @@ use Rattle.format.proofs.PrefixLaws.{and-left, and-both}
 use Rattle.format.proofs.WordLaws.{pick-elim}
 use Rattle.format.proofs.Acceptance.{in-order}
 use Rattle.format.proofs.PartialLaws.{partial-sound, begun-length}
-use Rattle.format.proofs.SoundLaws.{behind-append, sound-join, sound-first, sound-one, sound-more}
+use Rattle.format.proofs.JoinLaws.{behind-append, sound-join, sound-first, sound-one, sound-more}
 
 -- ---- what a sound list keeps
 

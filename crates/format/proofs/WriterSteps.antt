@@ -16,7 +16,7 @@ use Rattle.format.specs.Writing.{Partial, partialWords, partialVerdict, 
 use Rattle.format.specs.WriterCases.{Begun, content, withItem, framed, Holds}
 use Rattle.format.proofs.WordLaws.{length-bytes}
 use Rattle.format.proofs.Acceptance.{in-order}
-use Rattle.format.proofs.SoundLaws.{sound-join, sound-one, sound-none, behind-one, partial-one}
+use Rattle.format.proofs.JoinLaws.{sound-join, sound-one, sound-none, behind-one, partial-one}
 use Rattle.format.proofs.PartialLaws.{accepted-is, partial-sound, partial-complete, partial-length, begun-length}
 use Rattle.format.proofs.WriterLaws.{begin-accepted, add-accepted, close-accepted}
 use Rattle.format.proofs.StoreLaws.{begin-left, add-left, close-left}

@@ -16,7 +16,7 @@ use Rattle.format.specs.Writing.{Partial, partialWords, partialVerdict, 
 use Rattle.format.specs.WriterCases.{PartialAnswer, content, withItem, framed, Ends, oneOf, PartialRefused, Begin, handed, Add, Short, Close, Holds, RunWrote}
 use Rattle.format.specs.Runs.{ran, writeAll}
 use Rattle.format.proofs.PartialRefusals.{partial-exactly}
-use Rattle.format.proofs.SoundLaws.{sound-first}
+use Rattle.format.proofs.JoinLaws.{sound-first}
 use Rattle.format.proofs.NoDeadEnd.{no-dead-end, partial-ends}
 use Rattle.format.proofs.WriterLaws.{begin-exactly, add-exactly, close-exactly}
 use Rattle.format.proofs.StoreLaws.{begin-left, add-left, begin-found, add-found, close-found, begin-bytes, add-bytes, close-bytes, begin-kept, add-kept, close-kept}
