@@ -1,4 +1,4 @@
--- The fields of a word, cut from it by position, and the items that the item structs stand for.
+-- The fields of a word, cut from it by position and put in the same way, and the items that the item structs stand for.
 -- Assumes nothing.
 use Prim.Native.Nat.{ℕ, _+_, _*_, _/_, _%_}
 use Rattle.format.specs.Items as items
@@ -9,7 +9,9 @@ use Rattle.book.specs.declared.items.Sample.{Sample}
 use Rattle.book.specs.declared.items.Bin.{Bin}
 use Rattle.book.specs.declared.items.LastCell.{LastCell}
 use Rattle.book.specs.declared.items.TimeBin.{TimeBin}
+use Rattle.book.specs.declared.items.Text.{Text}
 use Rattle.book.specs.declared.items.StartEvent.{StartEvent}
+use Rattle.book.specs.declared.items.EndEvent.{EndEvent}
 
 -- card 5, chip 2, channel 7
 abbrev pub channelOf : ℕ → Channel
@@ -26,10 +28,55 @@ hitsOf w = record { card = w / 512 % 32; chip = w / 128 % 4; count = w % 128 }
 abbrev pub cellOf : ℕ → LastCell
 cellOf w = record { chip = w / 512 % 4; cell = w % 512 }
 
+abbrev pub sampleOf : ℕ → Sample
+sampleOf w = record { value = w % 4096 }
+
+-- of the items with words after the first, what the first word holds
+abbrev pub binOf : ℕ → ℕ
+binOf w = w % 4096
+
+abbrev pub timeBinOf : ℕ → TimeBin
+timeBinOf w = record { time = w % 512 }
+
+abbrev pub textOf : ℕ → Text
+textOf w = record { length = w % 256 }
+
+abbrev pub typeOf : ℕ → ℕ
+typeOf w = w % 16
+
 -- three fields, each cut to its width, put together
 abbrev pub threeCut : ℕ → ℕ → ℕ → ℕ
 threeCut a b c = items.three (a % 32) (b % 4) (c % 128)
 
+-- the first word of each item, its fields cut to their widths
+abbrev pub channelWord : Channel → ℕ
+channelWord x = 0xC000 + threeCut (x .card) (x .chip) (x .channel)
+
+abbrev pub histogramWord : Histogram → ℕ
+histogramWord x = 0x8000 + threeCut (x .card) (x .chip) (x .channel)
+
+abbrev pub hitsWord : HitCount → ℕ
+hitsWord x = 0x4000 + threeCut (x .card) (x .chip) (x .count)
+
+abbrev pub sampleWord : Sample → ℕ
+sampleWord x = 0x3000 + x .value % 4096
+
+abbrev pub binWord : Bin → ℕ
+binWord x = 0x2000 + x .bin % 4096
+
+abbrev pub cellWord : LastCell → ℕ
+cellWord x = 0x1800 + (x .chip % 4 * 512 + x .cell % 512)
+
+abbrev pub timeBinWord : TimeBin → ℕ
+timeBinWord x = 0x0E00 + x .time % 512
+
+abbrev pub textWord : Text → ℕ
+textWord x = 0x0100 + x .length % 256
+
+abbrev pub startWord : StartEvent → ℕ
+startWord x = 0x00F0 + x .kind % 16
+
+-- the items that the structs stand for
 abbrev pub channelItem : Channel → items.Item
 channelItem x = items.Channel (x .card) (x .chip) (x .channel)
 
@@ -53,3 +100,6 @@ timeItem x = items.TimeBin (x .time)
 
 abbrev pub startItem : StartEvent → items.Item
 startItem x = items.StartEvent (x .kind) (x .timestamp) (x .number)
+
+abbrev pub endItem : EndEvent → items.Item
+endItem x = items.EndEvent (x .size)

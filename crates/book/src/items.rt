@@ -1,9 +1,9 @@
 // The ten items: what each holds, its limits, its fields cut out of a word by shifts and masks and put in the same way. The fields are wide
 // enough that a content too wide for the word can be handed to the writer, which refuses it. Each limit is named in its item, once.
 ghost use mathlib.Core.Path.{_≡_};
-ghost use Prim.Native.Nat.{_+_, _*_, _/_, _%_};
+ghost use Prim.Native.Nat.{_%_};
 ghost use Rattle.format.specs.Items.{inRange};
-ghost use Rattle.book.specs.Fields.{threeCut, channelOf, histogramOf, hitsOf, cellOf, channelItem, histogramItem, hitsItem, sampleItem, binItem, cellItem, timeItem, startItem};
+ghost use Rattle.book.specs.Fields.{threeCut, channelOf, histogramOf, hitsOf, binOf, cellOf, typeOf, channelWord, histogramWord, hitsWord, sampleWord, binWord, cellWord, timeBinWord, textWord, startWord, channelItem, histogramItem, hitsItem, sampleItem, binItem, cellItem, timeItem, startItem};
 
 // A channel of a chip of a card, whose samples follow.
 pub struct Channel {
@@ -87,7 +87,7 @@ impl Channel {
 
     pub const LAST_CHIP: u16 = 3;
 
-    pub const LAST: u16 = 78;
+    pub const LAST: u16 = 78; // the last channel of a chip
 
     // The fields of a word, high bits first: card 5, chip 2, channel 7.
     pub fn of_word(w: u16) -> Channel
@@ -102,7 +102,7 @@ impl Channel {
 
     // The word with these fields, each cut to its width.
     pub fn word(self) -> u16
-        ensures { λ r. ⌜ r ≡ 0xC000 + threeCut (self .card) (self .chip) (self .channel) ⌝ }
+        ensures { λ r. ⌜ r ≡ channelWord self ⌝ }
     {
         three(self.card, self.chip, self.channel) | 0xC000
     }
@@ -123,7 +123,7 @@ impl Histogram {
 
     pub const LAST_CHIP: u16 = 3;
 
-    pub const LAST: u16 = 78;
+    pub const LAST: u16 = 78; // the last channel that has a histogram
 
     // The fields of a word, high bits first: card 5, chip 2, channel 7.
     pub fn of_word(w: u16) -> Histogram
@@ -138,7 +138,7 @@ impl Histogram {
 
     // The word with these fields, each cut to its width.
     pub fn word(self) -> u16
-        ensures { λ r. ⌜ r ≡ 0x8000 + threeCut (self .card) (self .chip) (self .channel) ⌝ }
+        ensures { λ r. ⌜ r ≡ histogramWord self ⌝ }
     {
         three(self.card, self.chip, self.channel) | 0x8000
     }
@@ -159,7 +159,7 @@ impl HitCount {
 
     pub const LAST_CHIP: u16 = 3;
 
-    pub const MOST: u16 = 79;
+    pub const MOST: u16 = 79; // every channel of a chip
 
     // The fields of a word, high bits first: card 5, chip 2, count 7.
     pub fn of_word(w: u16) -> HitCount
@@ -174,7 +174,7 @@ impl HitCount {
 
     // The word with these fields, each cut to its width.
     pub fn word(self) -> u16
-        ensures { λ r. ⌜ r ≡ 0x4000 + threeCut (self .card) (self .chip) (self .count) ⌝ }
+        ensures { λ r. ⌜ r ≡ hitsWord self ⌝ }
     {
         three(self.card, self.chip, self.count) | 0x4000
     }
@@ -191,7 +191,7 @@ impl HitCount {
 }
 
 impl Sample {
-    pub const LAST: u16 = 4095;
+    pub const LAST: u16 = 4095; // the largest value of 12 bits
 
     pub fn of_word(w: u16) -> Sample
         ensures { λ r. ⌜ r .value ≡ w % 4096 ⌝ }
@@ -201,7 +201,7 @@ impl Sample {
 
     // The word with this value, cut to its width.
     pub fn word(self) -> u16
-        ensures { λ r. ⌜ r ≡ 0x3000 + self .value % 4096 ⌝ }
+        ensures { λ r. ⌜ r ≡ sampleWord self ⌝ }
     {
         self.value & 0xFFF | 0x3000
     }
@@ -214,20 +214,20 @@ impl Sample {
 }
 
 impl Bin {
-    pub const LAST: u16 = 4095;
+    pub const LAST: u16 = 4095; // the last bin of a histogram
 
     pub const LEAST_COUNT: u32 = 1;
 
     // The bin number of a word; the count stands in the two words after it.
     pub fn of_word(w: u16) -> u16
-        ensures { λ r. ⌜ r ≡ w % 4096 ⌝ }
+        ensures { λ r. ⌜ r ≡ binOf w ⌝ }
     {
         w & 0xFFF
     }
 
     // The first word of the bin, its number cut to its width.
     pub fn word(self) -> u16
-        ensures { λ r. ⌜ r ≡ 0x2000 + self .bin % 4096 ⌝ }
+        ensures { λ r. ⌜ r ≡ binWord self ⌝ }
     {
         self.bin & 0xFFF | 0x2000
     }
@@ -242,7 +242,7 @@ impl Bin {
 impl LastCell {
     pub const LAST_CHIP: u16 = 3;
 
-    pub const LAST: u16 = 511;
+    pub const LAST: u16 = 511; // the last cell of a channel
 
     // The fields of a word, high bits first: chip 2, cell 9.
     pub fn of_word(w: u16) -> LastCell
@@ -256,7 +256,7 @@ impl LastCell {
 
     // The word with these fields, each cut to its width.
     pub fn word(self) -> u16
-        ensures { λ r. ⌜ r ≡ 0x1800 + (self .chip % 4 * 512 + self .cell % 512) ⌝ }
+        ensures { λ r. ⌜ r ≡ cellWord self ⌝ }
     {
         (self.chip & 3) << 9 | self.cell & 0x1FF | 0x1800
     }
@@ -269,7 +269,7 @@ impl LastCell {
 }
 
 impl TimeBin {
-    pub const LAST: u16 = 511;
+    pub const LAST: u16 = 511; // the last time of an event
 
     pub fn of_word(w: u16) -> TimeBin
         ensures { λ r. ⌜ r .time ≡ w % 512 ⌝ }
@@ -279,7 +279,7 @@ impl TimeBin {
 
     // The word with this time, cut to its width.
     pub fn word(self) -> u16
-        ensures { λ r. ⌜ r ≡ 0x0E00 + self .time % 512 ⌝ }
+        ensures { λ r. ⌜ r ≡ timeBinWord self ⌝ }
     {
         self.time & 0x1FF | 0x0E00
     }
@@ -303,7 +303,7 @@ impl Text {
 
     // The first word of the text, its length cut to its width.
     pub fn word(self) -> u16
-        ensures { λ r. ⌜ r ≡ 0x0100 + self .length % 256 ⌝ }
+        ensures { λ r. ⌜ r ≡ textWord self ⌝ }
     {
         self.length & 0xFF | 0x0100
     }
@@ -316,14 +316,14 @@ impl StartEvent {
 
     // The type of a word; timestamp and number stand in the five words after it.
     pub fn of_word(w: u16) -> u16
-        ensures { λ r. ⌜ r ≡ w % 16 ⌝ }
+        ensures { λ r. ⌜ r ≡ typeOf w ⌝ }
     {
         w & 0xF
     }
 
     // The first word of the event, its type cut to its width.
     pub fn word(self) -> u16
-        ensures { λ r. ⌜ r ≡ 0x00F0 + self .kind % 16 ⌝ }
+        ensures { λ r. ⌜ r ≡ startWord self ⌝ }
     {
         self.kind & 0xF | 0x00F0
     }

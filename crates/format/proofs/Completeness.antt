@@ -21,7 +21,9 @@ use Rattle.format.specs.Runs.{Ran, ran, next, addAll, writeAll}
 use Rattle.format.specs.WriterCases.{longer, begins, beginShort, adds, addShort, closes, Begun, content, RunWrote}
 use Rattle.format.proofs.WordLaws.{length-bytes}
 use Rattle.format.proofs.Acceptance.{sound, complete}
-use Rattle.format.proofs.JoinLaws.{sound-none, sound-rest, sound-head, behind-one, words-append}
+use Rattle.format.proofs.ItemQuestions.{all-words}
+use Rattle.format.proofs.SoundLaws.{sound-right, sound-head}
+use Rattle.format.proofs.JoinLaws.{sound-none, behind-one}
 use Rattle.format.proofs.PartialLaws.{partial-complete, begun-length}
 use Rattle.format.proofs.WriterLaws.{begin-exactly, begin-accepted, add-exactly, add-accepted, close-exactly, close-accepted}
 use Rattle.format.proofs.StoreLaws.{six, begin-left, begin-kept, add-kept, close-left}
@@ -144,11 +146,11 @@ module _ (kind : Kind) (card sequence : ℕ) (buf : List ℕ) where
     next-item x ys l =
         let g = begun-length b n (content kind card sequence xs) xs (r .begun) in
         let e = encode-length (frame (xs ++ (x ∷ ys))) in
-        let w = ap length (words-append xs (x ∷ ys)) ∙ length-append (allWords xs) (allWords (x ∷ ys)) in
+        let w = ap length (all-words xs (x ∷ ys)) ∙ length-append (allWords xs) (allWords (x ∷ ys)) in
         let v = length-append (wordsOf x) (allWords ys) in
         let s = length-bytes (wordsOf x) in
         record {
-          allowed = sound-head kind card (behind [] xs) x ys (sound-rest kind card [] xs (x ∷ ys) l);
+          allowed = sound-head kind card (behind [] xs) x ys (sound-right kind card [] xs (x ∷ ys) l);
           fits = omega arith;
         }
 

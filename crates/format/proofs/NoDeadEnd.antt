@@ -5,17 +5,16 @@ use Prim.Native.Nat.{ℕ, _+_, _≤_}
 use mathlib.Core.Path.{_≡_, refl, sym, ap, subst, _∙_}
 use mathlib.Core.List.{List, [], _∷_, append-nil}
 use mathlib.Core.Logic.{_↔_}
-use mathlib.Core.Bool.{Bool, true, false, _||_}
-use native.Mathlib.Nat.{zero-add}
+use mathlib.Core.Bool.{Bool, true, false}
 use native.Mathlib.Omega.{arith}
 use lib.Dec.{ltb}
 use lib.ListN.{length, length-append}
-use borrow.Author.Tests.{leb-true, le-leb, lt-leb, lt-ltb, eq-eqb}
-use Rattle.format.specs.Words.{pick, Bytes}
+use borrow.Author.Tests.{leb-true, le-leb, lt-ltb, eq-eqb}
+use Rattle.format.specs.Words.{Bytes}
 use Rattle.format.specs.Answers.{accepted}
-use Rattle.format.specs.Book.{Class, histogram, bin, startEvent, endEvent}
+use Rattle.format.specs.Book.{Class, startEvent, endEvent}
 use Rattle.format.specs.Items.{Item, Channel, Histogram, HitCount, Sample, Bin, LastCell, TimeBin, Text, StartEvent, EndEvent, classFor, wordsOf, inRange}
-use Rattle.format.specs.Rules.{Kind, dataKind, monitorKind, commandKind, same, since, count, total, gather, inEvent, time, among, allowed, latest, within, place, mayEnd, eventSize, sized}
+use Rattle.format.specs.Rules.{Kind, dataKind, monitorKind, commandKind, same, since, count, total, gather, inEvent, time, among, allowed, latest, within, mayEnd, eventSize, sized}
 use Rattle.format.specs.Frames.{behind, Allowed, Sound, allWords}
 use Rattle.format.specs.Writing.{Partial, partialVerdict}
 use Rattle.format.specs.WriterCases.{Ends}
@@ -23,7 +22,8 @@ use Rattle.format.proofs.PrefixLaws.{and-left, and-both}
 use Rattle.format.proofs.WordLaws.{pick-elim}
 use Rattle.format.proofs.Acceptance.{in-order}
 use Rattle.format.proofs.PartialLaws.{partial-sound, begun-length}
-use Rattle.format.proofs.JoinLaws.{behind-append, sound-join, sound-first, sound-one, sound-more}
+use Rattle.format.proofs.SoundLaws.{tally-zero, behind-append, sound-left, stays-open, balance, no-starts}
+use Rattle.format.proofs.JoinLaws.{sound-join, sound-one, sound-more}
 
 -- ---- what a sound list keeps
 
@@ -44,51 +44,17 @@ total-nil : total [] ≡ 0
 unfolding total
 total-nil = refl
 
-total-since : (c : Class) (p : List Item) → total (since c p) ≤ total p
+part-total : (c : Class) (p : List Item) → total (since c p) ≤ total p
 unfolding since total
-total-since c [] = omega arith
-total-since c (x ∷ p) =
-    pick-elim (λ (l : List Item). length (wordsOf x) + total l ≤ length (wordsOf x) + total p) (same c (classFor x)) (λ _. omega arith) (λ _. omega (arith, total-since c p))
-
-count-since : (d c : Class) (p : List Item) → count d (since c p) ≤ count d p
-unfolding since count
-count-since d c [] = omega arith
-count-since d c (x ∷ p) =
-    pick-elim (λ (l : List Item). pick (same d (classFor x)) 1 0 + count d l ≤ pick (same d (classFor x)) 1 0 + count d p) (same c (classFor x)) (λ _. omega arith)
-    (λ _. omega (arith, count-since d c p))
+part-total c [] = omega arith
+part-total c (x ∷ p) =
+    pick-elim (λ (l : List Item). length (wordsOf x) + total l ≤ length (wordsOf x) + total p) (same c (classFor x)) (λ _. omega arith) (λ _. omega (arith, part-total c p))
 
 -- ---- no event opens in a frame of another kind
 
-no : {A : Type 0} → false ≡ true → A
-no e = let z : _≡_ {A = ℕ} 0 1 = cc in absurd (omega arith)
-
--- an item that is no Start event
-other : (p : List Item) (x : Item) → (same startEvent (classFor x) ≡ true → ⊥) → count startEvent p ≡ 0 → count startEvent (x ∷ p) ≡ 0
-unfolding count
-other p x n h = pick-elim (λ (k : ℕ). k + count startEvent p ≡ 0) (same startEvent (classFor x)) (λ e. absurd (n e)) (λ _. omega arith)
-
--- a Start event has no place in a monitor frame or a command frame
-started : (x : Item) → same startEvent (classFor x) ≡ true → classFor x ≡ startEvent
-started (Channel a b c) e = no e
-started (Histogram a b c) e = no e
-started (HitCount a b c) e = no e
-started (Sample v) e = no e
-started (Bin b n) e = no e
-started (LastCell a b) e = no e
-started (TimeBin t) e = no e
-started (Text s) e = no e
-started (StartEvent t ts n) e = refl
-started (EndEvent n) e = no e
-
-no-monitor-start : (p : List Item) → place monitorKind p startEvent ≡ true → ⊥
-no-monitor-start p = pick-elim (λ w. among startEvent (allowed w) ≡ true → ⊥) (same histogram (latest p) || same bin (latest p)) (λ _ e. no e) (λ _ e. no e)
-
-unopened : (kind : Kind) → ((p : List Item) → place kind p startEvent ≡ true → ⊥) → (card : ℕ) (xs : List Item) → Sound kind card [] xs → inEvent (behind [] xs) ≡ false
-unfolding count
-unopened kind none card xs s =
-    let z : count startEvent (behind [] xs) ≡ 0 = sound-keeps kind card (λ p. count startEvent p ≡ 0)
-    (λ p x h a. other p x (λ e. none p (ap (place kind p) (sym (started x e)) ∙ a .placed)) h) [] xs refl s in
-    lt-leb 1 (count startEvent (since endEvent (behind [] xs))) (omega (arith, count-since startEvent endEvent (behind [] xs)))
+unopened : (kind : Kind) → (kind ≡ dataKind → ⊥) → (card : ℕ) (xs : List Item) → Sound kind card [] xs → inEvent (behind [] xs) ≡ false
+unfolding since count
+unopened kind d card xs s = tally-zero (inEvent (behind [] xs)) (omega (arith, balance kind card [] xs s, no-starts kind card d [] xs s))
 
 -- ---- the continuation inside an event
 
@@ -106,7 +72,7 @@ module _ (card : ℕ) where
   end-allowed p e h b =
       record {
         placed = rw e h;
-        valued = and-both (ltb (eventSize p) 4294967296) _ (lt-ltb (eventSize p) 4294967296 (omega (arith, total-since startEvent p))) (eq-eqb (eventSize p) (eventSize p) refl);
+        valued = and-both (ltb (eventSize p) 4294967296) _ (lt-ltb (eventSize p) 4294967296 (omega (arith, part-total startEvent p))) (eq-eqb (eventSize p) (eventSize p) refl);
         ordered = refl;
       }
 
@@ -123,13 +89,14 @@ module _ (card : ℕ) where
   unfolding behind Continued
   then-more p x a (ys, s, e) = (x ∷ ys, sound-more dataKind card p x ys a s, e)
 
+  -- a Sample or a Time bin leaves the event open
   sample-kept : (v : ℕ) (p : List Item) → inEvent p ≡ true → inEvent (Sample v ∷ p) ≡ true
-  unfolding since count
-  sample-kept v p e = rw zero-add e
+  unfolding behind count
+  sample-kept v p e = stays-open p (Sample v ∷ []) e refl
 
   time-kept : (t : ℕ) (p : List Item) → inEvent p ≡ true → inEvent (TimeBin t ∷ p) ≡ true
-  unfolding since count
-  time-kept t p e = rw zero-add e
+  unfolding behind count
+  time-kept t p e = stays-open p (TimeBin t ∷ []) e refl
 
   first-sample : (t : ℕ) (p : List Item) → t ≤ 511 → inEvent (TimeBin t ∷ p) ≡ true → Allowed dataKind card (TimeBin t ∷ p) (Sample 0)
   unfolding since count gather
@@ -182,8 +149,8 @@ in-range card xs s = sound-keeps dataKind card (ranged card) (λ p x h a. and-le
 
 ends : (kind : Kind) (card : ℕ) (xs : List Item) → Sound kind card [] xs → length (allWords xs) ≤ 4092 → Ends kind card xs
 unfolding Continued
-ends monitorKind card xs s b = as-it-stands monitorKind card xs s (unopened monitorKind no-monitor-start card xs s)
-ends commandKind card xs s b = as-it-stands commandKind card xs s (unopened commandKind (λ p e. no e) card xs s)
+ends monitorKind card xs s b = as-it-stands monitorKind card xs s (unopened monitorKind (λ e. let z : _≡_ {A = ℕ} 0 1 = cc in omega arith) card xs s)
+ends commandKind card xs s b = as-it-stands commandKind card xs s (unopened commandKind (λ e. let z : _≡_ {A = ℕ} 0 1 = cc in omega arith) card xs s)
 ends dataKind card xs s b = go (inEvent (behind [] xs)) refl
   where
     go : (t : Bool) → inEvent (behind [] xs) ≡ t → Ends dataKind card xs
@@ -193,7 +160,7 @@ ends dataKind card xs s b = go (inEvent (behind [] xs)) refl
         record { more = ys; sound = sound-join dataKind card [] xs ys s t; ended = ap mayEnd (behind-append [] xs ys) ∙ m }
 
 pub no-dead-end : (kind : Kind) (card : ℕ) (xs : List Item) → length (allWords xs) ≤ 4092 → Sound kind card [] xs ↔ Ends kind card xs
-no-dead-end kind card xs b = (λ s. ends kind card xs s b, λ e. sound-first kind card [] xs (e .more) (e .sound))
+no-dead-end kind card xs b = (λ s. ends kind card xs s b, λ e. sound-left kind card [] xs (e .more) (e .sound))
 
 -- an accepted partial frame is short enough for that
 pub partial-ends : (buf : List ℕ) → Bytes buf → (n : ℕ) (f : Partial) → partialVerdict buf n ≡ accepted f → Ends (f .kind) (f .card) (behind [] (f .earlier))

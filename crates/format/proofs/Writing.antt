@@ -16,7 +16,7 @@ use Rattle.format.specs.Writing.{Partial, partialWords, partialVerdict, 
 use Rattle.format.specs.WriterCases.{PartialAnswer, content, withItem, framed, Ends, oneOf, PartialRefused, Begin, handed, Add, Short, Close, Holds, RunWrote}
 use Rattle.format.specs.Runs.{ran, writeAll}
 use Rattle.format.proofs.PartialRefusals.{partial-exactly}
-use Rattle.format.proofs.JoinLaws.{sound-first}
+use Rattle.format.proofs.SoundLaws.{sound-left}
 use Rattle.format.proofs.NoDeadEnd.{no-dead-end, partial-ends}
 use Rattle.format.proofs.WriterLaws.{begin-exactly, add-exactly, close-exactly}
 use Rattle.format.proofs.StoreLaws.{begin-left, add-left, begin-found, add-found, close-found, begin-bytes, add-bytes, close-bytes, begin-kept, add-kept, close-kept}
@@ -42,7 +42,7 @@ pub partial-continues : (buf : List ℕ) → Bytes buf → (n : ℕ) (f : Partia
 partial-continues = partial-ends
 
 pub first-part : (kind : Kind) (card : ℕ) (p xs ys : List Item) → Sound kind card p (xs ++ ys) → Sound kind card p xs
-first-part = sound-first
+first-part = sound-left
 
 -- T17, begin. "Begin refuses card over 31 by 9, sequence word by 4, a buffer under 8 bytes by 12, in that order"
 pub begin-answers : (buf : List ℕ) (card sequence : ℕ) (o : Outcome ℕ) → (beginAnswer buf card sequence ≡ o) ↔ Begin buf card sequence o

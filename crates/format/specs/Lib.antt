@@ -8,6 +8,9 @@ pub mod Frames
 pub mod Questions
 pub mod Writing
 pub mod Figures
+pub mod Steps
+pub mod Table
+pub mod Stands
 pub mod Runs
 pub mod Faults
 pub mod WriterCases

@@ -1,4 +1,4 @@
--- `book::class::text_words` meets its contract.
+-- `book::class::text_words` meets its contract: a mask of n ones is the remainder by 2 ^ n.
 -- Assumes nothing.
 use native.Mathlib.Omega.{arith}
 use lib.Bits.{and-mask, mask-lt}
@@ -9,7 +9,7 @@ add-result : tie.Need-add-result
 add-result c = omega (arith, mask-lt (c .args .w) 8)
 
 returns : tie.Need-returns
-returns c = rw (and-mask _ 8)
+returns c = omega (arith, and-mask (c .args .w) 8)
 
 pub text-words-spec : {M : Type 1} → statement M
 text-words-spec = tie.close (tie.spec add-result returns)

@@ -1,0 +1,114 @@
+// The proved library's side of the comparison with an independent second program (document 01, "Figures to agree with"): reads cases from
+// standard input and writes one line for each. README.md says what a case and its line look like, and how an op is added.
+//
+// The ops that are there: 0 classify, 11 follow. Any other is a bad case.
+mod cases;
+mod lines;
+mod ops;
+mod ops_book;
+mod ops_follower;
+mod sums;
+
+ghost use Prim.Native.Nat.{_≤_};
+ghost use lib.ListN.{length};
+use cases::Case;
+
+// What a turn leaves: how many bytes of the output wait to be written, and whether a further case is to be read.
+struct After {
+    waiting: usize,
+    more: bool,
+}
+
+// Reads a payload, and tells whether it came whole.
+fn fill(payload: &mut [u8]) -> bool {
+    if payload.len() == 0 {
+        return true;
+    }
+    io::read_full(0, payload) == payload.len()
+}
+
+// Reads the payloads, which are lent at their own lengths, and answers the case.
+fn read_and_answer(case: Case, p: &mut [u8], q: &mut [u8], line: &mut [u8]) -> usize {
+    if fill(p) & fill(q) {
+        return ops::answer(case, p, q, line);
+    }
+    0
+}
+
+// The line of a case, without the line feed, at the start of `line`: its length, or 0 where this is no case. p and q are as long as a payload
+// may be. A line that does not fit would be no case either: none is half as long.
+fn line_of(case: Case, p: &mut [u8], q: &mut [u8], line: &mut [u8]) -> usize
+    ensures { λ r. ⌜ r ≤ length (now (line .exit)) ⌝ }
+{
+    let n = case.n;
+    let m = case.m;
+    if p.len() < n {
+        return 0;
+    }
+    if q.len() < m {
+        return 0;
+    }
+    let made = read_and_answer(case, &mut p[0..n], &mut q[0..m], line);
+    if made < line.len() { made } else { 0 }
+}
+
+// Answers a case: its line goes to the end of what waits.
+fn answered(case: Case, p: &mut [u8], q: &mut [u8], out: &mut [u8], waiting: usize) -> After {
+    let mut line = [0u8; 512];
+    let made = line_of(case, p, q, &mut line);
+    After {
+        waiting: lines::finished(out, waiting, &line, made),
+        more: 0 < made,
+    }
+}
+
+// Reads one case and answers it. Input that ends here is the end.
+fn turn(p: &mut [u8], q: &mut [u8], out: &mut [u8], waiting: usize) -> After {
+    let case = cases::read();
+    if case.got == 0 {
+        return After {
+            waiting,
+            more: false,
+        };
+    }
+    answered(case, p, q, out, waiting)
+}
+
+// Writes what waits.
+fn write(out: &[u8], waiting: usize) {
+    if waiting <= out.len() {
+        io::write_all(1, &out[0..waiting]);
+    }
+}
+
+// Writes what waits if a further line might find no room, and gives how much waits from here on.
+fn flushed(out: &[u8], waiting: usize) -> usize {
+    if waiting < out.len() / 2 {
+        return waiting;
+    }
+    write(out, waiting);
+    0
+}
+
+// All cases, up to the end of the input or the first that is none. A proved loop has to end, and nothing says that the input does: so the
+// loop counts its turns down, from a number that no run uses up.
+fn run(p: &mut [u8], q: &mut [u8], out: &mut [u8]) {
+    let mut turns = u64::MAX;
+    let mut waiting = 0;
+    let mut more = true;
+    while turns > 0 && more {
+        let after = turn(p, q, out, flushed(out, waiting));
+        waiting = after.waiting;
+        more = after.more;
+        turns -= 1;
+    }
+    write(out, waiting);
+}
+
+// The arrays for the payloads are as long as a payload may be.
+fn main() {
+    let mut p = [0u8; 24576];
+    let mut q = [0u8; 24576];
+    let mut out = [0u8; 32768];
+    run(&mut p, &mut q, &mut out);
+}

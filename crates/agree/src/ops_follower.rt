@@ -1,0 +1,32 @@
+// The op over the follower of sequence numbers.
+use crate::cases;
+use crate::lines;
+use follower::Followed;
+use follower::Follower;
+
+// The follower's state as a case codes it: 0 idle, 1 + e expecting e.
+fn state_of(code: u64) -> Follower {
+    if code == 0 {
+        return Follower::Idle;
+    }
+    Follower::Expecting(cases::low8(code - 1))
+}
+
+fn code_of(state: Follower) -> u64 {
+    match state {
+        Follower::Idle => 0,
+        Follower::Expecting(expected) => 1 + expected as u64,
+    }
+}
+
+fn told(answer: Followed, line: &mut [u8]) -> usize {
+    match answer {
+        Followed::Accepted { lost, next } => lines::ok2(line, lost as u64, code_of(next)),
+        Followed::Refused { number, place } => lines::refused(line, number, place),
+    }
+}
+
+// Op 11: the follower in the state a0 is fed the word a1.
+pub fn follow(a0: u64, a1: u64, line: &mut [u8]) -> usize {
+    told(state_of(a0).follow(cases::low16(a1)), line)
+}

@@ -1,0 +1,131 @@
+-- T39, T40. What an answer says on paper fixes the answer: each view is injective, so each promise of this crate has one answer.
+-- Assumes nothing.
+use Prim.Native.Nat.{ℕ, _%_}
+use mathlib.Core.Path.{_≡_, refl, sym, ap, _∙_}
+use mathlib.Core.List.{List}
+use lib.Seq.{sets}
+use Rattle.format.specs.Answers.{Outcome, refused}
+use Rattle.format.specs.Book as paper
+use Rattle.format.specs.Items as items
+use Rattle.book.specs.declared.class.Class.{Class}
+use Rattle.book.specs.declared.class.Class.the-variants.{Channel, Histogram, HitCount, Sample, Bin, LastCell, TimeBin, DataFrame, MonitorFrame, CommandFrame, Text, StartEvent, EndEvent, FrameEnd, Unassigned}
+use Rattle.book.specs.declared.items.Item.{Item}
+use Rattle.book.specs.declared.items.Item.the-variants as item
+use Rattle.book.specs.declared.items.Sample as samples
+use Rattle.book.specs.declared.items.TimeBin as times
+use Rattle.book.specs.declared.items.Text as texts
+use Rattle.book.specs.declared.refusal.Refusal.{Refusal}
+use Rattle.book.specs.Views.{view, viewItem, refusal}
+
+-- a contract that is an equation, seen through an injective view, has one answer
+pub one : {A B : Type 0} (look : A → B) → ((r q : A) → look r ≡ look q → r ≡ q) → (b : B) (r q : A) → look r ≡ b → look q ≡ b → r ≡ q
+one look injective b r q e f = injective r q (e ∙ sym f)
+
+-- a view with a way back is injective
+pub undone : {A B : Type 0} (look : A → B) (back : B → A) → ((r : A) → back (look r) ≡ r) → (r q : A) → look r ≡ look q → r ≡ q
+undone look back h r q e = sym (h r) ∙ ap back e ∙ h q
+
+-- T40
+
+-- the way back from document 01's classes
+abbrev classBack : paper.Class → Class
+classBack paper.channel = Channel
+classBack paper.histogram = Histogram
+classBack paper.hitCount = HitCount
+classBack paper.sample = Sample
+classBack paper.bin = Bin
+classBack paper.lastCell = LastCell
+classBack paper.timeBin = TimeBin
+classBack paper.dataFrame = DataFrame
+classBack paper.monitorFrame = MonitorFrame
+classBack paper.commandFrame = CommandFrame
+classBack paper.text = Text
+classBack paper.startEvent = StartEvent
+classBack paper.endEvent = EndEvent
+classBack paper.frameEnd = FrameEnd
+classBack paper.unassigned = Unassigned
+
+class-back : (r : Class) → classBack (view r) ≡ r
+class-back Channel = refl
+class-back Histogram = refl
+class-back HitCount = refl
+class-back Sample = refl
+class-back Bin = refl
+class-back LastCell = refl
+class-back TimeBin = refl
+class-back DataFrame = refl
+class-back MonitorFrame = refl
+class-back CommandFrame = refl
+class-back Text = refl
+class-back StartEvent = refl
+class-back EndEvent = refl
+class-back FrameEnd = refl
+class-back Unassigned = refl
+
+pub same-class : (r q : Class) → view r ≡ view q → r ≡ q
+same-class = undone view classBack class-back
+
+-- the way back from document 01's items
+abbrev itemBack : items.ItemOf ℕ → Item
+itemBack (items.Channel a b c) = item.Channel (record { card = a; chip = b; channel = c })
+itemBack (items.Histogram a b c) = item.Histogram (record { card = a; chip = b; channel = c })
+itemBack (items.HitCount a b c) = item.HitCount (record { card = a; chip = b; count = c })
+itemBack (items.Sample v) = item.Sample (record { value = v })
+itemBack (items.Bin b n) = item.Bin (record { bin = b; count = n })
+itemBack (items.LastCell a b) = item.LastCell (record { chip = a; cell = b })
+itemBack (items.TimeBin t) = item.TimeBin (record { time = t })
+itemBack (items.Text n) = item.Text (record { length = n })
+itemBack (items.StartEvent t ts n) = item.StartEvent (record { kind = t; timestamp = ts; number = n })
+itemBack (items.EndEvent n) = item.EndEvent (record { size = n })
+
+item-back : (r : Item) → itemBack (viewItem r) ≡ r
+item-back (item.Channel x) = refl
+item-back (item.Histogram x) = refl
+item-back (item.HitCount x) = refl
+item-back (item.Sample x) = refl
+item-back (item.Bin x) = refl
+item-back (item.LastCell x) = refl
+item-back (item.TimeBin x) = refl
+item-back (item.Text x) = refl
+item-back (item.StartEvent x) = refl
+item-back (item.EndEvent x) = refl
+
+pub same-item : (r q : Item) → viewItem r ≡ viewItem q → r ≡ q
+same-item = undone viewItem itemBack item-back
+
+module _ {A : Type 0} where
+  number-of : (n m p q : ℕ) → _≡_ {A = Outcome A} (refused n p) (refused m q) → n ≡ m
+  number-of n m p q e = cc
+
+  place-of : (n m p q : ℕ) → _≡_ {A = Outcome A} (refused n p) (refused m q) → p ≡ q
+  place-of n m p q e = cc
+
+  pub same-refusal : (r q : Refusal) → refusal {A = A} r ≡ refusal q → r ≡ q
+  same-refusal r q e =
+      let n = number-of (r .number) (q .number) (r .place) (q .place) e in
+      let p = place-of (r .number) (q .number) (r .place) (q .place) e in
+      λ i. record { number = n i; place = p i }
+
+-- T39, no second result, function by function
+
+pub classify-once : (w : ℕ) (r q : Class) → view r ≡ paper.classOf w → view q ≡ paper.classOf w → r ≡ q
+classify-once w = one view same-class (paper.classOf w)
+
+-- Where the promise is an equation of the answer itself, of a number, a bool or a struct: words_after, text_words; of_word of Channel,
+-- Histogram, HitCount, Bin, LastCell, StartEvent; every `word` and `valid`; EndEvent::low_bits; word, long, time.
+pub equal-once : {A : Type 0} (b r q : A) → r ≡ b → q ≡ b → r ≡ q
+equal-once b r q e f = e ∙ sym f
+
+-- Where it is an equation of the struct's one field.
+pub sample-once : (w : ℕ) (r q : samples.Sample) → r .value ≡ w % 4096 → q .value ≡ w % 4096 → r ≡ q
+sample-once w = one (λ (r : samples.Sample). r .value) (undone (λ (r : samples.Sample). r .value) (λ (v : ℕ). record { value = v }) (λ r. refl)) (w % 4096)
+
+pub time-bin-once : (w : ℕ) (r q : times.TimeBin) → r .time ≡ w % 512 → q .time ≡ w % 512 → r ≡ q
+time-bin-once w = one (λ (r : times.TimeBin). r .time) (undone (λ (r : times.TimeBin). r .time) (λ (t : ℕ). record { time = t }) (λ r. refl)) (w % 512)
+
+pub text-once : (w : ℕ) (r q : texts.Text) → r .length ≡ w % 256 → q .length ≡ w % 256 → r ≡ q
+text-once w = one (λ (r : texts.Text). r .length) (undone (λ (r : texts.Text). r .length) (λ (n : ℕ). record { length = n }) (λ r. refl)) (w % 256)
+
+-- `copy` answers nothing; its promise is of the list that it leaves, whole.
+pub copy-once : (dst src r q : List ℕ) → r ≡ sets dst 0 src → q ≡ sets dst 0 src → r ≡ q
+copy-once dst src = equal-once (sets dst 0 src)

@@ -1,0 +1,333 @@
+-- The state is an abstraction of the list of earlier items: a turn of the rules by the state alone is the turn by the list.
+-- Assumes nothing.
+use Prim.Native.Nat.{ℕ, zero, suc, _+_, _-_, _*_, max, _≤_, _<_}
+use mathlib.Core.Path.{_≡_, refl, sym, ap, ap₂, subst, _∙_}
+use mathlib.Core.List.{List, [], _∷_, _++_}
+use mathlib.Core.Bool.{Bool, true, false, not, _&&_, _||_, true≢false, and-true}
+use native.Mathlib.Nat.{zero-add}
+use native.Mathlib.Numerals.{add-one}
+use native.Mathlib.Omega.{arith}
+use lib.ListN.{length}
+use lib.Dec.{leb, ltb, eqb}
+use borrow.Author.Tests.{leb-true, leb-false, le-leb, lt-leb, ltb-true, ltb-false, lt-ltb, le-ltb, eq-eqb}
+use Rattle.format.specs.Words.{pick}
+use Rattle.format.specs.Book.{Class, channel, histogram, hitCount, sample, bin, lastCell, timeBin, dataFrame, monitorFrame, commandFrame, text, startEvent, endEvent, frameEnd, unassigned}
+use Rattle.format.specs.Items.{Item, Channel, Histogram, HitCount, Sample, Bin, LastCell, TimeBin, Text, StartEvent, EndEvent, classFor, wordsOf, inRange, key, Token, whole, broken, flawed}
+use Rattle.format.specs.Rules.{Kind, dataKind, monitorKind, commandKind, same, since, count, has, latest, total, gather, channelKey, histogramKey, binNumber, startTime, first, above, inEvent, time, Where, outside, inside, afterChannel, afterTime, afterSample, unheaded, headed, commands, within, whereAfter, allowed, among, place, eventSize, sized, value, order, Checked, good, bad, check}
+use Rattle.format.specs.Steps.{St, aboveAll, keyAfter, nextAfter, openerAfter, stateOf, firstMode, start, placeBy, sizedBy, valueBy, paused, orderBy, stateAfter, checkBy}
+
+-- ---- numbers above all of some
+
+pub above-leb : (k : ℕ) (ns : List ℕ) → above k ns ≡ leb (aboveAll ns) k
+unfolding above aboveAll
+above-leb k [] = sym (le-leb 0 k (omega arith))
+above-leb k (n ∷ ns) = rw (above-leb k ns) (go (ltb n k) refl (leb (aboveAll ns) k) refl)
+  where
+    go : (a : Bool) → ltb n k ≡ a → (b : Bool) → leb (aboveAll ns) k ≡ b → ltb n k && leb (aboveAll ns) k ≡ leb (max (suc n) (aboveAll ns)) k
+    go true p true q = rw (p, q) (sym (le-leb (max (suc n) (aboveAll ns)) k (omega (arith, ltb-true, leb-true))))
+    go true p false q = rw (p, q) (sym (lt-leb (max (suc n) (aboveAll ns)) k (omega (arith, ltb-true, leb-false))))
+    go false p b q = rw p (sym (lt-leb (max (suc n) (aboveAll ns)) k (omega (arith, ltb-false))))
+
+above-next : (k : ℕ) (ns : List ℕ) → above k ns ≡ true → k + 1 ≡ aboveAll (k ∷ ns)
+unfolding aboveAll
+above-next k ns e =
+    let h : aboveAll ns ≤ k = leb-true _ _ (sym (above-leb k ns) ∙ e) in
+    omega arith
+
+-- ---- where an item may stand
+
+no : {A : Type 0} → false ≡ true → A
+no e = let z : _≡_ {A = ℕ} 0 1 = cc in absurd (omega arith)
+
+-- the places of a data frame, and of a monitor frame
+abbrev InData : Where → Type 0
+InData outside = Unit {0}
+InData inside = Unit {0}
+InData afterChannel = Unit {0}
+InData afterTime = Unit {0}
+InData afterSample = Unit {0}
+InData unheaded = ⊥
+InData headed = ⊥
+InData commands = ⊥
+
+within-data : (c : Class) → InData (within c)
+within-data channel = tt
+within-data histogram = tt
+within-data hitCount = tt
+within-data sample = tt
+within-data bin = tt
+within-data lastCell = tt
+within-data timeBin = tt
+within-data dataFrame = tt
+within-data monitorFrame = tt
+within-data commandFrame = tt
+within-data text = tt
+within-data startEvent = tt
+within-data endEvent = tt
+within-data frameEnd = tt
+within-data unassigned = tt
+
+in-data : (p : List Item) → InData (whereAfter dataKind p)
+in-data p = go (inEvent p)
+  where
+    go : (b : Bool) → InData (pick b (within (latest p)) outside)
+    go true = within-data (latest p)
+    go false = tt
+
+-- a class that stands in no place of a data frame, of a monitor frame
+not-data : (p : List Item) (c : Class) → ((m : Where) → InData m → among c (allowed m) ≡ false) → place dataKind p c ≡ true → ⊥
+not-data p c n h = true≢false (sym h ∙ n (whereAfter dataKind p) (in-data p))
+
+not-monitor : (p : List Item) (c : Class) → among c (allowed headed) ≡ false → among c (allowed unheaded) ≡ false → place monitorKind p c ≡ true → ⊥
+not-monitor p c u v h = go (same histogram (latest p) || same bin (latest p)) h
+  where
+    go : (b : Bool) → among c (allowed (pick b headed unheaded)) ≡ true → ⊥
+    go true e = true≢false (sym e ∙ u)
+    go false e = true≢false (sym e ∙ v)
+
+histogram-not : (m : Where) → InData m → among histogram (allowed m) ≡ false
+histogram-not outside i = refl
+histogram-not inside i = refl
+histogram-not afterChannel i = refl
+histogram-not afterTime i = refl
+histogram-not afterSample i = refl
+histogram-not unheaded i = absurd i
+histogram-not headed i = absurd i
+histogram-not commands i = absurd i
+
+bin-not : (m : Where) → InData m → among bin (allowed m) ≡ false
+bin-not outside i = refl
+bin-not inside i = refl
+bin-not afterChannel i = refl
+bin-not afterTime i = refl
+bin-not afterSample i = refl
+bin-not unheaded i = absurd i
+bin-not headed i = absurd i
+bin-not commands i = absurd i
+
+text-not : (m : Where) → InData m → among text (allowed m) ≡ false
+text-not outside i = refl
+text-not inside i = refl
+text-not afterChannel i = refl
+text-not afterTime i = refl
+text-not afterSample i = refl
+text-not unheaded i = absurd i
+text-not headed i = absurd i
+text-not commands i = absurd i
+
+-- any class but a Start event stands inside an event only
+open-there : (p : List Item) (c : Class) → same c startEvent ≡ false → place dataKind p c ≡ true → inEvent p ≡ true
+open-there p c n h = go (inEvent p) refl
+  where
+    go : (b : Bool) → inEvent p ≡ b → inEvent p ≡ true
+    go true e = e
+    go false e =
+        let g : among c (allowed (pick (inEvent p) (within (latest p)) outside)) ≡ false = rw (e, n) in
+        absurd (true≢false (sym h ∙ g))
+
+-- an event that is open stays so until its End event
+still : (x : Item) (p : List Item) → same endEvent (classFor x) ≡ false → inEvent p ≡ true → inEvent (x ∷ p) ≡ true
+unfolding since count
+still x p n e =
+    let h : 1 ≤ count startEvent (since endEvent p) = leb-true _ _ e in
+    rw n (le-leb 1 (pick (same startEvent (classFor x)) 1 0 + count startEvent (since endEvent p)) (omega arith))
+
+-- ---- the words since the latest Start event
+
+since-less : (c : Class) (p : List Item) → total (since c p) ≤ total p
+unfolding since total
+since-less c [] = omega arith
+since-less c (x ∷ p) = go (same c (classFor x)) (since-less c p)
+  where
+    go : (b : Bool) → total (since c p) ≤ total p → length (wordsOf x) + total (pick b [] (since c p)) ≤ length (wordsOf x) + total p
+    go true h = omega arith
+    go false h = omega arith
+
+opener-same : (x : Item) (p : List Item) → same startEvent (classFor x) ≡ false → openerAfter p ≡ openerAfter (x ∷ p)
+unfolding since total
+opener-same x p n = rw n (omega arith)
+
+-- ---- one item
+
+pub record Turn (kind : Kind) (p : List Item) (x : Item) : Type 0 where
+  pub ordered : orderBy (stateOf kind p) x ≡ order p x
+  pub after : order p x ≡ true → stateAfter (3 + total p) (stateOf kind p) x ≡ stateOf kind (x ∷ p)
+
+alike : (m m′ : Where) (k k′ n n′ o o′ : ℕ) → m ≡ m′ → k ≡ k′ → n ≡ n′ → o ≡ o′
+    → _≡_ {A = St} (record { mode = m; key = k; next = n; opener = o }) (record { mode = m′; key = k′; next = n′; opener = o′ })
+alike m m′ k k′ n n′ o o′ e f g h = λ i. record { mode = e i; key = f i; next = g i; opener = h i }
+
+-- a time that no Time bin and no Sample changes
+time-same : (p : List Item) (n : ℕ) → n ≡ 0 → time p ≡ first (gather startTime p) + (n + count sample (since timeBin p))
+time-same p n e = rw e (rw (zero-add (count sample (since timeBin p))))
+
+-- a Time bin stands right behind a Channel, or behind a Sample, and only there leaves a pause
+pause : (x : Item) (q : List Item) (t : ℕ) → among timeBin (allowed (within (classFor x))) ≡ true
+    → paused (within (classFor x)) (time (x ∷ q)) t ≡ not (has sample (since channel (x ∷ q))) || leb (time (x ∷ q) + 1) t
+unfolding since count
+pause (Channel a b c) q t h = refl
+pause (Sample v) q t h =
+    rw (le-leb 1 (1 + count sample (since channel q)) (omega arith), add-one (first (gather startTime (Sample v ∷ q)) + (1 + count sample (since timeBin q))))
+pause (Histogram a b c) q t h = no h
+pause (HitCount a b c) q t h = no h
+pause (Bin b n) q t h = no h
+pause (LastCell a b) q t h = no h
+pause (TimeBin u) q t h = no h
+pause (Text s) q t h = no h
+pause (StartEvent k ts n) q t h = no h
+pause (EndEvent n) q t h = no h
+
+time-ordered : (p : List Item) (t : ℕ) → place dataKind p timeBin ≡ true → inEvent p ≡ true
+    → paused (whereAfter dataKind p) (time p) t ≡ not (has sample (since channel p)) || leb (time p + 1) t
+unfolding since count
+time-ordered [] t h o = no o
+time-ordered (x ∷ q) t h o = rw o (pause x q t (rw o at h))
+
+module _ (p : List Item) where
+  hit-turn : (a b c : ℕ) → place dataKind p hitCount ≡ true → Turn dataKind p (HitCount a b c)
+  unfolding stateOf since count gather
+  hit-turn a b c h = record {
+    ordered = refl;
+    after = λ e. alike _ _ _ _ _ _ _ _ (sym (rw (still (HitCount a b c) p refl (open-there p hitCount refl h)))) refl (time-same p 0 refl) (opener-same (HitCount a b c) p refl);
+  }
+
+  cell-turn : (a b : ℕ) → place dataKind p lastCell ≡ true → Turn dataKind p (LastCell a b)
+  unfolding stateOf since count gather
+  cell-turn a b h = record {
+    ordered = refl;
+    after = λ e. alike _ _ _ _ _ _ _ _ (sym (rw (still (LastCell a b) p refl (open-there p lastCell refl h)))) refl (time-same p 0 refl) (opener-same (LastCell a b) p refl);
+  }
+
+  channel-turn : (a b c : ℕ) → place dataKind p channel ≡ true → Turn dataKind p (Channel a b c)
+  unfolding stateOf since count gather
+  channel-turn a b c h = record {
+    ordered = sym (above-leb (key a b c) (gather channelKey (since startEvent p)));
+    after = λ e. alike _ _ _ _ _ _ _ _ (sym (rw (still (Channel a b c) p refl (open-there p channel refl h)))) (above-next (key a b c) (gather channelKey (since startEvent p)) e) (time-same p 0 refl) (opener-same (Channel a b c) p refl);
+  }
+
+  end-turn : (n : ℕ) → Turn dataKind p (EndEvent n)
+  unfolding stateOf since count gather
+  end-turn n = record {
+    ordered = refl;
+    after = λ e. alike _ _ _ _ _ _ _ _ refl refl (time-same p 0 refl) (opener-same (EndEvent n) p refl);
+  }
+
+  start-turn : (t ts n : ℕ) → Turn dataKind p (StartEvent t ts n)
+  unfolding stateOf since count gather total wordsOf aboveAll
+  start-turn t ts n = record {
+    ordered = refl;
+    after = λ e. alike _ _ _ _ _ _ _ _ (sym (rw (le-leb 1 (1 + count startEvent (since endEvent p)) (omega arith)))) refl (time-same p 0 refl) (omega arith);
+  }
+
+  sample-turn : (v : ℕ) → place dataKind p sample ≡ true → Turn dataKind p (Sample v)
+  unfolding stateOf since count gather
+  sample-turn v h = record {
+    ordered = refl;
+    after = λ e. alike _ _ _ _ _ _ _ _ (sym (rw (still (Sample v) p refl (open-there p sample refl h)))) refl (omega arith) (opener-same (Sample v) p refl);
+  }
+
+  time-turn : (t : ℕ) → place dataKind p timeBin ≡ true → Turn dataKind p (TimeBin t)
+  unfolding stateOf since count gather
+  time-turn t h = record {
+    ordered = time-ordered p t h (open-there p timeBin refl h);
+    after = λ e. alike _ _ _ _ _ _ _ _ (sym (rw (still (TimeBin t) p refl (open-there p timeBin refl h)))) refl (omega arith) (opener-same (TimeBin t) p refl);
+  }
+
+  histogram-turn : (a b c : ℕ) → Turn monitorKind p (Histogram a b c)
+  unfolding stateOf since count gather aboveAll
+  histogram-turn a b c = record {
+    ordered = sym (above-leb (key a b c) (gather histogramKey p));
+    after = λ e. alike _ _ _ _ _ _ _ _ refl (above-next (key a b c) (gather histogramKey p) e) refl (opener-same (Histogram a b c) p refl);
+  }
+
+  bin-turn : (b n : ℕ) → Turn monitorKind p (Bin b n)
+  unfolding stateOf since count gather
+  bin-turn b n = record {
+    ordered = sym (above-leb b (gather binNumber (since histogram p)));
+    after = λ e. alike _ _ _ _ _ _ _ _ refl refl (above-next b (gather binNumber (since histogram p)) e) (opener-same (Bin b n) p refl);
+  }
+
+  text-turn : (s : List ℕ) → Turn commandKind p (Text s)
+  unfolding stateOf
+  text-turn s = record { ordered = refl; after = λ e. alike _ _ _ _ _ _ _ _ refl refl refl (opener-same (Text s) p refl) }
+
+-- every item that may stand there
+turn-of : (kind : Kind) (p : List Item) (x : Item) → place kind p (classFor x) ≡ true → Turn kind p x
+turn-of dataKind p (Channel a b c) h = channel-turn p a b c h
+turn-of dataKind p (Histogram a b c) h = absurd (not-data p histogram histogram-not h)
+turn-of dataKind p (HitCount a b c) h = hit-turn p a b c h
+turn-of dataKind p (Sample v) h = sample-turn p v h
+turn-of dataKind p (Bin b n) h = absurd (not-data p bin bin-not h)
+turn-of dataKind p (LastCell a b) h = cell-turn p a b h
+turn-of dataKind p (TimeBin t) h = time-turn p t h
+turn-of dataKind p (Text s) h = absurd (not-data p text text-not h)
+turn-of dataKind p (StartEvent t ts n) h = start-turn p t ts n
+turn-of dataKind p (EndEvent n) h = end-turn p n
+turn-of monitorKind p (Channel a b c) h = absurd (not-monitor p channel refl refl h)
+turn-of monitorKind p (Histogram a b c) h = histogram-turn p a b c
+turn-of monitorKind p (HitCount a b c) h = absurd (not-monitor p hitCount refl refl h)
+turn-of monitorKind p (Sample v) h = absurd (not-monitor p sample refl refl h)
+turn-of monitorKind p (Bin b n) h = bin-turn p b n
+turn-of monitorKind p (LastCell a b) h = absurd (not-monitor p lastCell refl refl h)
+turn-of monitorKind p (TimeBin t) h = absurd (not-monitor p timeBin refl refl h)
+turn-of monitorKind p (Text s) h = absurd (not-monitor p text refl refl h)
+turn-of monitorKind p (StartEvent t ts n) h = absurd (not-monitor p startEvent refl refl h)
+turn-of monitorKind p (EndEvent n) h = absurd (not-monitor p endEvent refl refl h)
+turn-of commandKind p (Channel a b c) h = no h
+turn-of commandKind p (Histogram a b c) h = no h
+turn-of commandKind p (HitCount a b c) h = no h
+turn-of commandKind p (Sample v) h = no h
+turn-of commandKind p (Bin b n) h = no h
+turn-of commandKind p (LastCell a b) h = no h
+turn-of commandKind p (TimeBin t) h = no h
+turn-of commandKind p (Text s) h = text-turn p s
+turn-of commandKind p (StartEvent t ts n) h = no h
+turn-of commandKind p (EndEvent n) h = no h
+
+-- the value rules by the state
+value-same : (kind : Kind) (card : ℕ) (p : List Item) (x : Item) → valueBy card (3 + total p) (stateOf kind p) x ≡ value card p x
+unfolding stateOf
+value-same kind card p (Channel a b c) = refl
+value-same kind card p (Histogram a b c) = refl
+value-same kind card p (HitCount a b c) = refl
+value-same kind card p (Sample v) = refl
+value-same kind card p (Bin b n) = refl
+value-same kind card p (LastCell a b) = refl
+value-same kind card p (TimeBin t) = refl
+value-same kind card p (Text s) = refl
+value-same kind card p (StartEvent t ts n) = refl
+value-same kind card p (EndEvent n) =
+    let l = since-less startEvent p in
+    let e : 2 * ((3 + total p) - ((3 + total p) - total (since startEvent p))) + 6 ≡ 2 * total (since startEvent p) + 6 = omega arith in
+    rw e
+
+abbrev pub states : Kind → Checked (List Item) → Checked St
+states kind (good q) = good (stateOf kind q)
+states kind (bad n) = bad n
+
+states-broken : (kind : Kind) (a : Bool) → pick a (bad 9) (bad 8) ≡ states kind (pick a (bad 9) (bad 8))
+states-broken kind true = refl
+states-broken kind false = refl
+
+states-whole : (kind : Kind) (a b c d : Bool) (q : List Item) (r : St) → (a ≡ true → d ≡ c) → (a ≡ true → c ≡ true → r ≡ stateOf kind q)
+    → pick a (pick b (pick d (good r) (bad 10)) (bad 9)) (bad 8) ≡ states kind (pick a (pick b (pick c (good q) (bad 10)) (bad 9)) (bad 8))
+states-whole kind false b c d q r e f = refl
+states-whole kind true false c d q r e f = refl
+states-whole kind true true true d q r e f = rw (e refl) (ap good (f refl refl))
+states-whole kind true true false d q r e f = rw (e refl)
+
+-- THE LAW: a turn by the state is the turn by the list
+pub turn : (kind : Kind) (card : ℕ) (p : List Item) (t : Token) → checkBy card (3 + total p) (stateOf kind p) t ≡ states kind (check kind card p t)
+unfolding checkBy check stateOf
+turn kind card p (flawed n) = refl
+turn kind card p (broken c) = states-broken kind (place kind p c)
+turn kind card p (whole x) =
+    ap (λ (b : Bool). pick (place kind p (classFor x)) (pick b (pick (orderBy (stateOf kind p) x) (good (stateAfter (3 + total p) (stateOf kind p) x)) (bad 10)) (bad 9)) (bad 8)) (value-same kind card p x)
+    ∙ states-whole kind (place kind p (classFor x)) (value card p x) (order p x) (orderBy (stateOf kind p) x) (x ∷ p) (stateAfter (3 + total p) (stateOf kind p) x)
+    (λ h. turn-of kind p x h .ordered) (λ h. turn-of kind p x h .after)
+
+pub start-state : (kind : Kind) → start kind ≡ stateOf kind []
+unfolding stateOf since count gather total aboveAll
+start-state dataKind = refl
+start-state monitorKind = refl
+start-state commandKind = refl

@@ -1,0 +1,81 @@
+-- What stands where in a frame's items, said by splitting the list and with no word of how it is looked up (document 01, "Reading and writing
+-- items"). The questions answer exactly this: proofs/Questions.
+-- Assumes nothing.
+use Prim.Native.Nat.{ℕ, _+_, _<_, _≤_}
+use mathlib.Core.Path.{_≡_}
+use mathlib.Core.List.{List, [], _∷_, _++_}
+use mathlib.Core.Bool.{Bool, true, _&&_}
+use mathlib.Core.Logic.{_↔_}
+use lib.ListN.{length, take, getD}
+use Rattle.format.specs.Book.{Class, sample, bin, timeBin, startEvent, endEvent}
+use Rattle.format.specs.Items.{Item, Channel, Histogram, Sample, Bin, TimeBin, StartEvent, EndEvent, classFor}
+use Rattle.format.specs.Rules.{count, among}
+use Rattle.format.specs.Frames.{allWords}
+use Rattle.format.specs.Questions.{Event}
+
+-- item n, from 0, is x
+pub record ItemIs (xs : List Item) (n : ℕ) (x : Item) : Type 0 where
+  pub before : List Item
+  pub after : List Item
+  pub items : xs ≡ before ++ (x ∷ after)
+  pub ordinal : length before ≡ n
+
+-- the word index of item n: the three first words and those of the n items before it come first; of the end word where n is their number
+abbrev pub indexOf : List Item → ℕ → ℕ
+indexOf xs n = 3 + length (allWords (take n xs))
+
+-- every item is of one of the classes
+unfoldable pub only : List Class → List Item → Bool
+only cs [] = true
+only cs (x ∷ xs) = among (classFor x) cs && only cs xs
+
+-- event e: a Start event with e of them before it, and the first End event after it
+pub record EventIn (xs : List Item) (e : ℕ) (v : Event) : Type 0 where
+  pub before : List Item
+  pub between : List Item
+  pub after : List Item
+  pub items : xs ≡ before ++ (StartEvent (v .kind) (v .timestamp) (v .number) ∷ (between ++ (EndEvent (v .size) ∷ after)))
+  pub ordinal : count startEvent before ≡ e
+  pub ended : count endEvent between ≡ 0
+  pub index : v .index ≡ 3 + length (allWords before)
+
+-- ys stand behind the header of a chip and a channel in event e
+pub record ChannelIn (xs : List Item) (e chip c : ℕ) (ys : List Item) : Type 0 where
+  pub event : Event
+  pub within : EventIn xs e event
+  pub left : List Item
+  pub card : ℕ
+  pub header : within .between ≡ left ++ (Channel card chip c ∷ ys)
+
+-- ys stand behind the header of a histogram
+pub record HistogramIn (xs : List Item) (chip c : ℕ) (ys : List Item) : Type 0 where
+  pub left : List Item
+  pub card : ℕ
+  pub header : xs ≡ left ++ (Histogram card chip c ∷ ys)
+
+-- a Sample v stands at time t of the channel whose header ys stand behind: "A Time bin's first sample is at that time, each further sample
+-- one later"
+pub record SampleIn (ys : List Item) (t v : ℕ) : Type 0 where
+  pub before : List Item
+  pub time : ℕ
+  pub run : List Item
+  pub after : List Item
+  pub items : ys ≡ before ++ (TimeBin time ∷ (run ++ (Sample v ∷ after)))
+  pub same-channel : only (timeBin ∷ sample ∷ []) before ≡ true
+  pub samples : only (sample ∷ []) run ≡ true
+  pub at : t ≡ time + length run
+
+-- a Bin b of count n stands in the histogram whose header ys stand behind
+pub record BinIn (ys : List Item) (b n : ℕ) : Type 0 where
+  pub before : List Item
+  pub after : List Item
+  pub items : ys ≡ before ++ (Bin b n ∷ after)
+  pub same-histogram : only (bin ∷ []) before ≡ true
+
+-- what a question leaves in lent words: of the first n, each holds the value that stands at its place, or is blank where none stands; the
+-- words beyond are as found
+pub record Fill (n blank : ℕ) (Standing : ℕ → ℕ → Type 0) (found left : List ℕ) : Type 0 where
+  pub stands : (i v : ℕ) → i < n → ((getD left i 0 ≡ v) × (v ≡ blank → ⊥)) ↔ Standing i v
+  pub blanks : (i : ℕ) → i < n → ((v : ℕ) → Standing i v → ⊥) → getD left i 0 ≡ blank
+  pub beyond : (i : ℕ) → n ≤ i → getD left i 0 ≡ getD found i 0
+  pub kept : length left ≡ length found

@@ -1,0 +1,165 @@
+-- What a reader has to remember of the earlier items, as a function of that list, and one turn of the rules at a word of some bytes.
+-- Assumes nothing.
+use Prim.Native.Nat.{ℕ, zero, suc, _+_, _-_, _*_, max}
+use mathlib.Core.List.{List, [], _∷_}
+use mathlib.Core.Bool.{Bool, true, false, _&&_}
+use lib.ListN.{length, take, drop}
+use lib.Dec.{leb, ltb, eqb}
+use Rattle.format.specs.Words.{pick, words, wordAt}
+use Rattle.format.specs.Answers.{Outcome, accepted, andThen}
+use Rattle.format.specs.Book.{Class, histogram, startEvent, classOf, after}
+use Rattle.format.specs.Items.{Item, Channel, Histogram, HitCount, Sample, Bin, LastCell, TimeBin, Text, StartEvent, EndEvent, classFor, inRange, key, Token, whole, broken, flawed, tokenOf, tokens}
+use Rattle.format.specs.Rules.{Kind, dataKind, monitorKind, commandKind, since, total, gather, channelKey, histogramKey, binNumber, time, Where, outside, inside, afterChannel, afterTime, afterSample, unheaded, headed, commands, whereAfter, allowed, among, Checked, good, bad}
+use Rattle.format.specs.Frames.{walk}
+
+-- ---- the state
+
+pub record St : Type 0 where
+  -- where the next item would stand
+  pub mode : Where
+  -- a header's key is at least this
+  pub key : ℕ
+  -- the time that a sample would have, or the least number that a bin may have
+  pub next : ℕ
+  -- the word index of the latest Start event
+  pub opener : ℕ
+
+-- the least number above all of these
+unfoldable pub aboveAll : List ℕ → ℕ
+aboveAll [] = 0
+aboveAll (n ∷ ns) = max (suc n) (aboveAll ns)
+
+abbrev pub keyAfter : Kind → List Item → ℕ
+keyAfter dataKind p = aboveAll (gather channelKey (since startEvent p))
+keyAfter monitorKind p = aboveAll (gather histogramKey p)
+keyAfter commandKind p = 0
+
+abbrev pub nextAfter : Kind → List Item → ℕ
+nextAfter dataKind p = time p
+nextAfter monitorKind p = aboveAll (gather binNumber (since histogram p))
+nextAfter commandKind p = 0
+
+-- the items p begin at word 3
+abbrev pub openerAfter : List Item → ℕ
+openerAfter p = (3 + total p) - total (since startEvent p)
+
+unfoldable pub stateOf : Kind → List Item → St
+stateOf kind p = record { mode = whereAfter kind p; key = keyAfter kind p; next = nextAfter kind p; opener = openerAfter p }
+
+-- the state before any item
+abbrev pub firstMode : Kind → Where
+firstMode dataKind = outside
+firstMode monitorKind = unheaded
+firstMode commandKind = commands
+
+abbrev pub start : Kind → St
+start kind = record { mode = firstMode kind; key = 0; next = 0; opener = 3 }
+
+-- ---- the rules by the state alone, of an item at word `at`
+
+abbrev pub placeBy : St → Class → Bool
+placeBy st c = among c (allowed (st .mode))
+
+abbrev pub sizedBy : ℕ → St → Item → Bool
+sizedBy at st (Channel a b c) = true
+sizedBy at st (Histogram a b c) = true
+sizedBy at st (HitCount a b c) = true
+sizedBy at st (Sample v) = true
+sizedBy at st (Bin b n) = true
+sizedBy at st (LastCell a b) = true
+sizedBy at st (TimeBin t) = true
+sizedBy at st (Text s) = true
+sizedBy at st (StartEvent t ts n) = true
+sizedBy at st (EndEvent n) = eqb n (2 * (at - st .opener) + 6)
+
+abbrev pub valueBy : ℕ → ℕ → St → Item → Bool
+valueBy card at st x = inRange card x && sizedBy at st x
+
+-- a Time bin right after a Sample leaves a pause
+abbrev pub paused : Where → ℕ → ℕ → Bool
+paused outside next t = true
+paused inside next t = true
+paused afterChannel next t = true
+paused afterTime next t = true
+paused afterSample next t = ltb next t
+paused unheaded next t = true
+paused headed next t = true
+paused commands next t = true
+
+abbrev pub orderBy : St → Item → Bool
+orderBy st (Channel a b c) = leb (st .key) (key a b c)
+orderBy st (Histogram a b c) = leb (st .key) (key a b c)
+orderBy st (HitCount a b c) = true
+orderBy st (Sample v) = leb (st .next) 511
+orderBy st (Bin b n) = leb (st .next) b
+orderBy st (LastCell a b) = true
+orderBy st (TimeBin t) = paused (st .mode) (st .next) t
+orderBy st (Text s) = true
+orderBy st (StartEvent t ts n) = true
+orderBy st (EndEvent n) = true
+
+-- the state after an item at word `at`
+abbrev pub stateAfter : ℕ → St → Item → St
+stateAfter at st (Channel a b c) = record { mode = afterChannel; key = key a b c + 1; next = st .next; opener = st .opener }
+stateAfter at st (Histogram a b c) = record { mode = headed; key = key a b c + 1; next = 0; opener = st .opener }
+stateAfter at st (HitCount a b c) = record { mode = inside; key = st .key; next = st .next; opener = st .opener }
+stateAfter at st (Sample v) = record { mode = afterSample; key = st .key; next = st .next + 1; opener = st .opener }
+stateAfter at st (Bin b n) = record { mode = headed; key = st .key; next = b + 1; opener = st .opener }
+stateAfter at st (LastCell a b) = record { mode = inside; key = st .key; next = st .next; opener = st .opener }
+stateAfter at st (TimeBin t) = record { mode = afterTime; key = st .key; next = t; opener = st .opener }
+stateAfter at st (Text s) = record { mode = commands; key = 0; next = 0; opener = st .opener }
+stateAfter at st (StartEvent t ts n) = record { mode = inside; key = 0; next = st .next; opener = at }
+stateAfter at st (EndEvent n) = record { mode = outside; key = st .key; next = st .next; opener = st .opener }
+
+unfoldable pub checkBy : ℕ → ℕ → St → Token → Checked St
+checkBy card at st (flawed n) = bad n
+checkBy card at st (broken c) = pick (placeBy st c) (bad 9) (bad 8)
+checkBy card at st (whole x) =
+    pick (placeBy st (classFor x)) (pick (valueBy card at st x) (pick (orderBy st x) (good (stateAfter at st x)) (bad 10)) (bad 9)) (bad 8)
+
+-- ---- one turn at a word of some bytes, of which the words before word `last` are read
+
+-- the token that begins at a word
+unfoldable pub tokenAt : List ℕ → ℕ → ℕ → Token
+tokenAt s last at = tokenOf (wordAt s at) (drop (at + 1) (take last (words s)))
+
+-- where the next one begins
+unfoldable pub nextAt : List ℕ → ℕ → ℕ
+nextAt s at = at + 1 + after (classOf (wordAt s at)) (wordAt s at)
+
+-- the tokens from a word on
+abbrev pub rest : List ℕ → ℕ → ℕ → List Token
+rest s last at = tokens 0 (drop at (take last (words s)))
+
+pub data Stepped : Type 0 where
+  -- the state after the item, and the index of the next
+  moved : St → ℕ → Stepped
+  -- the number of the refusal
+  stopped : ℕ → Stepped
+
+abbrev pub marked : ℕ → Checked St → Stepped
+marked next (good st) = moved st next
+marked next (bad n) = stopped n
+
+unfoldable pub stepOf : ℕ → List ℕ → ℕ → ℕ → St → Stepped
+stepOf card s last at st = marked (nextAt s at) (checkBy card at st (tokenAt s last at))
+
+-- ---- what a walk to the end tells of the items p, latest first
+
+-- the word index of item n, 0 where there is none: an item after those of p begins at word 3 + their words
+unfoldable pub indexIn : ℕ → List Item → ℕ
+indexIn n [] = 0
+indexIn n (x ∷ p) = pick (eqb (length p) n) (3 + total p) (indexIn n p)
+
+-- how many items there are, the word index of item n, and the state behind them all
+pub record Summary : Type 0 where
+  pub count : ℕ
+  pub index : ℕ
+  pub state : St
+
+abbrev pub summary : Kind → ℕ → List Item → Summary
+summary kind n p = record { count = length p; index = indexIn n p; state = stateOf kind p }
+
+-- the walk over the words before word `last`, asked for the index of item n
+unfoldable pub summed : Kind → ℕ → List ℕ → ℕ → ℕ → Outcome Summary
+summed kind card s last n = andThen (walk kind card [] 3 (rest s last 3)) (λ p. accepted (summary kind n p))

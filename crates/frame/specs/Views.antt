@@ -1,0 +1,76 @@
+-- What the answers of this crate say in document 01.
+-- Assumes nothing.
+use Prim.Native.Nat.{ℕ, _+_, _*_, _-_}
+use mathlib.Core.Bool.{Bool, true, false, _&&_}
+use lib.Dec.{eqb}
+use Rattle.format.specs.Words.{pick}
+use Rattle.format.specs.Rules as rules
+use Rattle.format.specs.Rules.{Checked, good, bad}
+use Rattle.format.specs.Book.{endEvent, text}
+use Rattle.format.specs.Answers.{Outcome, accepted}
+use Rattle.format.specs.Steps.{St, Stepped, moved, stopped, placeBy, Summary}
+use Rattle.book.specs.Views.{refusal}
+use Rattle.frame.specs.declared.state.Kind.{Kind}
+use Rattle.frame.specs.declared.state.Kind.the-variants as kind
+use Rattle.frame.specs.declared.state.Mode.{Mode}
+use Rattle.frame.specs.declared.state.Mode.the-variants as mode
+use Rattle.frame.specs.declared.state.State.{State}
+use Rattle.frame.specs.declared.rules.Step.{Step}
+use Rattle.frame.specs.declared.rules.Step.the-variants as step
+use Rattle.frame.specs.declared.walk.Summary as declared
+use Rattle.frame.specs.declared.walk.Walked.{Walked}
+use Rattle.frame.specs.declared.walk.Walked.the-variants as walk
+
+abbrev pub viewKind : Kind → rules.Kind
+viewKind kind.Data = rules.dataKind
+viewKind kind.Monitor = rules.monitorKind
+viewKind kind.Command = rules.commandKind
+
+abbrev pub viewMode : Mode → rules.Where
+viewMode mode.Outside = rules.outside
+viewMode mode.Inside = rules.inside
+viewMode mode.AfterChannel = rules.afterChannel
+viewMode mode.AfterTime = rules.afterTime
+viewMode mode.AfterSample = rules.afterSample
+viewMode mode.Unheaded = rules.unheaded
+viewMode mode.Headed = rules.headed
+viewMode mode.Commands = rules.commands
+
+abbrev pub viewState : State → St
+viewState st = record { mode = viewMode (st .mode); key = st .key; next = st .next; opener = st .opener }
+
+abbrev pub viewStep : Step → Stepped
+viewStep (step.Moved st next) = moved (viewState st) next
+viewStep (step.Stopped n) = stopped n
+
+abbrev pub viewSummary : declared.Summary → Summary
+viewSummary x = record { count = x .count; index = x .index; state = viewState (x .state) }
+
+abbrev pub viewWalk : Walked → Outcome Summary
+viewWalk (walk.Ended x) = accepted (viewSummary x)
+viewWalk (walk.Refused r) = refusal r
+
+-- where the items may end
+abbrev pub ended : rules.Where → Bool
+ended rules.outside = true
+ended rules.inside = false
+ended rules.afterChannel = false
+ended rules.afterTime = false
+ended rules.afterSample = false
+ended rules.unheaded = true
+ended rules.headed = true
+ended rules.commands = true
+
+-- place before value before order
+abbrev pub tested : Bool → Bool → Bool → St → Checked St
+tested place value order st = pick place (pick value (pick order (good st) (bad 10)) (bad 9)) (bad 8)
+
+-- the words of an End event, whose first one has these low bits
+unfoldable pub endTested : ℕ → St → ℕ → ℕ → Checked St
+endTested at st size low =
+    tested (placeBy st endEvent) (eqb low 0 && eqb size (2 * (at - st .opener) + 6)) true
+    (record { mode = rules.outside; key = st .key; next = st .next; opener = st .opener })
+
+-- the words of a text, whose bytes passed their test or did not
+unfoldable pub textTested : St → Bool → Checked St
+textTested st closed = tested (placeBy st text) closed true (record { mode = rules.commands; key = 0; next = 0; opener = st .opener })

@@ -1,0 +1,241 @@
+// The rules of place, value and order at one item, by the state alone. The reader and the writer both go by these.
+ghost use mathlib.Core.Path.{_≡_};
+ghost use mathlib.Core.Bool.{Bool};
+ghost use Prim.Native.Nat.{_+_, _*_, _-_, _≤_};
+ghost use lib.Dec.{eqb};
+ghost use Rattle.format.specs.Items as items;
+ghost use Rattle.format.specs.Items.{whole};
+ghost use Rattle.format.specs.Steps.{marked, checkBy};
+ghost use Rattle.book.specs.Fields.{channelItem, histogramItem, hitsItem, sampleItem, binItem, cellItem, timeItem, startItem};
+ghost use Rattle.frame.specs.Views.{viewState, viewStep, tested, endTested, textTested};
+use crate::state::Mode;
+use crate::state::State;
+use crate::state::may_bin;
+use crate::state::may_histogram;
+use crate::state::may_sample;
+use crate::state::may_stand_inside;
+use crate::state::may_start;
+use crate::state::may_text;
+use crate::state::may_time;
+use crate::state::paused;
+use book::items::Bin;
+use book::items::Channel;
+use book::items::EndEvent;
+use book::items::Histogram;
+use book::items::HitCount;
+use book::items::LastCell;
+use book::items::Sample;
+use book::items::StartEvent;
+use book::items::TimeBin;
+use book::refusal::Refusal;
+
+// One turn: the state after the item and the index of the next, or a refusal's number.
+pub enum Step {
+    Moved(State, usize),
+    Stopped(u32),
+}
+
+// The first of 8, 9 and 10 whose rule does not hold, else the state after the item.
+fn judged(place: bool, value: bool, order: bool, after: State, next: usize) -> Step
+    ensures { λ r. ⌜ viewStep r ≡ marked next (tested place value order (viewState after)) ⌝ }
+{
+    if place {
+        if value {
+            if order {
+                return Step::Moved(after, next);
+            }
+            return Step::Stopped(Refusal::ORDER);
+        }
+        return Step::Stopped(Refusal::VALUE);
+    }
+    Step::Stopped(Refusal::PLACE)
+}
+
+// The order key of a header.
+fn key(card: u16, chip: u16, channel: u16) -> u32
+    ensures { λ r. ⌜ r ≡ items.key card chip channel ⌝ }
+{
+    card as u32 * 2048 + chip as u32 * 128 + channel as u32
+}
+
+pub fn channel(card: u16, st: State, x: Channel, next: usize) -> Step
+    ensures { λ r. ⌜ viewStep r ≡ marked next (checkBy card 0 (viewState st) (whole (channelItem x))) ⌝ }
+{
+    let mode = st.mode;
+    let k = key(x.card, x.chip, x.channel);
+    let after = State {
+        mode: Mode::AfterChannel,
+        key: k + 1,
+        next: st.next,
+        opener: st.opener,
+    };
+    judged(
+        may_stand_inside(mode),
+        x.valid(card),
+        st.key <= k,
+        after,
+        next,
+    )
+}
+
+pub fn histogram(card: u16, st: State, x: Histogram, next: usize) -> Step
+    ensures { λ r. ⌜ viewStep r ≡ marked next (checkBy card 0 (viewState st) (whole (histogramItem x))) ⌝ }
+{
+    let mode = st.mode;
+    let k = key(x.card, x.chip, x.channel);
+    let after = State {
+        mode: Mode::Headed,
+        key: k + 1,
+        next: 0,
+        opener: st.opener,
+    };
+    judged(may_histogram(mode), x.valid(card), st.key <= k, after, next)
+}
+
+pub fn hit_count(card: u16, st: State, x: HitCount, next: usize) -> Step
+    ensures { λ r. ⌜ viewStep r ≡ marked next (checkBy card 0 (viewState st) (whole (hitsItem x))) ⌝ }
+{
+    let mode = st.mode;
+    let after = State {
+        mode: Mode::Inside,
+        key: st.key,
+        next: st.next,
+        opener: st.opener,
+    };
+    judged(may_stand_inside(mode), x.valid(card), true, after, next)
+}
+
+pub fn last_cell(st: State, x: LastCell, next: usize) -> Step
+    ensures { λ r. ⌜ viewStep r ≡ marked next (checkBy 0 0 (viewState st) (whole (cellItem x))) ⌝ }
+{
+    let mode = st.mode;
+    let after = State {
+        mode: Mode::Inside,
+        key: st.key,
+        next: st.next,
+        opener: st.opener,
+    };
+    judged(may_stand_inside(mode), x.valid(), true, after, next)
+}
+
+pub fn time_bin(st: State, x: TimeBin, next: usize) -> Step
+    ensures { λ r. ⌜ viewStep r ≡ marked next (checkBy 0 0 (viewState st) (whole (timeItem x))) ⌝ }
+{
+    let mode = st.mode;
+    let time = x.time as u32;
+    let after = State {
+        mode: Mode::AfterTime,
+        key: st.key,
+        next: time,
+        opener: st.opener,
+    };
+    judged(
+        may_time(mode),
+        x.valid(),
+        paused(mode, st.next, time),
+        after,
+        next,
+    )
+}
+
+// The time after this one, where this one is not past the last.
+fn later(time: u32) -> u32
+    ensures { λ r. ⌜ (time ≤ 511 → r ≡ time + 1) ⌝ }
+{
+    if time <= TimeBin::LAST as u32 {
+        return time + 1;
+    }
+    0
+}
+
+pub fn sample(st: State, x: Sample, next: usize) -> Step
+    ensures { λ r. ⌜ viewStep r ≡ marked next (checkBy 0 0 (viewState st) (whole (sampleItem x))) ⌝ }
+{
+    let mode = st.mode;
+    let after = State {
+        mode: Mode::AfterSample,
+        key: st.key,
+        next: later(st.next),
+        opener: st.opener,
+    };
+    judged(
+        may_sample(mode),
+        x.valid(),
+        st.next <= TimeBin::LAST as u32,
+        after,
+        next,
+    )
+}
+
+pub fn bin(st: State, x: Bin, next: usize) -> Step
+    ensures { λ r. ⌜ viewStep r ≡ marked next (checkBy 0 0 (viewState st) (whole (binItem x))) ⌝ }
+{
+    let mode = st.mode;
+    let number = x.bin as u32;
+    let after = State {
+        mode: Mode::Headed,
+        key: st.key,
+        next: number + 1,
+        opener: st.opener,
+    };
+    judged(may_bin(mode), x.valid(), st.next <= number, after, next)
+}
+
+pub fn start_event(at: usize, st: State, x: StartEvent, next: usize) -> Step
+    ensures { λ r. ⌜ viewStep r ≡ marked next (checkBy 0 at (viewState st) (whole (startItem x))) ⌝ }
+{
+    let mode = st.mode;
+    let after = State {
+        mode: Mode::Inside,
+        key: 0,
+        next: st.next,
+        opener: at,
+    };
+    judged(may_start(mode), x.valid(), true, after, next)
+}
+
+// The words of the event so far, and three for its End event, are half of its size.
+fn sized(at: usize, opener: usize, size: u32) -> bool
+    ensures { λ r. ⌜ r ≡ eqb size (2 * (at - opener) + 6) ⌝ }
+{
+    if size % 2 != 0 {
+        return false;
+    }
+    if size < 6 {
+        return false;
+    }
+    let words = (size / 2 - 3) as usize;
+    if at < opener {
+        return words == 0;
+    }
+    words == at - opener
+}
+
+// The low bits of the item's first word are a value rule of their own.
+pub fn end_event(at: usize, st: State, x: EndEvent, low: u16, next: usize) -> Step
+    ensures { λ r. ⌜ viewStep r ≡ marked next (endTested at (viewState st) (x .size) low) ⌝ }
+{
+    let mode = st.mode;
+    let after = State {
+        mode: Mode::Outside,
+        key: st.key,
+        next: st.next,
+        opener: st.opener,
+    };
+    let value = (low == 0) & sized(at, st.opener, x.size);
+    judged(may_stand_inside(mode), value, true, after, next)
+}
+
+// A text whose bytes passed their test, or did not.
+pub fn text(st: State, closed: bool, next: usize) -> Step
+    ensures { λ r. ⌜ viewStep r ≡ marked next (textTested (viewState st) closed) ⌝ }
+{
+    let mode = st.mode;
+    let after = State {
+        mode: Mode::Commands,
+        key: 0,
+        next: 0,
+        opener: st.opener,
+    };
+    judged(may_text(mode), closed, true, after, next)
+}

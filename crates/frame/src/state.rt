@@ -1,0 +1,201 @@
+// What a reader has to remember of the items behind it; a state goes in by value and comes back.
+ghost use mathlib.Core.Path.{_≡_};
+ghost use mathlib.Core.Bool.{Bool};
+ghost use Rattle.format.specs.Book.{channel, histogram, sample, bin, timeBin, text, startEvent};
+ghost use Rattle.format.specs.Rules.{allowed, among};
+ghost use Rattle.format.specs.Steps as steps;
+ghost use Rattle.frame.specs.Views.{viewKind, viewMode, viewState, ended};
+
+pub enum Kind {
+    Data,
+    Monitor,
+    Command,
+}
+
+// Where the next item would stand.
+pub enum Mode {
+    Outside,
+    Inside,
+    AfterChannel,
+    AfterTime,
+    AfterSample,
+    Unheaded,
+    Headed,
+    Commands,
+}
+
+pub struct State {
+    pub mode: Mode,
+    // A header's key is at least this.
+    pub key: u32,
+    // The time that a sample would have, or the least number that a bin may have.
+    pub next: u32,
+    // The word index of the latest Start event.
+    pub opener: usize,
+}
+
+impl State {
+    // The state before any item.
+    pub fn start(kind: Kind) -> State
+        ensures { λ r. ⌜ viewState r ≡ steps.start (viewKind kind) ⌝ }
+    {
+        match kind {
+            Kind::Data => State {
+                mode: Mode::Outside,
+                key: 0,
+                next: 0,
+                opener: 3,
+            },
+            Kind::Monitor => State {
+                mode: Mode::Unheaded,
+                key: 0,
+                next: 0,
+                opener: 3,
+            },
+            Kind::Command => State {
+                mode: Mode::Commands,
+                key: 0,
+                next: 0,
+                opener: 3,
+            },
+        }
+    }
+}
+
+// The items may end here: no event is open.
+pub fn may_end(mode: Mode) -> bool
+    ensures { λ r. ⌜ r ≡ ended (viewMode mode) ⌝ }
+{
+    match mode {
+        Mode::Outside => true,
+        Mode::Inside => false,
+        Mode::AfterChannel => false,
+        Mode::AfterTime => false,
+        Mode::AfterSample => false,
+        Mode::Unheaded => true,
+        Mode::Headed => true,
+        Mode::Commands => true,
+    }
+}
+
+pub fn may_start(mode: Mode) -> bool
+    ensures { λ r. ⌜ r ≡ among startEvent (allowed (viewMode mode)) ⌝ }
+{
+    match mode {
+        Mode::Outside => true,
+        Mode::Inside => false,
+        Mode::AfterChannel => false,
+        Mode::AfterTime => false,
+        Mode::AfterSample => false,
+        Mode::Unheaded => false,
+        Mode::Headed => false,
+        Mode::Commands => false,
+    }
+}
+
+// Hit count, Last cell, Channel and End event stand in the same places.
+pub fn may_stand_inside(mode: Mode) -> bool
+    ensures { λ r. ⌜ r ≡ among channel (allowed (viewMode mode)) ⌝ }
+{
+    match mode {
+        Mode::Outside => false,
+        Mode::Inside => true,
+        Mode::AfterChannel => false,
+        Mode::AfterTime => false,
+        Mode::AfterSample => true,
+        Mode::Unheaded => false,
+        Mode::Headed => false,
+        Mode::Commands => false,
+    }
+}
+
+pub fn may_time(mode: Mode) -> bool
+    ensures { λ r. ⌜ r ≡ among timeBin (allowed (viewMode mode)) ⌝ }
+{
+    match mode {
+        Mode::Outside => false,
+        Mode::Inside => false,
+        Mode::AfterChannel => true,
+        Mode::AfterTime => false,
+        Mode::AfterSample => true,
+        Mode::Unheaded => false,
+        Mode::Headed => false,
+        Mode::Commands => false,
+    }
+}
+
+pub fn may_sample(mode: Mode) -> bool
+    ensures { λ r. ⌜ r ≡ among sample (allowed (viewMode mode)) ⌝ }
+{
+    match mode {
+        Mode::Outside => false,
+        Mode::Inside => false,
+        Mode::AfterChannel => false,
+        Mode::AfterTime => true,
+        Mode::AfterSample => true,
+        Mode::Unheaded => false,
+        Mode::Headed => false,
+        Mode::Commands => false,
+    }
+}
+
+pub fn may_histogram(mode: Mode) -> bool
+    ensures { λ r. ⌜ r ≡ among histogram (allowed (viewMode mode)) ⌝ }
+{
+    match mode {
+        Mode::Outside => false,
+        Mode::Inside => false,
+        Mode::AfterChannel => false,
+        Mode::AfterTime => false,
+        Mode::AfterSample => false,
+        Mode::Unheaded => true,
+        Mode::Headed => true,
+        Mode::Commands => false,
+    }
+}
+
+pub fn may_bin(mode: Mode) -> bool
+    ensures { λ r. ⌜ r ≡ among bin (allowed (viewMode mode)) ⌝ }
+{
+    match mode {
+        Mode::Outside => false,
+        Mode::Inside => false,
+        Mode::AfterChannel => false,
+        Mode::AfterTime => false,
+        Mode::AfterSample => false,
+        Mode::Unheaded => false,
+        Mode::Headed => true,
+        Mode::Commands => false,
+    }
+}
+
+pub fn may_text(mode: Mode) -> bool
+    ensures { λ r. ⌜ r ≡ among text (allowed (viewMode mode)) ⌝ }
+{
+    match mode {
+        Mode::Outside => false,
+        Mode::Inside => false,
+        Mode::AfterChannel => false,
+        Mode::AfterTime => false,
+        Mode::AfterSample => false,
+        Mode::Unheaded => false,
+        Mode::Headed => false,
+        Mode::Commands => true,
+    }
+}
+
+// A Time bin right after a Sample leaves a pause: it is later than the next sample would be.
+pub fn paused(mode: Mode, next: u32, time: u32) -> bool
+    ensures { λ r. ⌜ r ≡ steps.paused (viewMode mode) next time ⌝ }
+{
+    match mode {
+        Mode::Outside => true,
+        Mode::Inside => true,
+        Mode::AfterChannel => true,
+        Mode::AfterTime => true,
+        Mode::AfterSample => next < time,
+        Mode::Unheaded => true,
+        Mode::Headed => true,
+        Mode::Commands => true,
+    }
+}

@@ -1,0 +1,49 @@
+// The bytes of a text: none zero but the final one and the padding.
+ghost use mathlib.Core.Path.{_≡_};
+ghost use Prim.Native.Nat.{_≤_};
+ghost use lib.ListN.{length};
+ghost use Rattle.format.specs.Words.{nonZero, allZero};
+ghost use Rattle.format.specs.Items.{closed};
+
+// No byte is zero.
+pub fn no_zero(s: &[u8]) -> bool
+    ensures { λ r. ⌜ r ≡ nonZero (now (s .entry)) ⌝ }
+{
+    let mut i: usize = 0;
+    while i < s.len() {
+        if s[i] == 0 {
+            return false;
+        }
+        i += 1;
+    }
+    true
+}
+
+// Every byte is zero.
+fn all_zero(s: &[u8]) -> bool
+    ensures { λ r. ⌜ r ≡ allZero (now (s .entry)) ⌝ }
+{
+    let mut i: usize = 0;
+    while i < s.len() {
+        if s[i] != 0 {
+            return false;
+        }
+        i += 1;
+    }
+    true
+}
+
+// "n at least 1, byte n zero, earlier bytes not zero, a padding byte zero"
+pub(crate) fn is_closed(s: &[u8], n: usize) -> bool
+    requires { ⌜ n ≤ length (now s) ⌝ }
+    ensures { λ r. ⌜ r ≡ closed n (now (s .entry)) ⌝ }
+{
+    if n < 1 {
+        return false;
+    }
+    let k = n - 1;
+    if no_zero(&s[0..k]) {
+        return all_zero(&s[k..]);
+    }
+    false
+}

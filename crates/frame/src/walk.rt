@@ -1,0 +1,181 @@
+// One turn of the rules at a word, and the one loop that takes such turns: every question on a frame goes through it.
+ghost use mathlib.Core.Path.{_≡_};
+ghost use Prim.Native.Nat.{ℕ, _+_, _*_, _≤_, _<_};
+ghost use lib.ListN.{length};
+ghost use lib.Dec.{eqb};
+ghost use Rattle.format.specs.Words.{pick, wordAt};
+ghost use Rattle.format.specs.Book as book;
+ghost use Rattle.format.specs.Steps.{stepOf, summed};
+ghost use Rattle.frame.specs.Views.{viewKind, viewState, viewStep, viewWalk};
+use crate::rules::Step;
+use crate::rules::bin;
+use crate::rules::channel;
+use crate::rules::end_event;
+use crate::rules::histogram;
+use crate::rules::hit_count;
+use crate::rules::last_cell;
+use crate::rules::sample;
+use crate::rules::start_event;
+use crate::rules::text;
+use crate::rules::time_bin;
+use crate::state::Kind;
+use crate::state::State;
+use crate::texts::is_closed;
+use book::class::Class;
+use book::class::classify;
+use book::class::text_words;
+use book::items::Bin;
+use book::items::Channel;
+use book::items::EndEvent;
+use book::items::Histogram;
+use book::items::HitCount;
+use book::items::LastCell;
+use book::items::Sample;
+use book::items::StartEvent;
+use book::items::Text;
+use book::items::TimeBin;
+use book::refusal::Refusal;
+use book::words::long;
+use book::words::time;
+use book::words::word;
+
+// A Bin's number in its word, its count in the two words after it.
+fn bin_at(s: &[u8], last: usize, at: usize, w: u16, st: State) -> Step
+    requires { ⌜ (at < last) × (2 * last ≤ length (now s)) × (w ≡ wordAt (now s) at) × (book.bin ≡ book.classOf w) ⌝ }
+    ensures { λ r. ⌜ ((card : ℕ) → viewStep r ≡ stepOf card (now (s .entry)) last at (viewState st)) ⌝ }
+{
+    if last < at + 3 {
+        return Step::Stopped(Refusal::CUT);
+    }
+    let count = long(s, at + 1);
+    let x = Bin {
+        bin: Bin::of_word(w),
+        count,
+    };
+    bin(st, x, at + 3)
+}
+
+// A Start event's type in its word, timestamp and number in the five words after it.
+fn start_at(s: &[u8], last: usize, at: usize, w: u16, st: State) -> Step
+    requires { ⌜ (at < last) × (2 * last ≤ length (now s)) × (w ≡ wordAt (now s) at) × (book.startEvent ≡ book.classOf w) ⌝ }
+    ensures { λ r. ⌜ ((card : ℕ) → viewStep r ≡ stepOf card (now (s .entry)) last at (viewState st)) ⌝ }
+{
+    if last < at + 6 {
+        return Step::Stopped(Refusal::CUT);
+    }
+    let timestamp = time(s, at + 1);
+    let number = long(s, at + 4);
+    let x = StartEvent {
+        kind: StartEvent::of_word(w),
+        timestamp,
+        number,
+    };
+    start_event(at, st, x, at + 6)
+}
+
+// An End event's size in the two words after its word.
+fn end_at(s: &[u8], last: usize, at: usize, w: u16, st: State) -> Step
+    requires { ⌜ (at < last) × (2 * last ≤ length (now s)) × (w ≡ wordAt (now s) at) × (book.endEvent ≡ book.classOf w) ⌝ }
+    ensures { λ r. ⌜ ((card : ℕ) → viewStep r ≡ stepOf card (now (s .entry)) last at (viewState st)) ⌝ }
+{
+    if last < at + 3 {
+        return Step::Stopped(Refusal::CUT);
+    }
+    let size = long(s, at + 1);
+    end_event(at, st, EndEvent { size }, EndEvent::low_bits(w), at + 3)
+}
+
+// A text's bytes in the words after its word.
+fn text_at(s: &[u8], last: usize, at: usize, w: u16, st: State) -> Step
+    requires { ⌜ (at < last) × (2 * last ≤ length (now s)) × (w ≡ wordAt (now s) at) × (book.text ≡ book.classOf w) ⌝ }
+    ensures { λ r. ⌜ ((card : ℕ) → viewStep r ≡ stepOf card (now (s .entry)) last at (viewState st)) ⌝ }
+{
+    let more = text_words(w) as usize;
+    let next = at + 1 + more;
+    if last < next {
+        return Step::Stopped(Refusal::CUT);
+    }
+    let length = Text::of_word(w).length as usize;
+    let from = 2 * (at + 1);
+    let to = 2 * next;
+    let closed = is_closed(&s[from..to], length);
+    text(st, closed, next)
+}
+
+// One turn at the word `at`, of the words before word `last`.
+fn step(s: &[u8], last: usize, at: usize, card: u16, st: State) -> Step
+    requires { ⌜ (at < last) × (2 * last ≤ length (now s)) ⌝ }
+    ensures { λ r. ⌜ viewStep r ≡ stepOf card (now (s .entry)) last at (viewState st) ⌝ }
+{
+    let w = word(s, at);
+    let class = classify(w);
+    match class {
+        Class::Channel => channel(card, st, Channel::of_word(w), at + 1),
+        Class::Histogram => histogram(card, st, Histogram::of_word(w), at + 1),
+        Class::HitCount => hit_count(card, st, HitCount::of_word(w), at + 1),
+        Class::Sample => sample(st, Sample::of_word(w), at + 1),
+        Class::Bin => bin_at(s, last, at, w, st),
+        Class::LastCell => last_cell(st, LastCell::of_word(w), at + 1),
+        Class::TimeBin => time_bin(st, TimeBin::of_word(w), at + 1),
+        Class::DataFrame => Step::Stopped(Refusal::PLACE),
+        Class::MonitorFrame => Step::Stopped(Refusal::PLACE),
+        Class::CommandFrame => Step::Stopped(Refusal::PLACE),
+        Class::Text => text_at(s, last, at, w, st),
+        Class::StartEvent => start_at(s, last, at, w, st),
+        Class::EndEvent => end_at(s, last, at, w, st),
+        Class::FrameEnd => Step::Stopped(Refusal::PLACE),
+        Class::Unassigned => Step::Stopped(Refusal::CLASS),
+    }
+}
+
+// How many items there are, the word index of the item asked for, and the state behind them all.
+pub struct Summary {
+    pub count: usize,
+    pub index: usize,
+    pub state: State,
+}
+
+pub enum Walked {
+    Ended(Summary),
+    Refused(Refusal),
+}
+
+// The index noted so far, with item n at hand or not.
+fn noted(count: usize, n: usize, at: usize, index: usize) -> usize
+    ensures { λ r. ⌜ r ≡ pick (eqb count n) at index ⌝ }
+{
+    if count == n {
+        return at;
+    }
+    index
+}
+
+// Item by item from the left, over the words before word `last`; the index of item n is noted on the way.
+pub(crate) fn walk(s: &[u8], last: usize, kind: Kind, card: u16, n: usize) -> Walked
+    requires { ⌜ 2 * last ≤ length (now s) ⌝ }
+    ensures { λ r. ⌜ viewWalk r ≡ summed (viewKind kind) card (now (s .entry)) last n ⌝ }
+{
+    let mut at: usize = 3;
+    let mut count: usize = 0;
+    let mut index: usize = 0;
+    let mut st = State::start(kind);
+    while at < last {
+        index = noted(count, n, at, index);
+        let turn = step(s, last, at, card, st);
+        match turn {
+            Step::Moved(after, next) => {
+                st = after;
+                at = next;
+                count += 1;
+            }
+            Step::Stopped(number) => {
+                return Walked::Refused(Refusal { number, place: at });
+            }
+        }
+    }
+    Walked::Ended(Summary {
+        count,
+        index,
+        state: st,
+    })
+}

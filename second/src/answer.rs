@@ -1,0 +1,173 @@
+//! The line that answers a case: `ok` and the values in decimals, or
+//! `refused NUMBER at PLACE`. Where a call was lent memory to write in, ` | `
+//! follows with the length of that memory and a check sum over it, as the call
+//! left it, refused or not.
+
+use crate::book::{classify, Class};
+use crate::cases::*;
+use crate::follower::{follow, Follower};
+use crate::frame;
+use crate::item::Item;
+use crate::record;
+use crate::rules::{Kind, Refusal};
+use crate::writer;
+
+/// The line for input that is no case.
+pub const BAD_CASE: &str = "bad case";
+
+/// Length and check sum of the elements as a call left them.
+fn sum<T: Copy + Into<u64>>(elements: &[T]) -> String {
+    const MODULUS: u64 = 4_294_967_291;
+    let (mut a, mut b) = (1u64, 0u64);
+    for element in elements {
+        a = (a + (*element).into()) % MODULUS;
+        b = (b + a) % MODULUS;
+    }
+    format!("{} {}", elements.len(), (b << 32) + a)
+}
+
+/// `ok` and the values, or the refusal.
+fn verdict(answer: Result<Vec<String>, Refusal>) -> String {
+    match answer {
+        Ok(values) if values.is_empty() => "ok".to_string(),
+        Ok(values) => format!("ok {}", values.join(" ")),
+        Err(Refusal { number, place }) => format!("refused {number} at {place}"),
+    }
+}
+
+fn numbers(values: &[u64]) -> Vec<String> {
+    values.iter().map(|value| value.to_string()).collect()
+}
+
+/// The line of a case, without its line feed. The case's payloads are left as
+/// the call leaves them, so that a chain of calls can go on from there.
+pub fn answer(case: &mut Case) -> String {
+    match case.op {
+        CLASSIFY => verdict(Ok(numbers(&[classify(case.a[0] as u16).row()]))),
+        READ..=COUNTS => question(case),
+        BEGIN..=CLOSE => {
+            let written = write(case).map(|length| numbers(&[length as u64]));
+            format!("{} | {}", verdict(written), sum(&case.p))
+        }
+        FOLLOW => verdict(follow_coded(case.a[0], case.a[1] as u16)),
+        _ => record_call(case),
+    }
+}
+
+fn question(case: &Case) -> String {
+    let (a, p) = (&case.a, case.p.as_slice());
+    match case.op {
+        READ => verdict(frame::read(p).map(|frame| {
+            let values = [frame.card, frame.sequence as u64, frame.items.len() as u64];
+            [vec![frame.kind.letter().to_string()], numbers(&values)].concat()
+        })),
+        ITEM => verdict(frame::item(p, a[0]).map(|found| {
+            let class = vec![found.item.class().row()];
+            let mut values = numbers(&[class, found.item.fields()].concat());
+            values.extend(["next".to_string(), found.next.to_string()]);
+            values
+        })),
+        TEXT => format!("ok {}", sum(frame::text(p, a[0]))),
+        EVENT => verdict(
+            frame::event(p, a[0])
+                .map(|e| numbers(&[e.kind, e.timestamp, e.number, e.size, e.index as u64])),
+        ),
+        SAMPLES => {
+            let mut out = vec![a[4] as u16; a[3] as usize];
+            let done = frame::samples(p, a[0], a[1], a[2], &mut out);
+            format!("{} | {}", verdict(done.map(|()| vec![])), sum(&out))
+        }
+        _ => {
+            let mut out = vec![a[3] as u32; a[2] as usize];
+            let done = frame::counts(p, a[0], a[1], &mut out);
+            format!("{} | {}", verdict(done.map(|()| vec![])), sum(&out))
+        }
+    }
+}
+
+fn write(case: &mut Case) -> Result<usize, Refusal> {
+    let a = case.a;
+    match case.op {
+        BEGIN => writer::begin(&mut case.p, Kind::ALL[a[0] as usize], a[1], a[2] as u16),
+        ADD => writer::add(&mut case.p, a[0], &added_item(&a)),
+        ADD_TEXT => writer::add_text(&mut case.p, a[0], &case.q),
+        _ => writer::close(&mut case.p, a[0]),
+    }
+}
+
+/// The item that an add names by class and fields.
+fn added_item(a: &[u64; 7]) -> Item {
+    Item::from_fields(Class::of_row(a[1]), [a[2], a[3], a[4]]).expect("a row that can be added")
+}
+
+/// States are coded 0 for idle and 1 + e for expecting e.
+fn follow_coded(state: u64, word: u16) -> Result<Vec<String>, Refusal> {
+    let state = match state {
+        0 => Follower::Idle,
+        coded => Follower::Expects((coded - 1) as u8),
+    };
+    let (lost, after) = follow(state, word)?;
+    let coded = match after {
+        Follower::Idle => 0,
+        Follower::Expects(number) => 1 + number as u64,
+    };
+    Ok(numbers(&[lost, coded]))
+}
+
+fn record_call(case: &mut Case) -> String {
+    let a = case.a;
+    match case.op {
+        RECORD => verdict(
+            record::judge(&case.p)
+                .map(|r| numbers(&[r.frame_length as u64, r.entries as u64, r.total as u64])),
+        ),
+        ENTRY => verdict(record::entry(&case.p, a[0]).map(|e| {
+            let ends = [e.operator as u64, e.reason as u64];
+            let values = [e.index as u64, e.kind as u64, e.old as u64, e.new as u64];
+            numbers(&[values.as_slice(), ends.as_slice()].concat())
+        })),
+        OPEN => {
+            let done = record::open(&mut case.p, &case.q);
+            format!("{} | {}", verdict(done.map(|()| vec![])), sum(&case.p))
+        }
+        EDIT => {
+            let done = record::edit(&mut case.p, a[0], a[1], a[2], a[3]);
+            format!("{} | {}", verdict(done.map(|()| vec![])), sum(&case.p))
+        }
+        _ => {
+            let done = record::restore(&case.p, a[0], &mut case.q);
+            format!("{} | {}", verdict(done.map(|()| vec![])), sum(&case.q))
+        }
+    }
+}
+
+/// All lines of an input. A bad case is the last line.
+pub fn answers(input: &[u8]) -> impl Iterator<Item = String> + '_ {
+    Cases::of(input).map(|case| match case {
+        Ok(mut case) => answer(&mut case),
+        Err(BadCase) => BAD_CASE.to_string(),
+    })
+}
+
+#[cfg(test)]
+mod tests {
+    use super::*;
+
+    #[test]
+    fn check_sums() {
+        assert_eq!(sum::<u8>(&[]), "0 1");
+        // a = 1, 3, 6; b = 0, 3, 9.
+        assert_eq!(sum(&[2u8, 3]), format!("2 {}", (9u64 << 32) + 6));
+        // 1 + 4,294,967,295 is 5 beyond the modulus.
+        assert_eq!(sum(&[u32::MAX]), format!("1 {}", (5u64 << 32) + 5));
+    }
+
+    #[test]
+    fn a_bad_case_ends_the_lines() {
+        let mut input = Vec::new();
+        Case::new(CLASSIFY, &[0xC000]).write(&mut input);
+        Case::new(CLASSIFY, &[0x10000]).write(&mut input);
+        Case::new(CLASSIFY, &[0]).write(&mut input);
+        assert_eq!(answers(&input).collect::<Vec<_>>(), ["ok 1", "bad case"]);
+    }
+}

@@ -1,0 +1,246 @@
+//! The plane record: header, the frame as it now stands, the edit history.
+
+use crate::book::MAX_VALUE;
+use crate::frame::{self, Frame};
+use crate::item::{word, Item};
+use crate::rules::*;
+
+pub const HEADER_BYTES: usize = 16;
+pub const ENTRY_BYTES: usize = 16;
+pub const MAX_ENTRIES: usize = 512;
+pub const MAX_REASON: u64 = 5;
+
+/// What can be edited: a sample's value or a bin's count.
+#[derive(Clone, Copy, PartialEq, Eq, Debug)]
+pub enum Target {
+    Sample,
+    Bin,
+}
+
+#[derive(Clone, Copy, PartialEq, Eq, Debug)]
+pub struct Entry {
+    pub index: u16,
+    pub kind: u16,
+    pub old: u32,
+    pub new: u32,
+    pub operator: u16,
+    pub reason: u16,
+}
+
+impl Entry {
+    pub fn of(bytes: &[u8]) -> Entry {
+        let long = |at| word(bytes, at) as u32 | (word(bytes, at + 1) as u32) << 16;
+        Entry {
+            index: word(bytes, 0),
+            kind: word(bytes, 1),
+            old: long(2),
+            new: long(4),
+            operator: word(bytes, 6),
+            reason: word(bytes, 7),
+        }
+    }
+
+    pub fn bytes(&self) -> Vec<u8> {
+        let mut bytes = Vec::new();
+        bytes.extend(self.index.to_le_bytes());
+        bytes.extend(self.kind.to_le_bytes());
+        bytes.extend(self.old.to_le_bytes());
+        bytes.extend(self.new.to_le_bytes());
+        bytes.extend(self.operator.to_le_bytes());
+        bytes.extend(self.reason.to_le_bytes());
+        bytes
+    }
+}
+
+impl Target {
+    pub fn number(self) -> u16 {
+        match self {
+            Target::Sample => 1,
+            Target::Bin => 2,
+        }
+    }
+
+    /// May this value stand in such an item?
+    pub fn legal(self, value: u64) -> bool {
+        match self {
+            Target::Sample => value <= MAX_VALUE,
+            Target::Bin => value >= 1 && value <= u32::MAX as u64,
+        }
+    }
+
+    /// The value in the frame's item at a word index.
+    pub fn value(self, frame: &[u8], index: usize) -> u32 {
+        match self {
+            Target::Sample => (word(frame, index) & 0x0FFF) as u32,
+            Target::Bin => word(frame, index + 1) as u32 | (word(frame, index + 2) as u32) << 16,
+        }
+    }
+
+    /// Puts a legal value into the frame's item at a word index.
+    pub fn put(self, frame: &mut [u8], index: usize, value: u32) {
+        let at = 2 * index;
+        match self {
+            Target::Sample => {
+                frame[at..at + 2].copy_from_slice(&(0x3000 | value as u16).to_le_bytes())
+            }
+            Target::Bin => frame[at + 2..at + 6].copy_from_slice(&value.to_le_bytes()),
+        }
+    }
+}
+
+/// The Sample or Bin that starts at a word index.
+pub fn target_at(frame: &Frame, index: u64) -> Option<Target> {
+    let found = frame.items.binary_search_by_key(&index, |found| found.index as u64).ok()?;
+    match frame.items[found].item {
+        Item::Sample { .. } => Some(Target::Sample),
+        Item::Bin { .. } => Some(Target::Bin),
+        _ => None,
+    }
+}
+
+/// An accepted record: its lengths and its frame, read.
+pub struct Record {
+    pub frame_length: usize,
+    pub entries: usize,
+    pub total: usize,
+    pub frame: Frame,
+}
+
+/// The lengths that the header names, if every header word is right.
+fn header(record: &[u8]) -> Option<(usize, usize, usize)> {
+    if record.len() < HEADER_BYTES {
+        return None;
+    }
+    let at = |index| word(record, index) as usize;
+    let (length, history, entries, total) = (at(3), at(4), at(5), at(6));
+    let fixed = at(0) == 1 && at(1) == 1 && at(2) == HEADER_BYTES && at(7) == 0;
+    let sums = history == HEADER_BYTES + length && total == history + ENTRY_BYTES * entries;
+    let right = fixed && sums && entries <= MAX_ENTRIES && total <= record.len();
+    right.then_some((length, entries, total))
+}
+
+/// Entry `number`, from 1, of a record whose header is right.
+fn entry_of(record: &[u8], frame_length: usize, number: usize) -> Entry {
+    let at = HEADER_BYTES + frame_length + ENTRY_BYTES * (number - 1);
+    Entry::of(&record[at..at + ENTRY_BYTES])
+}
+
+/// Does the entry fit the frame that stood right after it? If so, the item's
+/// kind.
+fn entry_fits(frame: &Frame, standing: &[u8], entry: &Entry) -> Option<Target> {
+    let target = target_at(frame, entry.index as u64)?;
+    let kind_holds = entry.kind == target.number();
+    let stands = target.value(standing, entry.index as usize) == entry.new;
+    let old_holds = target.legal(entry.old as u64) && entry.old != entry.new;
+    let signed = signer_holds(entry.operator as u64, entry.reason as u64);
+    (kind_holds && stands && old_holds && signed).then_some(target)
+}
+
+fn signer_holds(operator: u64, reason: u64) -> bool {
+    (1..=0xFFFF).contains(&operator) && (1..=MAX_REASON).contains(&reason)
+}
+
+/// Judges a record and goes back to the frame that stood after `keep` entries.
+/// The whole history is judged, also the part that is kept.
+fn go_back(record: &[u8], keep: u64) -> Result<(Record, Vec<u8>), Refusal> {
+    let Some((frame_length, entries, total)) = header(record) else {
+        return refuse(HEADER);
+    };
+    let now = &record[HEADER_BYTES..HEADER_BYTES + frame_length];
+    let frame = frame::read(now)?;
+    let mut standing = now.to_vec();
+    let mut kept = standing.clone();
+    for number in (1..=entries).rev() {
+        let entry = entry_of(record, frame_length, number);
+        match entry_fits(&frame, &standing, &entry) {
+            None => return refuse_at(ENTRY, number),
+            Some(target) => target.put(&mut standing, entry.index as usize, entry.old),
+        }
+        if number as u64 - 1 == keep {
+            kept.copy_from_slice(&standing);
+        }
+    }
+    Ok((Record { frame_length, entries, total, frame }, kept))
+}
+
+pub fn judge(record: &[u8]) -> Result<Record, Refusal> {
+    go_back(record, u64::MAX).map(|(record, _)| record)
+}
+
+/// Entry `number`, from 1, of an accepted record.
+pub fn entry(record: &[u8], number: u64) -> Result<Entry, Refusal> {
+    let judged = judge(record)?;
+    if number == 0 || number > judged.entries as u64 {
+        return refuse(NO_ENTRY);
+    }
+    Ok(entry_of(record, judged.frame_length, number as usize))
+}
+
+/// The eight header words of a record.
+pub fn header_bytes(frame_length: usize, entries: usize) -> Vec<u8> {
+    let history = HEADER_BYTES + frame_length;
+    let total = history + ENTRY_BYTES * entries;
+    let words = [1, 1, HEADER_BYTES, frame_length, history, entries, total, 0];
+    words.iter().flat_map(|word| (*word as u16).to_le_bytes()).collect()
+}
+
+/// Makes a record with no history of a frame.
+pub fn open(buffer: &mut [u8], frame: &[u8]) -> Result<(), Refusal> {
+    frame::read(frame)?;
+    let total = HEADER_BYTES + frame.len();
+    if buffer.len() < total {
+        return refuse(ROOM);
+    }
+    buffer[..HEADER_BYTES].copy_from_slice(&header_bytes(frame.len(), 0));
+    buffer[HEADER_BYTES..total].copy_from_slice(frame);
+    Ok(())
+}
+
+/// Puts a value into a Sample or Bin and writes the edit down as an entry.
+pub fn edit(
+    buffer: &mut [u8],
+    index: u64,
+    value: u64,
+    operator: u64,
+    reason: u64,
+) -> Result<(), Refusal> {
+    let record = judge(buffer)?;
+    let Some(target) = target_at(&record.frame, index) else {
+        return refuse(TARGET);
+    };
+    let index = index as usize;
+    let old = target.value(&buffer[HEADER_BYTES..], index);
+    if !target.legal(value) || value == old as u64 {
+        return refuse(NEW_VALUE);
+    }
+    if !signer_holds(operator, reason) {
+        return refuse(SIGNER);
+    }
+    if record.entries >= MAX_ENTRIES {
+        return refuse(FULL);
+    }
+    let end = record.total + ENTRY_BYTES;
+    if buffer.len() < end {
+        return refuse(ROOM);
+    }
+    let (new, operator, reason) = (value as u32, operator as u16, reason as u16);
+    let entry = Entry { index: index as u16, kind: target.number(), old, new, operator, reason };
+    target.put(&mut buffer[HEADER_BYTES..], index, new);
+    let header = header_bytes(record.frame_length, record.entries + 1);
+    buffer[..HEADER_BYTES].copy_from_slice(&header);
+    buffer[record.total..end].copy_from_slice(&entry.bytes());
+    Ok(())
+}
+
+/// Writes the frame that stood after the k-th edit to the start of `out`.
+pub fn restore(record: &[u8], k: u64, out: &mut [u8]) -> Result<(), Refusal> {
+    let (judged, kept) = go_back(record, k)?;
+    if k > judged.entries as u64 {
+        return refuse(NO_ENTRY);
+    }
+    if out.len() < kept.len() {
+        return refuse(ROOM);
+    }
+    out[..kept.len()].copy_from_slice(&kept);
+    Ok(())
+}
