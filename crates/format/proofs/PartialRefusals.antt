@@ -14,7 +14,7 @@ use Rattle.format.specs.Words.{pick, Bytes, words, wordAt}
 use Rattle.format.specs.Answers.{Outcome, accepted, refused, andThen}
 use Rattle.format.specs.Items.{Item}
 use Rattle.format.specs.Frames.{startFits, kindIn, cardIn, walk}
-use Rattle.format.specs.Faults.{FirstFault}
+use Rattle.format.specs.TokenFaults.{FirstFault}
 use Rattle.format.specs.Writing.{Partial, partialFault, partialBody, partialOf, partialJudged, partialVerdict}
 use Rattle.format.specs.WriterCases.{partialLength, PartialHead, PartialAnswer, stands, wrongLength, wrongKind, wrongSize, wrongSequence, faulty}
 use Rattle.format.proofs.WordLaws.{words-below, below-take, below-drop}

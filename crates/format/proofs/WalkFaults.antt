@@ -15,7 +15,7 @@ use Rattle.format.specs.Book.{classOf, after, assigned}
 use Rattle.format.specs.Items.{Item, classFor, wordsOf, decode, Token, whole, broken, flawed, tokenFor, tokenOf, tokens}
 use Rattle.format.specs.Rules.{Kind, place, value, order, Checked, good, bad, check}
 use Rattle.format.specs.Frames.{behind, Allowed, Sound, allWords, width, walk}
-use Rattle.format.specs.Faults.{Breaks, misplaced, misvalued, misordered, classMisplaced, classBroken, flaw, Faults, unknown, cut, breaks, FirstFault}
+use Rattle.format.specs.TokenFaults.{Breaks, misplaced, misvalued, misordered, classMisplaced, classBroken, flaw, Faults, unknown, cut, breaks, FirstFault}
 use Rattle.format.proofs.WordLaws.{pick-elim, below-drop}
 use Rattle.format.proofs.ItemLaws.{tokens-skip, read-written, written-read}
 use Rattle.format.proofs.WalkLaws.{allowed-fits, passed, passes, walk-good, walk-bad, not-whole}

@@ -17,7 +17,7 @@ use Rattle.format.specs.Book.{Class, classOf, after}
 use Rattle.format.specs.Items.{ItemOf, Item, Channel, Histogram, HitCount, Sample, Bin, LastCell, TimeBin, Text, StartEvent, EndEvent, decode, Token, whole, tokenFor}
 use Rattle.format.specs.Rules.{Kind}
 use Rattle.format.specs.Frames.{allWords, kindIn, cardIn}
-use Rattle.format.specs.Faults.{Breaks, misplaced, misvalued, misordered, classMisplaced, classBroken, flaw, Faults, unknown, cut, breaks, FirstFault}
+use Rattle.format.specs.TokenFaults.{Breaks, misplaced, misvalued, misordered, classMisplaced, classBroken, flaw, Faults, unknown, cut, breaks, FirstFault}
 use Rattle.format.specs.Writing.{Partial, partialVerdict, beginAnswer, given, addAnswer, closeAnswer}
 use Rattle.format.specs.WriterCases.{PartialHead, PartialAnswer, stands, wrongLength, wrongKind, wrongSize, wrongSequence, faulty, oneOf, headNumbers, itemNumbers, PartialRefused, byHead, byItem, handed, Begin, begins, cardWide, sequenceWide, beginShort, Add, adds, addPartial, addBreaks, addShort, Short, Close, closes, closePartial, closeOpen, closeShort}
 use Rattle.format.proofs.PrefixLaws.{and-left, and-right}

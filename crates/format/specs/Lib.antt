@@ -12,5 +12,5 @@ pub mod Steps
 pub mod Table
 pub mod Stands
 pub mod Runs
-pub mod Faults
+pub mod TokenFaults
 pub mod WriterCases

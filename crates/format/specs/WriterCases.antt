@@ -12,7 +12,7 @@ use Rattle.format.specs.Answers.{Outcome, accepted, refused}
 use Rattle.format.specs.Items.{Item, wordsOf, Token, whole, broken, flawed}
 use Rattle.format.specs.Rules.{Kind, mayEnd}
 use Rattle.format.specs.Frames.{Frame, behind, Allowed, Sound, encode, Legal, startFits, kindIn, cardIn, verdict}
-use Rattle.format.specs.Faults.{Breaks, FirstFault}
+use Rattle.format.specs.TokenFaults.{Breaks, FirstFault}
 use Rattle.format.specs.Writing.{Partial, partialWords, partialVerdict}
 
 -- ---- partial frames
