@@ -38,3 +38,14 @@ pub mod TreeMoves
 pub mod Tree
 pub mod HeadTests
 pub mod JudgeLaws
+pub mod WalkFaults
+pub mod PartialLaws
+pub mod PartialRefusals
+pub mod JoinLaws
+pub mod WriterLaws
+pub mod StoreLaws
+pub mod WriterSteps
+pub mod WriterNumbers
+pub mod Completeness
+pub mod NoDeadEnd
+pub mod Writing

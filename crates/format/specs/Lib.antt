@@ -13,3 +13,6 @@ pub mod Table
 pub mod Stands
 pub mod Faults
 pub mod Tree
+pub mod Runs
+pub mod TokenFaults
+pub mod WriterCases
