@@ -62,6 +62,26 @@ start-high w = go (startHigh w) refl (startFits w) refl
     go false p true q =
         absurd (true≢false (sym (subst (λ (v : ℕ). startHigh v ≡ true) (sym (start-word w q)) (is-high (kindOf (classOf w)) (w % 32) (below-32 w))) ∙ p))
 
+-- the kind of a start word, by its high bits
+kind-is : (w : ℕ) (kind : Kind) → w ≡ startWord kind (w % 32) → kind ≡ kindOf (classOf w)
+kind-is w kind e = sym (subst (λ (v : ℕ). kindOf (classOf v) ≡ kind) (sym e) (starts kind (w % 32) (below-32 w) .kind-is))
+
+pub kind-data : (w : ℕ) → w / 32 ≡ 0x40 → dataKind ≡ kindOf (classOf w)
+kind-data w e = kind-is w dataKind (omega arith)
+
+pub kind-monitor : (w : ℕ) → w / 32 ≡ 0x30 → monitorKind ≡ kindOf (classOf w)
+kind-monitor w e = kind-is w monitorKind (omega arith)
+
+pub kind-command : (w : ℕ) → startFits w ≡ true → (w / 32 ≡ 0x40 → ⊥) → (w / 32 ≡ 0x30 → ⊥) → commandKind ≡ kindOf (classOf w)
+kind-command w f a b =
+    let h : startHigh w ≡ true = start-high w ∙ f in
+    let r : eqb (w / 32) 0x20 ≡ true = rw (ne-eqb (w / 32) 0x40 a, ne-eqb (w / 32) 0x30 b) at h in
+    kind-is w commandKind (omega (arith, eqb-true (w / 32) 0x20 r))
+
+-- a frame whose first five rules hold has a start word
+pub started : (s : List ℕ) → 0 ≡ headFault s → (startFits (wordAt s 0) ≡ true) × (8 ≤ length s) × (length s ≤ 8192) × (length s % 2 ≡ 0)
+started s e = let h = head-of s (sym e) in (h .started, h .least, h .most, h .even)
+
 -- ---- the rules in their order
 
 module _ (s : List ℕ) where

@@ -2,3 +2,4 @@ pub mod Turns
 pub mod Steps
 pub mod TextLoops
 pub mod Loop
+pub mod Judging

@@ -1,14 +1,17 @@
 -- What the answers of this crate say in document 01.
 -- Assumes nothing.
 use Prim.Native.Nat.{ℕ, _+_, _*_, _-_}
+use mathlib.Core.List.{List}
 use mathlib.Core.Bool.{Bool, true, false, _&&_}
 use lib.Dec.{eqb}
 use Rattle.format.specs.Words.{pick}
 use Rattle.format.specs.Rules as rules
 use Rattle.format.specs.Rules.{Checked, good, bad}
 use Rattle.format.specs.Book.{endEvent, text}
-use Rattle.format.specs.Answers.{Outcome, accepted}
-use Rattle.format.specs.Steps.{St, Stepped, moved, stopped, placeBy, Summary}
+use Rattle.format.specs.Answers.{Outcome, accepted, refused}
+use Rattle.format.specs.Words.{wordAt}
+use Rattle.format.specs.Steps as steps
+use Rattle.format.specs.Steps.{St, Stepped, moved, stopped, placeBy, endedBy, Summary, Overview}
 use Rattle.book.specs.Views.{refusal}
 use Rattle.frame.specs.declared.state.Kind.{Kind}
 use Rattle.frame.specs.declared.state.Kind.the-variants as kind
@@ -18,6 +21,11 @@ use Rattle.frame.specs.declared.state.State.{State}
 use Rattle.frame.specs.declared.rules.Step.{Step}
 use Rattle.frame.specs.declared.rules.Step.the-variants as step
 use Rattle.frame.specs.declared.walk.Summary as declared
+use Rattle.frame.specs.declared.reading.Frame.{Frame}
+use Rattle.frame.specs.declared.reading.Reading.{Reading}
+use Rattle.frame.specs.declared.reading.Reading.the-variants as reading
+use Rattle.frame.specs.declared.reading.Indexed.{Indexed}
+use Rattle.frame.specs.declared.reading.Indexed.the-variants as indexed
 use Rattle.frame.specs.declared.walk.Walked.{Walked}
 use Rattle.frame.specs.declared.walk.Walked.the-variants as walk
 
@@ -49,6 +57,24 @@ viewSummary x = record { count = x .count; index = x .index; state = viewState (
 abbrev pub viewWalk : Walked → Outcome Summary
 viewWalk (walk.Ended x) = accepted (viewSummary x)
 viewWalk (walk.Refused r) = refusal r
+
+abbrev pub viewFrame : Frame → Overview
+viewFrame f = record { kind = viewKind (f .kind); card = f .card; sequence = f .sequence; items = f .items; state = viewState (f .state) }
+
+abbrev pub viewReading : Reading → Outcome Overview
+viewReading (reading.Accepted f) = accepted (viewFrame f)
+viewReading (reading.Refused r) = refusal r
+
+abbrev pub viewIndexed : Indexed → Outcome steps.Indexed
+viewIndexed (indexed.Accepted f i) = accepted (record { frame = viewFrame f; index = i })
+viewIndexed (indexed.Refused r) = refusal r
+
+-- what is answered where the items of a frame were walked through
+unfoldable pub endingOf : List ℕ → ℕ → rules.Kind → ℕ → Summary → Outcome steps.Indexed
+endingOf s last k card x =
+    pick (endedBy (x .state .mode))
+    (accepted (record { frame = record { kind = k; card = card; sequence = wordAt s 2; items = x .count; state = x .state }; index = x .index }))
+    (refused 11 last)
 
 -- place before value before order
 abbrev pub tested : Bool → Bool → Bool → St → Checked St
