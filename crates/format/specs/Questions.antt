@@ -43,6 +43,14 @@ nth (suc n) at (x ∷ xs) = nth n (at + length (wordsOf x)) xs
 unfoldable pub itemAt : List ℕ → ℕ → Outcome Found
 itemAt s n = andThen (verdict s) (λ f. nth n 3 (f .items))
 
+-- as it is answered
+pub record Shown : Type 0 where
+  pub item : ItemOf ℕ
+  pub next : ℕ
+
+unfoldable pub shownAt : List ℕ → ℕ → Outcome Shown
+shownAt s n = andThen (itemAt s n) (λ r. accepted (record { item = shown (r .item); next = r .next }))
+
 -- "A text's content .. without the final zero"; on any refusal or another class an empty part
 abbrev pub textIn : Item → List ℕ
 textIn (Channel a b c) = []
