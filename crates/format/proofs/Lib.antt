@@ -36,3 +36,4 @@ pub mod Moves
 pub mod SoundMoves
 pub mod TreeMoves
 pub mod Tree
+pub mod AlikeLaws

@@ -13,3 +13,4 @@ pub mod Table
 pub mod Stands
 pub mod Faults
 pub mod Tree
+pub mod Spots
