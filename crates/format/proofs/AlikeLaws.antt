@@ -9,8 +9,8 @@ use lib.ListN.{length}
 use Rattle.format.specs.Words.{pick}
 use Rattle.format.specs.Book.{Class, channel, histogram, sample, bin, timeBin, startEvent, endEvent}
 use Rattle.format.specs.Items.{Item, Channel, Histogram, HitCount, Sample, Bin, LastCell, TimeBin, Text, StartEvent, EndEvent, classFor, wordsOf, inRange, key}
-use Rattle.format.specs.Rules.{Kind, dataKind, monitorKind, commandKind, same, since, count, has, latest, total, gather, channelKey, histogramKey, binNumber, startTime, above, first, time, inEvent, within, allowed, among, outside, headed, unheaded, place, mayEnd, sized, order}
-use Rattle.format.specs.Frames.{behind, Allowed, Sound, allWords}
+use Rattle.format.specs.Rules.{Kind, dataKind, monitorKind, commandKind, same, since, count, latest, total, gather, channelKey, histogramKey, binNumber, startTime, above, first, time, inEvent, within, allowed, among, outside, headed, unheaded, place, mayEnd, sized, order}
+use Rattle.format.specs.Frames.{behind, Allowed, Sound}
 use Rattle.format.specs.Spots.{withValue}
 use Rattle.format.proofs.PrefixLaws.{and-right, and-both}
 

@@ -37,3 +37,6 @@ pub mod SoundMoves
 pub mod TreeMoves
 pub mod Tree
 pub mod AlikeLaws
+pub mod SpotLaws
+pub mod PutLaws
+pub mod Stability
