@@ -20,3 +20,4 @@ pub mod Swapping
 pub mod Demand3
 pub mod Walking
 pub mod Figures
+pub mod House
