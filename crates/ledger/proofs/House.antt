@@ -24,7 +24,7 @@ use Rattle.ledger.specs.House.{told, toldOf, house}
 use Rattle.ledger.proofs.FirstLaws.{first-lawful}
 
 -- a spot that the book tells is the frame's own
-abbrev own : Spot → spots.Spot
+abbrev pub own : Spot → spots.Spot
 own s = record { kind = s .kind; value = s .value; key = s .key }
 
 owned : (o : Option spots.Spot) (s : Spot) → toldOf o ≡ some s → o ≡ some (own s)
@@ -46,7 +46,7 @@ accepted-short f a =
     omega arith
 
 module _ (f : List ℕ) (w : ℕ) (s : Spot) where
-  stands-there : house .spot f w ≡ some s → spot f w ≡ some (own s)
+  pub stands-there : house .spot f w ≡ some s → spot f w ≡ some (own s)
   unfolding house
   stands-there e = owned (spot f w) s e
 
@@ -94,7 +94,7 @@ house-lawful = record {
   put-again = λ f w v x s h i. stability.put-again f (h .frame .bytes) w (own s) (there f w s v h) v (lawful-value f w s v h) x;
   put-back = λ f w s a e. stability.put-back f (a .bytes) w (own s) (stands-there f w s e);
   put-apart = λ f w v s u x t h i n.
-  stability.put-apart f (h .frame .bytes) w (own s) (there f w s v h) v (lawful-value f w s v h) u (own t) (there f u t x i) x (lawful-value f u t x i) n;
+      stability.put-apart f (h .frame .bytes) w (own s) (there f w s v h) v (lawful-value f w s v h) u (own t) (there f u t x i) x (lawful-value f u t x i) n;
 }
 
 -- what demand 3's theorems ask, at document 01's frames and entries

@@ -21,3 +21,5 @@ pub mod Demand3
 pub mod Walking
 pub mod Figures
 pub mod House
+pub mod HouseEdits
+pub mod HouseDemand3
