@@ -40,3 +40,4 @@ pub mod AlikeLaws
 pub mod SpotLaws
 pub mod PutLaws
 pub mod Stability
+pub mod SpotKeys

@@ -93,7 +93,7 @@ module _ (f : Frame) (w : ℕ) (p : Spot) (is : SpotIs (f .items) w p) where
   split v = ap (λ (l : List Item). replaced 3 l w v) (is .items) ∙ replaced-split (is .before) (is .item) (is .after) 3 w v (is .index)
 
   -- its bytes are those of the frame with the value's bytes stored
-  encode-changed : (v : ℕ) → encode (changed f w v) ≡ sets (encode f) (2 * valueWord (p .kind) w) (bytes (valueWords (p .kind) v))
+  encode-changed : (v : ℕ) → encode (changed f w v) ≡ putFor (some p) (encode f) w v
   unfolding fore
   encode-changed v =
       let n : ℕ = length (allWords (f .items)) in
@@ -110,7 +110,7 @@ module _ (f : Frame) (w : ℕ) (p : Spot) (is : SpotIs (f .items) w p) where
       length-fore f n before lead ∙ ap (λ (k : ℕ). 2 * k) (sym (known .starts w ∙ ap (λ (k : ℕ). k + length lead) (is .index))) in
       let long : length (bytes new) ≡ length (bytes old) = length-bytes new ∙ ap (λ (k : ℕ). 2 * k) (known .as-long v (p .value)) ∙ sym (length-bytes old) in
       here
-      ∙ sym (ap (λ (l : List ℕ). sets l (2 * valueWord (p .kind) w) (bytes new)) there
+      ∙ sym (ap (λ (l : List ℕ). putFor (some p) l w v) there
       ∙ sets-over (bytes (fore f n before ++ lead)) (bytes old) rest (bytes new) (2 * valueWord (p .kind) w) at long)
 
   module _ (l : Legal f) where
@@ -167,7 +167,7 @@ pub spot-refused : (s : List ℕ) (n q w : ℕ) → verdict s ≡ refused n q �
 unfolding spot
 spot-refused s n q w v = ap (λ (o : Outcome Frame). spotFor o w) v
 
-pub put-stores : (s : List ℕ) (w v : ℕ) (p : Spot) → spot s w ≡ some p → put s w v ≡ sets s (2 * valueWord (p .kind) w) (bytes (valueWords (p .kind) v))
+pub put-stores : (s : List ℕ) (w v : ℕ) (p : Spot) → spot s w ≡ some p → put s w v ≡ putFor (some p) s w v
 unfolding put
 put-stores s w v p e = ap (λ (o : Option Spot). putFor o s w v) e
 
@@ -183,7 +183,7 @@ module _ (s : List ℕ) (y : Bytes s) (f : Frame) (a : verdict s ≡ accepted f)
   pub put-encode : put s w v ≡ encode (changed f w v)
   put-encode =
       put-stores s w v p e
-      ∙ ap (λ (l : List ℕ). sets l (2 * valueWord (p .kind) w) (bytes (valueWords (p .kind) v))) (sound s y f a .1)
+      ∙ ap (λ (l : List ℕ). putFor (some p) l w v) (sound s y f a .1)
       ∙ sym (encode-changed f w p is-there v)
 
   pub put-changed : legalValue (p .kind) v ≡ true → verdict (put s w v) ≡ accepted (changed f w v)

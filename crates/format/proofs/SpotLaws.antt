@@ -124,8 +124,8 @@ sample-valued k v =
       as-long = λ u v. refl;
       own = refl;
       other = λ v. refl;
-      standing = λ card r. r;
       ranged = λ card v r l. l;
+      standing = λ card r. r;
     }
 
 bin-valued : (k b n : ℕ) → Valued k (Bin b n) (record { kind = 2; value = n; key = k })
