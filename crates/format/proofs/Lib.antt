@@ -50,3 +50,8 @@ pub mod Completeness
 pub mod NoDeadEnd
 pub mod Writing
 pub mod Demand2
+pub mod AlikeLaws
+pub mod SpotLaws
+pub mod PutLaws
+pub mod Stability
+pub mod SpotKeys

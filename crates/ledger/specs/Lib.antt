@@ -6,3 +6,4 @@ pub mod Calls
 pub mod Chains
 pub mod Histories
 pub mod First
+pub mod House
