@@ -104,6 +104,7 @@ impl Case {
         let op = self.op;
         match op {
             0 => self.within(Case::WORD, 0, 0, 0, 0, false, false),
+            1 => self.within(0, 0, 0, 0, 0, true, false),
             11 => self.within(256, Case::WORD, 0, 0, 0, false, false),
             _ => false,
         }
