@@ -110,8 +110,8 @@ pub record Valued (k : ℕ) (x : Item) (p : Spot) : Type 0 where
   -- its own value, and another
   pub own : withValue x (p .value) ≡ x
   pub other : (v : ℕ) → spotOf k (withValue x v) ≡ some (revalued p v)
-  pub standing : (card : ℕ) → inRange card x ≡ true → legalValue (p .kind) (p .value) ≡ true
   pub ranged : (card v : ℕ) → inRange card x ≡ true → legalValue (p .kind) v ≡ true → inRange card (withValue x v) ≡ true
+  pub standing : (card : ℕ) → inRange card x ≡ true → legalValue (p .kind) (p .value) ≡ true
 
 sample-valued : (k v : ℕ) → Valued k (Sample v) (record { kind = 1; value = v; key = k })
 unfolding wordsOf legalValue
