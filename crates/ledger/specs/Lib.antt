@@ -7,3 +7,4 @@ pub mod Chains
 pub mod Histories
 pub mod First
 pub mod House
+pub mod HouseTable
