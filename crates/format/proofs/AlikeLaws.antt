@@ -1,15 +1,14 @@
 -- The rules do not look at a Sample's value or a Bin's count: items that differ in nothing else are allowed, and end a frame, alike.
 -- Assumes nothing.
-use Prim.Native.Nat.{ℕ, _+_, _*_}
+use Prim.Native.Nat.{ℕ, _+_}
 use mathlib.Core.Path.{_≡_, refl, sym, ap, ap₂, _∙_}
 use mathlib.Core.List.{List, [], _∷_, _++_, map}
 use mathlib.Core.Bool.{Bool, true, false, not, _&&_, _||_}
-use lib.Dec.{leb, eqb}
 use lib.ListN.{length}
 use Rattle.format.specs.Words.{pick}
-use Rattle.format.specs.Book.{Class, channel, histogram, sample, bin, timeBin, startEvent, endEvent}
-use Rattle.format.specs.Items.{Item, Channel, Histogram, HitCount, Sample, Bin, LastCell, TimeBin, Text, StartEvent, EndEvent, classFor, wordsOf, inRange, key}
-use Rattle.format.specs.Rules.{Kind, dataKind, monitorKind, commandKind, same, since, count, latest, total, gather, channelKey, histogramKey, binNumber, startTime, above, first, time, inEvent, within, allowed, among, outside, headed, unheaded, place, mayEnd, sized, order}
+use Rattle.format.specs.Book.{Class, histogram, bin}
+use Rattle.format.specs.Items.{Item, Channel, Histogram, HitCount, Sample, Bin, LastCell, TimeBin, Text, StartEvent, EndEvent, classFor, wordsOf, inRange}
+use Rattle.format.specs.Rules.{Kind, dataKind, monitorKind, commandKind, same, since, count, latest, total, gather, channelKey, histogramKey, binNumber, startTime, inEvent, within, allowed, among, outside, headed, unheaded, place, mayEnd, sized, order}
 use Rattle.format.specs.Frames.{behind, Allowed, Sound}
 use Rattle.format.specs.Spots.{withValue}
 use Rattle.format.proofs.PrefixLaws.{and-right, and-both}
@@ -82,22 +81,27 @@ unfolding behind
 behind-bare p [] = refl
 behind-bare p (x ∷ xs) = behind-bare (x ∷ p) xs
 
--- since an item of the class
-counts-since : (c d : Class) (p : List Item) → count c (since d (bares p)) ≡ count c (since d p)
-counts-since c d p = ap (count c) (since-bare d p) ∙ count-bare c (since d p)
+-- what the rules gather
+channels-bare : (p : List Item) → gather channelKey (bares p) ≡ gather channelKey p
+channels-bare = gather-bare channelKey (blind channelKey (λ m n. refl) (λ b m n. refl))
 
-gathers-since : (g : Item → List ℕ) → ((x : Item) (v : ℕ) → g (withValue x v) ≡ g x) → (d : Class) (p : List Item)
-    → gather g (since d (bares p)) ≡ gather g (since d p)
-gathers-since g h d p = ap (gather g) (since-bare d p) ∙ gather-bare g h (since d p)
+histograms-bare : (p : List Item) → gather histogramKey (bares p) ≡ gather histogramKey p
+histograms-bare = gather-bare histogramKey (blind histogramKey (λ m n. refl) (λ b m n. refl))
 
--- ---- the rules
+bins-bare : (p : List Item) → gather binNumber (bares p) ≡ gather binNumber p
+bins-bare = gather-bare binNumber (blind binNumber (λ m n. refl) (λ b m n. refl))
+
+times-bare : (p : List Item) → gather startTime (bares p) ≡ gather startTime p
+times-bare = gather-bare startTime (blind startTime (λ m n. refl) (λ b m n. refl))
+
+-- ---- the rules, whatever they make of these
 
 event-bare : (p : List Item) → inEvent (bares p) ≡ inEvent p
-event-bare p = ap (leb 1) (counts-since startEvent endEvent p)
+event-bare p = simp (since-bare, count-bare)
 
 place-bare : (kind : Kind) (c : Class) (p : List Item) → place kind (bares p) c ≡ place kind p c
-place-bare dataKind c p = ap₂ (λ (b : Bool) (d : Class). among c (allowed (pick b (within d) outside))) (event-bare p) (latest-bare p)
-place-bare monitorKind c p = ap (λ (d : Class). among c (allowed (pick (same histogram d || same bin d) headed unheaded))) (latest-bare p)
+place-bare dataKind c p = simp (since-bare, count-bare, latest-bare)
+place-bare monitorKind c p = simp latest-bare
 place-bare commandKind c p = refl
 
 sized-bare : (x : Item) (p : List Item) → sized (bares p) x ≡ sized p x
@@ -110,20 +114,16 @@ sized-bare (LastCell a b) p = refl
 sized-bare (TimeBin t) p = refl
 sized-bare (Text s) p = refl
 sized-bare (StartEvent t ts n) p = refl
-sized-bare (EndEvent n) p = ap (λ (k : ℕ). eqb n (2 * k + 6)) (ap total (since-bare startEvent p) ∙ total-bare (since startEvent p))
-
-time-bare : (p : List Item) → time (bares p) ≡ time p
-time-bare p =
-    ap₂ (λ (ts : List ℕ) (n : ℕ). first ts + n) (gather-bare startTime (blind startTime (λ m n. refl) (λ b m n. refl)) p) (counts-since sample timeBin p)
+sized-bare (EndEvent n) p = simp (since-bare, total-bare)
 
 order-bare : (x : Item) (p : List Item) → order (bares p) x ≡ order p x
-order-bare (Channel a b c) p = ap (above (key a b c)) (gathers-since channelKey (blind channelKey (λ m n. refl) (λ b m n. refl)) startEvent p)
-order-bare (Histogram a b c) p = ap (above (key a b c)) (gather-bare histogramKey (blind histogramKey (λ m n. refl) (λ b m n. refl)) p)
+order-bare (Channel a b c) p = simp (since-bare, channels-bare)
+order-bare (Histogram a b c) p = simp histograms-bare
 order-bare (HitCount a b c) p = refl
-order-bare (Sample v) p = ap (λ (t : ℕ). leb t 511) (time-bare p)
-order-bare (Bin b n) p = ap (above b) (gathers-since binNumber (blind binNumber (λ m n. refl) (λ b m n. refl)) histogram p)
+order-bare (Sample v) p = simp (since-bare, count-bare, times-bare)
+order-bare (Bin b n) p = simp (since-bare, bins-bare)
 order-bare (LastCell a b) p = refl
-order-bare (TimeBin t) p = ap₂ (λ (n u : ℕ). not (leb 1 n) || leb (u + 1) t) (counts-since sample channel p) (time-bare p)
+order-bare (TimeBin t) p = simp (since-bare, count-bare, times-bare)
 order-bare (Text s) p = refl
 order-bare (StartEvent t ts n) p = refl
 order-bare (EndEvent n) p = refl

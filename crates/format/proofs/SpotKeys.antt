@@ -1,21 +1,22 @@
 -- D15 in document 01's words: every Sample and every Bin of an accepted frame is a spot at its first word, of kind 1 or 2, with its value and
--- the key of the latest Channel or Histogram header before it.
+-- the key of the latest Channel or Histogram header before it; and no spot stands within an item.
 -- Assumes nothing.
-use Prim.Native.Nat.{ℕ, _+_}
+use Prim.Native.Nat.{ℕ, _+_, _≤_, _<_}
 use mathlib.Core.Path.{_≡_, refl, ap, _∙_}
 use mathlib.Core.List.{List, [], _∷_, _++_}
 use mathlib.Core.Bool.{true, false, true≢false}
-use mathlib.Core.Option.{some}
+use mathlib.Core.Option.{none, some}
 use native.Mathlib.Omega.{arith}
 use lib.ListN.{length}
 use Rattle.format.specs.Answers.{accepted}
 use Rattle.format.specs.Book.{channel, histogram}
-use Rattle.format.specs.Items.{Item, Channel, Histogram, HitCount, Sample, Bin, LastCell, TimeBin, Text, StartEvent, EndEvent, classFor, key}
+use Rattle.format.specs.Items.{Item, Channel, Histogram, HitCount, Sample, Bin, LastCell, TimeBin, Text, StartEvent, EndEvent, classFor, wordsOf, key}
 use Rattle.format.specs.Rules.{same, count}
 use Rattle.format.specs.Frames.{Frame, allWords, verdict}
-use Rattle.format.specs.Spots.{Spot, spot, spotOf, under, underAll}
+use Rattle.format.specs.Spots.{Spot, spotOf, spotIn, spot, under, underAll}
 use Rattle.format.proofs.SoundLaws.{tally, tally-zero}
-use Rattle.format.proofs.PutLaws.{spot-is}
+use Rattle.format.proofs.SpotLaws.{spot-within}
+use Rattle.format.proofs.PutLaws.{spot-in, spot-is}
 
 -- no header among some items
 pub record Headless (xs : List Item) : Type 0 where
@@ -74,3 +75,10 @@ pub bin-spot : (s : List ℕ) (f : Frame) → verdict s ≡ accepted f → (left
 bin-spot s f a left card chip c run b n after i h =
     there s f a (left ++ (Histogram card chip c ∷ run)) (Bin b n) after i _
     (ap (λ (k : ℕ). some (record { kind = 2; value = n; key = k })) (under-header 0 (key card chip c) left (Histogram card chip c) run (λ j. refl) h))
+
+-- "the words after an item are data": no spot stands within an item, so none at a Bin's count
+pub within-none : (s : List ℕ) (f : Frame) → verdict s ≡ accepted f → (before : List Item) (x : Item) (after : List Item) (d : ℕ)
+    → f .items ≡ before ++ (x ∷ after) → 1 ≤ d → d < length (wordsOf x) → spot s (3 + length (allWords before) + d) ≡ none
+within-none s f a before x after d i h l =
+    let w : ℕ = 3 + length (allWords before) + d in
+    spot-in s f w a ∙ ap (λ (xs : List Item). spotIn 0 3 xs w) i ∙ spot-within before x after 0 3 d h l

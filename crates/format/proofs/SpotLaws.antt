@@ -5,7 +5,7 @@ use mathlib.Core.Path.{_≡_, refl, sym, ap, ap₂, subst, _∙_}
 use mathlib.Core.List.{List, [], _∷_, _++_}
 use mathlib.Core.Logic.{_↔_}
 use mathlib.Core.Bool.{Bool, true, false, _&&_}
-use mathlib.Core.Option.{some}
+use mathlib.Core.Option.{none, some}
 use native.Mathlib.Omega.{arith}
 use lib.Dec.{leb, ltb, eqb}
 use lib.ListN.{length, take, length-append}
@@ -98,10 +98,28 @@ spot-exactly xs w p = (
   λ i. ap (λ (l : List Item). spotIn 0 3 l w) (i .items) ∙ split-spot (i .before) (i .item) (i .after) 0 3 w (i .index) ∙ i .spot,
 )
 
+-- no spot stands before the items, nor within one: the words after an item's first are data
+spot-before : (k at : ℕ) (xs : List Item) (w : ℕ) → w < at → spotIn k at xs w ≡ none
+unfolding spotIn
+spot-before k at [] w h = refl
+spot-before k at (x ∷ xs) w h = spot-next k at x xs w (λ e. omega arith) ∙ spot-before (under k x) (at + length (wordsOf x)) xs w (omega arith)
+
+pub spot-within : (before : List Item) (x : Item) (after : List Item) (k at d : ℕ) → 1 ≤ d → d < length (wordsOf x)
+    → spotIn k at (before ++ (x ∷ after)) (at + length (allWords before) + d) ≡ none
+spot-within [] x after k at d h l =
+    let z = words-none in
+    spot-next k at x after _ (λ e. omega arith) ∙ spot-before (under k x) (at + length (wordsOf x)) after _ (omega arith)
+spot-within (y ∷ before) x after k at d h l =
+    let m = words-more y before in
+    let n = some-word y in
+    let e : at + length (allWords (y ∷ before)) + d ≡ at + length (wordsOf y) + length (allWords before) + d = omega arith in
+    spot-next k at y (before ++ (x ∷ after)) _ (λ q. omega arith)
+    ∙ ap (spotIn (under k y) (at + length (wordsOf y)) (before ++ (x ∷ after))) e
+    ∙ spot-within before x after (under k y) (at + length (wordsOf y)) d h l
+
 -- ---- what an item that is a spot keeps with another value
 
 pub record Valued (k : ℕ) (x : Item) (p : Spot) : Type 0 where
-  pub kind : p .kind ≤ 2
   -- its words, the last of which hold the value
   pub lead : List ℕ
   pub words : (v : ℕ) → wordsOf (withValue x v) ≡ lead ++ valueWords (p .kind) v
@@ -110,14 +128,13 @@ pub record Valued (k : ℕ) (x : Item) (p : Spot) : Type 0 where
   -- its own value, and another
   pub own : withValue x (p .value) ≡ x
   pub other : (v : ℕ) → spotOf k (withValue x v) ≡ some (revalued p v)
-  pub standing : (card : ℕ) → inRange card x ≡ true → legalValue (p .kind) (p .value) ≡ true
   pub ranged : (card v : ℕ) → inRange card x ≡ true → legalValue (p .kind) v ≡ true → inRange card (withValue x v) ≡ true
+  pub standing : (card : ℕ) → inRange card x ≡ true → legalValue (p .kind) (p .value) ≡ true
 
 sample-valued : (k v : ℕ) → Valued k (Sample v) (record { kind = 1; value = v; key = k })
 unfolding wordsOf legalValue
 sample-valued k v =
     record {
-      kind = omega arith;
       lead = [];
       words = λ v. refl;
       starts = λ w. omega arith;
@@ -132,7 +149,6 @@ bin-valued : (k b n : ℕ) → Valued k (Bin b n) (record { kind = 2; value = n;
 unfolding wordsOf legalValue
 bin-valued k b n =
     record {
-      kind = omega arith;
       lead = (0x2000 + b) ∷ [];
       words = λ v. refl;
       starts = λ w. refl;

@@ -1,7 +1,7 @@
 -- Document 01's own frames are a lawful book, so that demand 3 holds of records over them.
 -- Assumes nothing.
 use Prim.Native.Nat.{ℕ, _≤_}
-use mathlib.Core.Path.{_≡_, refl, ap}
+use mathlib.Core.Path.{_≡_, refl, sym, ap}
 use mathlib.Core.Logic.{_⊎_, ⊎-elim}
 use mathlib.Core.Bool.{true}
 use mathlib.Core.List.{List}
@@ -30,6 +30,14 @@ own s = record { kind = s .kind; value = s .value; key = s .key }
 owned : (o : Option spots.Spot) (s : Spot) → toldOf o ≡ some s → o ≡ some (own s)
 owned none s e = no-some s e
 owned (some p) s e = ap (λ (t : Spot). some (own t)) (some-is (told p) s e)
+
+pub same-told : (o q : Option spots.Spot) → toldOf o ≡ toldOf q → o ≡ q
+same-told o none e = go o e
+  where
+    go : (o : Option spots.Spot) → toldOf o ≡ none → o ≡ none
+    go none h = refl
+    go (some p) h = no-some (told p) (sym h)
+same-told o (some p) e = owned o (told p) e
 
 -- an accepted frame is the verdict's
 judged : (o : Outcome Frame) → done o ≡ accepted tt → (f : Frame) × (o ≡ accepted f)

@@ -5,7 +5,7 @@ use mathlib.Core.Path.{_≡_, refl, sym, ap, _∙_}
 use mathlib.Core.Logic.{_↔_, _⊎_, ⊎-elim, inl, inr}
 use mathlib.Core.Bool.{true}
 use mathlib.Core.List.{List, [], _∷_, _++_}
-use mathlib.Core.Option.{Option}
+use mathlib.Core.Option.{Option, some}
 use native.Mathlib.Omega.{arith}
 use lib.ListN.{length, take, drop}
 use Rattle.format.specs.Words.{Bytes}
@@ -31,7 +31,7 @@ use Rattle.ledger.proofs.Editing.{edit-exactly}
 use Rattle.ledger.proofs.Refusals.{edit-refusals}
 use Rattle.ledger.proofs.Forward.{forward-whole}
 use Rattle.ledger.proofs.Changing as changing
-use Rattle.ledger.proofs.House.{own, stands-there, house-first}
+use Rattle.ledger.proofs.House.{own, stands-there, same-told, house-first}
 
 asks-nothing : {A : Type 0} (x : List ℕ) (n p : ℕ) → first .asked x ≡ refused n p → A
 unfolding first
@@ -102,6 +102,16 @@ module _ (b : List ℕ) (c : Correction) where
       let a = changing.allowed house first house-first b c y e in
       let s = stands (frameIn b) (c .word) (own (a .spot)) (stands-there (frameIn b) (c .word) (a .spot) (a .stands)) in
       (s .frame, s .accepted, (own (a .spot), s .is))
+
+  pub edit-there : Bytes b → editAnswer house first b c ≡ accepted tt
+      → (p : spots.Spot) → spots.spot (frameIn b) (c .word) ≡ some p → spots.spot (frameIn (editExit house first b c)) (c .word) ≡ some (spots.revalued p (c .value))
+  unfolding house
+  edit-there y e p h = stands-there _ (c .word) (told (spots.revalued p (c .value))) (changing.edit-there house first house-first b c y e (told p) (ap (λ (o : Option spots.Spot). toldOf o) h))
+
+  pub edit-elsewhere : Bytes b → editAnswer house first b c ≡ accepted tt
+      → (w : ℕ) → (w ≡ c .word → ⊥) → spots.spot (frameIn (editExit house first b c)) w ≡ spots.spot (frameIn b) w
+  unfolding house
+  edit-elsewhere y e w n = same-told (spots.spot (frameIn (editExit house first b c)) w) (spots.spot (frameIn b) w) (changing.edit-elsewhere house first house-first b c y e w n)
 
   pub edit-bytes : Bytes b → editAnswer house first b c ≡ accepted tt
       → editExit house first b c

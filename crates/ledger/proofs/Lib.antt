@@ -23,3 +23,4 @@ pub mod Figures
 pub mod House
 pub mod HouseEdits
 pub mod HouseDemand3
+pub mod HouseFigures

@@ -8,3 +8,4 @@ pub mod Histories
 pub mod First
 pub mod House
 pub mod Judged
+pub mod HouseTable
