@@ -50,3 +50,4 @@ pub mod Completeness
 pub mod NoDeadEnd
 pub mod Writing
 pub mod Placed
+pub mod TextPlaced

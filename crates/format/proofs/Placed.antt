@@ -190,3 +190,21 @@ module _ (s : List ℕ) (n : ℕ) where
         let k : r .here ≡ i .index = r .here-is ∙ sym (ap (λ (j : Indexed). j .index) (o .is) ∙ index-all n (f .items) (omega arith)) in
         let q : itemAt s n ≡ accepted (record { item = r .item; next = nextAt s (r .here) }) = rw v (r .answer) in
         subst (Placed s n) k (record { item = r .item; token = r .token; further = r .further; within = r .within; answer = q })
+
+-- what the item question finds stands whole at a word
+pub found-placed : (s : List ℕ) (n : ℕ) (r : Found) → itemAt s n ≡ accepted r → (at : ℕ) × Placed s n at
+unfolding itemAt indexOf
+found-placed s n r e = go (verdict s) refl
+  where
+    no : {A : Type 0} (k p : ℕ) → _≡_ {A = Outcome Found} (refused k p) (accepted r) → A
+    no k p f = let z : _≡_ {A = ℕ} 0 1 = cc in absurd (omega arith)
+
+    go : (o : Outcome Frame) → verdict s ≡ o → (at : ℕ) × Placed s n at
+    go (accepted f) v = there (leb (length (f .items)) n) refl
+      where
+        there : (b : Bool) → leb (length (f .items)) n ≡ b → (at : ℕ) × Placed s n at
+        there true h = no 13 0 (sym (item-past s f v n (leb-true _ _ h)) ∙ e)
+        there false h =
+            let i : accepted (noting n f) ≡ indexOf s n = rw v in
+            (noting n f .index, item-placed s n (noting n f) i (leb-false _ _ h))
+    go (refused k p) v = no k p (sym (item-refused s k p v n) ∙ e)

@@ -126,12 +126,12 @@ pub fn text(s: &[u8], n: usize) -> &[u8]
     match found {
         Found::Refused(_) => &s[0..0],
         Found::Item(x) => {
-            let next = x.next;
-            let length = text_count(x.item);
+            let item = x.item;
+            let length = text_count(item);
             if length < 1 {
                 return &s[0..0];
             }
-            let from = 2 * (next - (length + 1) / 2);
+            let from = 2 * (x.next - (length + 1) / 2);
             let to = from + (length - 1);
             &s[from..to]
         }
