@@ -1,9 +1,14 @@
+-- `frame::items::show` meets its contract.
+-- Assumes nothing.
+use mathlib.Core.Path.{_≡_, ap, sym, _∙_}
+use denote.Ref.{now}
+use Rattle.format.specs.Book.{classOf}
+use Rattle.book.specs.Views.{view}
+use Rattle.book.specs.declared.class.Class.{Class}
+use Rattle.frame.proofs.Shows.{channel-shown, histogram-shown, hit-shown, sample-shown, bin-shown, cell-shown, time-shown, text-shown, start-shown, end-shown, data-shown, monitor-shown, command-shown, frame-end-shown, unassigned-shown}
 use borrow.Author.Needs.{needs}
 use Rattle.frame.proofs.items.show.Statement.{statement}
 use Rattle.frame.proofs.items.show.Tie as tie
-use Rattle.frame.proofs.items.show.Reads as reads
-use Rattle.frame.proofs.items.show.Lts as lts
-use Rattle.book.proofs.class.classify.Reads as classify-reads
 use Rattle.book.proofs.items.Bin.of_word.Reads as items-Bin-of-word-reads
 use Rattle.book.proofs.items.Channel.of_word.Reads as items-Channel-of-word-reads
 use Rattle.book.proofs.items.Histogram.of_word.Reads as items-Histogram-of-word-reads
@@ -13,205 +18,157 @@ use Rattle.book.proofs.items.Sample.of_word.Reads as items-Sample-of-word-reads
 use Rattle.book.proofs.items.StartEvent.of_word.Reads as items-StartEvent-of-word-reads
 use Rattle.book.proofs.items.Text.of_word.Reads as items-Text-of-word-reads
 use Rattle.book.proofs.items.TimeBin.of_word.Reads as items-TimeBin-of-word-reads
-use Rattle.book.proofs.words.long.Reads as long-reads
-use Rattle.book.proofs.words.time.Reads as time-reads
-use Rattle.book.proofs.words.word.Reads as word-reads
 
--- src/items.rt:50:9
+-- the class that was found is that of the word
+told : (c : tie.After-classify) (k : Class) → c .classify .result ≡ k → view k ≡ classOf (c .before .word .result)
+told c k e = ap view (sym e) ∙ c .classify .ensures
+
 word-requires : tie.Need-word-requires
 word-requires c κs = search needs
 
--- src/items.rt:51:9
 classify-requires : tie.Need-classify-requires
 classify-requires c κs = search needs
 
--- src/items.rt:53:41
 enum-told : tie.Need-enum-told
 enum-told c = search needs
 
--- src/items.rt:53:41
 of-word-requires : tie.Need-of-word-requires
 of-word-requires c κs = search needs
 
--- src/items.rt:54:45
 enum-told-2 : tie.Need-enum-told-2
 enum-told-2 c = search needs
 
--- src/items.rt:54:45
 of-word-requires-2 : tie.Need-of-word-requires-2
 of-word-requires-2 c κs = search needs
 
--- src/items.rt:55:43
 enum-told-3 : tie.Need-enum-told-3
 enum-told-3 c = search needs
 
--- src/items.rt:55:43
 of-word-requires-3 : tie.Need-of-word-requires-3
 of-word-requires-3 c κs = search needs
 
--- src/items.rt:56:39
 enum-told-4 : tie.Need-enum-told-4
 enum-told-4 c = search needs
 
--- src/items.rt:56:39
 of-word-requires-4 : tie.Need-of-word-requires-4
 of-word-requires-4 c κs = search needs
 
--- src/items.rt:58:18
 enum-told-5 : tie.Need-enum-told-5
 enum-told-5 c = search needs
 
--- src/items.rt:58:18
 of-word-requires-5 : tie.Need-of-word-requires-5
 of-word-requires-5 c κs = search needs
 
--- src/items.rt:59:28
 add-long : tie.Need-add-long
 add-long c = search needs
 
--- src/items.rt:59:20
 long-requires : tie.Need-long-requires
 long-requires c κs = search needs
 
--- src/items.rt:61:43
 enum-told-6 : tie.Need-enum-told-6
 enum-told-6 c = search needs
 
--- src/items.rt:61:43
 of-word-requires-6 : tie.Need-of-word-requires-6
 of-word-requires-6 c κs = search needs
 
--- src/items.rt:62:41
 enum-told-7 : tie.Need-enum-told-7
 enum-told-7 c = search needs
 
--- src/items.rt:62:41
 of-word-requires-7 : tie.Need-of-word-requires-7
 of-word-requires-7 c κs = search needs
 
--- src/items.rt:63:35
 enum-told-8 : tie.Need-enum-told-8
 enum-told-8 c = search needs
 
--- src/items.rt:63:35
 of-word-requires-8 : tie.Need-of-word-requires-8
 of-word-requires-8 c κs = search needs
 
--- src/items.rt:65:19
 enum-told-9 : tie.Need-enum-told-9
 enum-told-9 c = search needs
 
--- src/items.rt:65:19
 of-word-requires-9 : tie.Need-of-word-requires-9
 of-word-requires-9 c κs = search needs
 
--- src/items.rt:66:32
 add-time : tie.Need-add-time
 add-time c = search needs
 
--- src/items.rt:66:24
 time-requires : tie.Need-time-requires
 time-requires c κs = search needs
 
--- src/items.rt:67:29
 add-long-2 : tie.Need-add-long-2
 add-long-2 c = search needs
 
--- src/items.rt:67:21
 long-requires-2 : tie.Need-long-requires-2
 long-requires-2 c κs = search needs
 
--- src/items.rt:70:27
 enum-told-10 : tie.Need-enum-told-10
 enum-told-10 c = search needs
 
--- src/items.rt:70:27
 add-long-3 : tie.Need-add-long-3
 add-long-3 c = search needs
 
--- src/items.rt:70:19
 long-requires-3 : tie.Need-long-requires-3
 long-requires-3 c κs = search needs
 
--- src/items.rt:72:40
 enum-told-11 : tie.Need-enum-told-11
 enum-told-11 c = search needs
 
--- src/items.rt:73:43
 enum-told-12 : tie.Need-enum-told-12
 enum-told-12 c = search needs
 
--- src/items.rt:74:43
 enum-told-13 : tie.Need-enum-told-13
 enum-told-13 c = search needs
 
--- src/items.rt:75:39
 enum-told-14 : tie.Need-enum-told-14
 enum-told-14 c = search needs
 
--- src/items.rt:76:41
 enum-told-15 : tie.Need-enum-told-15
 enum-told-15 c = search needs
 
--- src/items.rt:46:1
 returns : tie.Need-returns
-returns c = ?
+returns c = let k = c .before .before .before in let z = k .before .before .before in λ x t. channel-shown (now (z .args .s)) (z .args .at) _ (z .pre) (k .before .word .ensures) x t _ (told k _ (c .before .enum-told .given .1)) (c .of-word .ensures)
 
--- src/items.rt:46:1
 returns-2 : tie.Need-returns-2
-returns-2 c = ?
+returns-2 c = let k = c .before .before .before in let z = k .before .before .before in λ x t. histogram-shown (now (z .args .s)) (z .args .at) _ (z .pre) (k .before .word .ensures) x t _ (told k _ (c .before .enum-told2 .given .1)) (c .of-word2 .ensures)
 
--- src/items.rt:46:1
 returns-3 : tie.Need-returns-3
-returns-3 c = ?
+returns-3 c = let k = c .before .before .before in let z = k .before .before .before in λ x t. hit-shown (now (z .args .s)) (z .args .at) _ (z .pre) (k .before .word .ensures) x t _ (told k _ (c .before .enum-told3 .given .1)) (c .of-word3 .ensures)
 
--- src/items.rt:46:1
 returns-4 : tie.Need-returns-4
-returns-4 c = ?
+returns-4 c = let k = c .before .before .before in let z = k .before .before .before in λ x t. sample-shown (now (z .args .s)) (z .args .at) _ (z .pre) (k .before .word .ensures) x t _ (told k _ (c .before .enum-told4 .given .1)) (c .of-word4 .ensures)
 
--- src/items.rt:46:1
 returns-5 : tie.Need-returns-5
-returns-5 c = ?
+returns-5 c = let k = c .before .before .before .before in let z = k .before .before .before in λ x t. bin-shown (now (z .args .s)) (z .args .at) _ (z .pre) (k .before .word .ensures) x t _ _ (told k _ (c .before .before .enum-told5 .given .1)) (c .before .of-word5 .ensures) (c .long .ensures)
 
--- src/items.rt:46:1
 returns-6 : tie.Need-returns-6
-returns-6 c = ?
+returns-6 c = let k = c .before .before .before in let z = k .before .before .before in λ x t. cell-shown (now (z .args .s)) (z .args .at) _ (z .pre) (k .before .word .ensures) x t _ (told k _ (c .before .enum-told6 .given .1)) (c .of-word6 .ensures)
 
--- src/items.rt:46:1
 returns-7 : tie.Need-returns-7
-returns-7 c = ?
+returns-7 c = let k = c .before .before .before in let z = k .before .before .before in λ x t. time-shown (now (z .args .s)) (z .args .at) _ (z .pre) (k .before .word .ensures) x t _ (told k _ (c .before .enum-told7 .given .1)) (c .of-word7 .ensures)
 
--- src/items.rt:46:1
 returns-8 : tie.Need-returns-8
-returns-8 c = ?
+returns-8 c = let k = c .before .before .before in let z = k .before .before .before in λ x t. text-shown (now (z .args .s)) (z .args .at) _ (z .pre) (k .before .word .ensures) x t _ (told k _ (c .before .enum-told8 .given .1)) (c .of-word8 .ensures)
 
--- src/items.rt:46:1
 returns-9 : tie.Need-returns-9
-returns-9 c = ?
+returns-9 c = let k = c .before .before .before .before .before in let z = k .before .before .before in λ x t. start-shown (now (z .args .s)) (z .args .at) _ (z .pre) (k .before .word .ensures) x t _ _ _ (told k _ (c .before .before .before .enum-told9 .given .1)) (c .before .before .of-word9 .ensures) (c .before .time .ensures) (c .long2 .ensures)
 
--- src/items.rt:46:1
 returns-10 : tie.Need-returns-10
-returns-10 c = ?
+returns-10 c = let k = c .before .before .before in let z = k .before .before .before in λ x t. end-shown (now (z .args .s)) (z .args .at) _ (z .pre) (k .before .word .ensures) x t _ (told k _ (c .before .enum-told10 .given .1)) (c .long3 .ensures)
 
--- src/items.rt:46:1
 returns-11 : tie.Need-returns-11
-returns-11 c = ?
+returns-11 c = let k = c .before .before in let z = k .before .before .before in λ x t. data-shown (now (z .args .s)) (z .args .at) _ (z .pre) (k .before .word .ensures) x t (told k _ (c .enum-told11 .given .1))
 
--- src/items.rt:46:1
 returns-12 : tie.Need-returns-12
-returns-12 c = ?
+returns-12 c = let k = c .before .before in let z = k .before .before .before in λ x t. monitor-shown (now (z .args .s)) (z .args .at) _ (z .pre) (k .before .word .ensures) x t (told k _ (c .enum-told12 .given .1))
 
--- src/items.rt:46:1
 returns-13 : tie.Need-returns-13
-returns-13 c = ?
+returns-13 c = let k = c .before .before in let z = k .before .before .before in λ x t. command-shown (now (z .args .s)) (z .args .at) _ (z .pre) (k .before .word .ensures) x t (told k _ (c .enum-told13 .given .1))
 
--- src/items.rt:46:1
 returns-14 : tie.Need-returns-14
-returns-14 c = ?
+returns-14 c = let k = c .before .before in let z = k .before .before .before in λ x t. frame-end-shown (now (z .args .s)) (z .args .at) _ (z .pre) (k .before .word .ensures) x t (told k _ (c .enum-told14 .given .1))
 
--- src/items.rt:46:1
 returns-15 : tie.Need-returns-15
-returns-15 c = ?
+returns-15 c = let k = c .before .before in let z = k .before .before .before in λ x t. unassigned-shown (now (z .args .s)) (z .args .at) _ (z .pre) (k .before .word .ensures) x t (told k _ (c .enum-told15 .given .1))
 
 pub show-spec : {M : Type 1} → statement M
 show-spec =
