@@ -1,17 +1,16 @@
 -- Where item n of an accepted frame stands: the word index that a walk notes for it is one at which the item stands whole, so a reader that
 -- noted it need not walk again.
 -- Assumes nothing.
-use Prim.Native.Nat.{ℕ, zero, suc, _+_, _-_, _*_, _/_, _<_, _≤_}
+use Prim.Native.Nat.{ℕ, zero, suc, _+_, _-_, _*_, _<_, _≤_}
 use mathlib.Core.Path.{_≡_, refl, sym, ap, ap₂, subst, _∙_}
 use mathlib.Core.List.{List, [], _∷_, map}
 use native.Mathlib.Omega.{arith}
 use mathlib.Core.Bool.{Bool, true, false}
-use lib.Dec.{leb, eqb}
-use lib.ListN.{length, take, drop, length-append}
+use lib.Dec.{leb}
+use lib.ListN.{length, take, length-append}
 use borrow.Author.Tests.{leb-true, leb-false, eq-eqb, ne-eqb}
-use Rattle.format.specs.Words.{pick, words}
 use Rattle.format.specs.Answers.{Outcome, accepted, refused, andThen}
-use Rattle.format.specs.Items.{Item, wordsOf, Token, whole, tokens}
+use Rattle.format.specs.Items.{Item, wordsOf, Token, whole}
 use Rattle.format.specs.Rules.{Kind, total}
 use Rattle.format.specs.Frames.{Frame, behind, allWords, lastOf, kindIn, cardIn, front, body, walk, verdict}
 use Rattle.format.specs.Questions.{Found, nth, itemAt}

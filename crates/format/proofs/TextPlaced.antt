@@ -1,8 +1,8 @@
 -- A text that stands at a word: its bytes are those of the frame right after that word.
 -- Assumes nothing.
-use Prim.Native.Nat.{ℕ, suc, _+_, _-_, _*_, _/_, _%_, _<_, _≤_}
+use Prim.Native.Nat.{ℕ, _+_, _-_, _*_, _%_, _<_, _≤_}
 use mathlib.Core.Path.{_≡_, refl, sym, ap, ap₂, _∙_}
-use mathlib.Core.List.{List, [], _∷_}
+use mathlib.Core.List.{List}
 use mathlib.Core.Bool.{Bool, true, false, true≢false}
 use mathlib.Core.Option.{Option, none, some}
 use native.Mathlib.Omega.{arith}
@@ -11,10 +11,10 @@ use lib.ListN.{length, take, drop}
 use lib.Seq.{take-take, length-take-le}
 use Rattle.format.specs.Words.{Bytes, pick, words, bytes, wordAt, longOf}
 use Rattle.format.specs.Book.{Class, channel, histogram, hitCount, sample, bin, lastCell, timeBin, dataFrame, monitorFrame, commandFrame, text, startEvent, endEvent, frameEnd, unassigned, classOf, after, textWords}
-use Rattle.format.specs.Items.{Item, Text, EndEvent, classFor, closed, decode, whole, tokenOf}
+use Rattle.format.specs.Items.{Item, Text, EndEvent, classFor, closed, decode, whole}
 use Rattle.format.specs.Rules.{same}
 use Rattle.format.specs.Steps.{tokenAt}
-use Rattle.format.proofs.TextLaws.{TextRead, text-back}
+use Rattle.format.proofs.TextLaws.{text-back}
 use Rattle.format.proofs.ItemLaws.{token-passed}
 use Rattle.format.proofs.StepLaws.{left-after}
 use Rattle.format.proofs.ItemQuestions.{no-some, some-is}

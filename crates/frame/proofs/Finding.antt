@@ -1,22 +1,25 @@
 -- From the noted index to the answer of the item question, and from that to the part that the text question gives.
 -- Assumes nothing.
-use Prim.Native.Nat.{ℕ, suc, _+_, _-_, _*_, _/_, _%_, _≤_, _<_}
+use Prim.Native.Nat.{ℕ, zero, suc, _+_, _-_, _*_, _/_, _≤_, _<_}
 use mathlib.Core.Path.{_≡_, refl, sym, ap, ap₂, subst, _∙_}
 use mathlib.Core.List.{List, [], _∷_, _++_}
 use native.Mathlib.Omega.{arith}
 use lib.ListN.{length, take, drop, length-append}
-use Rattle.format.specs.Words.{Bytes, words, wordAt}
+use Rattle.format.specs.Words.{Bytes, wordAt}
 use Rattle.format.specs.Answers.{Outcome, accepted, refused, andThen}
 use Rattle.format.specs.Book.{classOf, after}
 use Rattle.format.specs.Items.{ItemOf, Item, Channel, Histogram, HitCount, Sample, Bin, LastCell, TimeBin, Text, StartEvent, EndEvent, wordsOf, whole}
-use Rattle.format.specs.Frames.{lastOf}
+use Rattle.format.specs.Frames.{Frame, allWords, lastOf, verdict}
+use Rattle.format.specs.Stands as stands
+use Rattle.format.specs.Stands.{ItemIs}
 use Rattle.format.specs.Steps.{tokenAt, nextAt, Indexed, indexOf}
-use Rattle.format.specs.Questions.{shown, Found, itemAt, Shown, shownAt, textIn, textFound, textAt}
+use Rattle.format.specs.Questions.{shown, Found, itemAt, Shown, shownAt, textFound, textAt}
 use Rattle.format.proofs.WordLaws.{length-words}
 use Rattle.format.proofs.StepLaws.{next-at}
+use Rattle.format.proofs.ItemQuestions.{item-there}
 use Rattle.format.proofs.Placed.{Placed, index-refused, item-absent, item-placed, found-placed}
 use Rattle.format.proofs.TextPlaced.{texted}
-use Rattle.frame.specs.Parts.{textCount, fromIn, fromFound, textFrom}
+use Rattle.frame.specs.Parts.{textCount, fromFound, textFrom}
 
 -- ---- the item question
 
@@ -155,3 +158,23 @@ module _ (s : List ℕ) (n : ℕ) where
             text-part-of p t k at nk g f (omega arith) (w .token ∙ ap (λ (z : Found). whole (z .item)) r) (sym (ap (λ (z : Found). z .next) r))
         go (StartEvent i j l) k f nk g = absurd (omega arith)
         go (EndEvent i) k f nk g = absurd (omega arith)
+
+-- ---- T11, where the part begins: of an accepted frame's item n, a text, right after its word
+
+next-index : (n : ℕ) (before after : List Item) (x : Item) → length before ≡ n
+    → length (allWords (take (suc n) (before ++ (x ∷ after)))) ≡ length (allWords (take n (before ++ (x ∷ after)))) + length (wordsOf x)
+unfolding allWords
+next-index zero [] after x e = omega (arith, length-append (wordsOf x) [])
+next-index zero (y ∷ before) after x e = absurd (omega arith)
+next-index (suc n) [] after x e = absurd (omega arith)
+next-index (suc n) (y ∷ before) after x e =
+    let a = length-append (wordsOf y) (allWords (take (suc n) (before ++ (x ∷ after)))) in
+    let b = length-append (wordsOf y) (allWords (take n (before ++ (x ∷ after)))) in
+    omega (arith, a, b, next-index n before after x (omega arith))
+
+pub text-begins : (s : List ℕ) (f : Frame) → verdict s ≡ accepted f → (n : ℕ) (t : List ℕ) → ItemIs (f .items) n (Text t)
+    → textFrom s n ≡ 2 * stands.indexOf (f .items) n + 2
+unfolding textFrom
+text-begins s f v n t h =
+    let i = subst (λ (xs : List Item). length (allWords (take (suc n) xs)) ≡ length (allWords (take n xs)) + length (wordsOf (Text t))) (sym (h .items)) (next-index n (h .before) (h .after) (Text t) (h .ordinal)) in
+    ap fromFound (item-there s f v n (Text t) h) ∙ omega arith

@@ -5,3 +5,4 @@ pub mod Loop
 pub mod Judging
 pub mod Shows
 pub mod Finding
+pub mod Unique

@@ -9,15 +9,6 @@ use Rattle.frame.proofs.Shows.{channel-shown, histogram-shown, hit-show
 use borrow.Author.Needs.{needs}
 use Rattle.frame.proofs.items.show.Statement.{statement}
 use Rattle.frame.proofs.items.show.Tie as tie
-use Rattle.book.proofs.items.Bin.of_word.Reads as items-Bin-of-word-reads
-use Rattle.book.proofs.items.Channel.of_word.Reads as items-Channel-of-word-reads
-use Rattle.book.proofs.items.Histogram.of_word.Reads as items-Histogram-of-word-reads
-use Rattle.book.proofs.items.HitCount.of_word.Reads as items-HitCount-of-word-reads
-use Rattle.book.proofs.items.LastCell.of_word.Reads as items-LastCell-of-word-reads
-use Rattle.book.proofs.items.Sample.of_word.Reads as items-Sample-of-word-reads
-use Rattle.book.proofs.items.StartEvent.of_word.Reads as items-StartEvent-of-word-reads
-use Rattle.book.proofs.items.Text.of_word.Reads as items-Text-of-word-reads
-use Rattle.book.proofs.items.TimeBin.of_word.Reads as items-TimeBin-of-word-reads
 
 -- the class that was found is that of the word
 told : (c : tie.After-classify) (k : Class) → c .classify .result ≡ k → view k ≡ classOf (c .before .word .result)

@@ -6,7 +6,6 @@ use native.Mathlib.Omega.{arith}
 use denote.Ref.{now, ptr}
 use Rattle.format.specs.Answers.{accepted}
 use Rattle.format.specs.Questions.{shownAt}
-use Rattle.book.specs.Views.{viewItem}
 use Rattle.frame.specs.Parts.{within}
 use Rattle.frame.specs.Views.{viewFound, viewFoundItem}
 use Rattle.frame.proofs.Finding.{text-refused, text-none, Part, text-part}
