@@ -55,3 +55,5 @@ pub mod SpotLaws
 pub mod PutLaws
 pub mod Stability
 pub mod SpotKeys
+pub mod Placed
+pub mod TextPlaced

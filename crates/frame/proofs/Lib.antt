@@ -3,3 +3,6 @@ pub mod Steps
 pub mod TextLoops
 pub mod Loop
 pub mod Judging
+pub mod Shows
+pub mod Finding
+pub mod Unique
