@@ -13,6 +13,8 @@ pub fn answer(case: Case, p: &mut [u8], q: &mut [u8], line: &mut [u8]) -> usize 
     match op {
         0 => ops_book::classify(case.a0, line),
         1 => ops_frame::read(p, line),
+        2 => ops_frame::item(p, case.a0, line),
+        3 => ops_frame::text(p, case.a0, line),
         11 => ops_follower::follow(case.a0, case.a1, line),
         _ => 0,
     }
