@@ -1,4 +1,4 @@
--- `frame::items::item` meets its contract.
+-- `frame::items::item` meets its contract: the walk noted where the item stands.
 -- Assumes nothing.
 use mathlib.Core.Path.{_≡_, ap, sym, _∙_}
 use native.Mathlib.Omega.{arith}

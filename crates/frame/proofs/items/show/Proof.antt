@@ -1,4 +1,4 @@
--- `frame::items::show` meets its contract.
+-- `frame::items::show` meets its contract: each arm is the item of its class.
 -- Assumes nothing.
 use mathlib.Core.Path.{_≡_, ap, sym, _∙_}
 use denote.Ref.{now}
@@ -117,49 +117,79 @@ enum-told-15 : tie.Need-enum-told-15
 enum-told-15 c = search needs
 
 returns : tie.Need-returns
-returns c = let k = c .before .before .before in let z = k .before .before .before in λ x t. channel-shown (now (z .args .s)) (z .args .at) _ (z .pre) (k .before .word .ensures) x t _ (told k _ (c .before .enum-told .given .1)) (c .of-word .ensures)
+returns c =
+    let k = c .before .before .before in
+    λ x t. channel-shown _ _ _ (k .before .before .before .pre) (k .before .word .ensures) x t _ (told k _ (c .before .enum-told .given .1)) (c .of-word .ensures)
 
 returns-2 : tie.Need-returns-2
-returns-2 c = let k = c .before .before .before in let z = k .before .before .before in λ x t. histogram-shown (now (z .args .s)) (z .args .at) _ (z .pre) (k .before .word .ensures) x t _ (told k _ (c .before .enum-told2 .given .1)) (c .of-word2 .ensures)
+returns-2 c =
+    let k = c .before .before .before in
+    λ x t. histogram-shown _ _ _ (k .before .before .before .pre) (k .before .word .ensures) x t _ (told k _ (c .before .enum-told2 .given .1)) (c .of-word2 .ensures)
 
 returns-3 : tie.Need-returns-3
-returns-3 c = let k = c .before .before .before in let z = k .before .before .before in λ x t. hit-shown (now (z .args .s)) (z .args .at) _ (z .pre) (k .before .word .ensures) x t _ (told k _ (c .before .enum-told3 .given .1)) (c .of-word3 .ensures)
+returns-3 c =
+    let k = c .before .before .before in
+    λ x t. hit-shown _ _ _ (k .before .before .before .pre) (k .before .word .ensures) x t _ (told k _ (c .before .enum-told3 .given .1)) (c .of-word3 .ensures)
 
 returns-4 : tie.Need-returns-4
-returns-4 c = let k = c .before .before .before in let z = k .before .before .before in λ x t. sample-shown (now (z .args .s)) (z .args .at) _ (z .pre) (k .before .word .ensures) x t _ (told k _ (c .before .enum-told4 .given .1)) (c .of-word4 .ensures)
+returns-4 c =
+    let k = c .before .before .before in
+    λ x t. sample-shown _ _ _ (k .before .before .before .pre) (k .before .word .ensures) x t _ (told k _ (c .before .enum-told4 .given .1)) (c .of-word4 .ensures)
 
 returns-5 : tie.Need-returns-5
-returns-5 c = let k = c .before .before .before .before in let z = k .before .before .before in λ x t. bin-shown (now (z .args .s)) (z .args .at) _ (z .pre) (k .before .word .ensures) x t _ _ (told k _ (c .before .before .enum-told5 .given .1)) (c .before .of-word5 .ensures) (c .long .ensures)
+returns-5 c =
+    let k = c .before .before .before .before in
+    λ x t. bin-shown _ _ _ (k .before .before .before .pre) (k .before .word .ensures) x t _ _ (told k _ (c .before .before .enum-told5 .given .1)) (c .before .of-word5 .ensures) (c .long .ensures)
 
 returns-6 : tie.Need-returns-6
-returns-6 c = let k = c .before .before .before in let z = k .before .before .before in λ x t. cell-shown (now (z .args .s)) (z .args .at) _ (z .pre) (k .before .word .ensures) x t _ (told k _ (c .before .enum-told6 .given .1)) (c .of-word6 .ensures)
+returns-6 c =
+    let k = c .before .before .before in
+    λ x t. cell-shown _ _ _ (k .before .before .before .pre) (k .before .word .ensures) x t _ (told k _ (c .before .enum-told6 .given .1)) (c .of-word6 .ensures)
 
 returns-7 : tie.Need-returns-7
-returns-7 c = let k = c .before .before .before in let z = k .before .before .before in λ x t. time-shown (now (z .args .s)) (z .args .at) _ (z .pre) (k .before .word .ensures) x t _ (told k _ (c .before .enum-told7 .given .1)) (c .of-word7 .ensures)
+returns-7 c =
+    let k = c .before .before .before in
+    λ x t. time-shown _ _ _ (k .before .before .before .pre) (k .before .word .ensures) x t _ (told k _ (c .before .enum-told7 .given .1)) (c .of-word7 .ensures)
 
 returns-8 : tie.Need-returns-8
-returns-8 c = let k = c .before .before .before in let z = k .before .before .before in λ x t. text-shown (now (z .args .s)) (z .args .at) _ (z .pre) (k .before .word .ensures) x t _ (told k _ (c .before .enum-told8 .given .1)) (c .of-word8 .ensures)
+returns-8 c =
+    let k = c .before .before .before in
+    λ x t. text-shown _ _ _ (k .before .before .before .pre) (k .before .word .ensures) x t _ (told k _ (c .before .enum-told8 .given .1)) (c .of-word8 .ensures)
 
 returns-9 : tie.Need-returns-9
-returns-9 c = let k = c .before .before .before .before .before in let z = k .before .before .before in λ x t. start-shown (now (z .args .s)) (z .args .at) _ (z .pre) (k .before .word .ensures) x t _ _ _ (told k _ (c .before .before .before .enum-told9 .given .1)) (c .before .before .of-word9 .ensures) (c .before .time .ensures) (c .long2 .ensures)
+returns-9 c =
+    let k = c .before .before .before .before .before in
+    λ x t. start-shown _ _ _ (k .before .before .before .pre) (k .before .word .ensures) x t _ _ _ (told k _ (c .before .before .before .enum-told9 .given .1)) (c .before .before .of-word9 .ensures) (c .before .time .ensures) (c .long2 .ensures)
 
 returns-10 : tie.Need-returns-10
-returns-10 c = let k = c .before .before .before in let z = k .before .before .before in λ x t. end-shown (now (z .args .s)) (z .args .at) _ (z .pre) (k .before .word .ensures) x t _ (told k _ (c .before .enum-told10 .given .1)) (c .long3 .ensures)
+returns-10 c =
+    let k = c .before .before .before in
+    λ x t. end-shown _ _ _ (k .before .before .before .pre) (k .before .word .ensures) x t _ (told k _ (c .before .enum-told10 .given .1)) (c .long3 .ensures)
 
 returns-11 : tie.Need-returns-11
-returns-11 c = let k = c .before .before in let z = k .before .before .before in λ x t. data-shown (now (z .args .s)) (z .args .at) _ (z .pre) (k .before .word .ensures) x t (told k _ (c .enum-told11 .given .1))
+returns-11 c =
+    let k = c .before .before in
+    λ x t. data-shown _ _ _ (k .before .before .before .pre) (k .before .word .ensures) x t (told k _ (c .enum-told11 .given .1))
 
 returns-12 : tie.Need-returns-12
-returns-12 c = let k = c .before .before in let z = k .before .before .before in λ x t. monitor-shown (now (z .args .s)) (z .args .at) _ (z .pre) (k .before .word .ensures) x t (told k _ (c .enum-told12 .given .1))
+returns-12 c =
+    let k = c .before .before in
+    λ x t. monitor-shown _ _ _ (k .before .before .before .pre) (k .before .word .ensures) x t (told k _ (c .enum-told12 .given .1))
 
 returns-13 : tie.Need-returns-13
-returns-13 c = let k = c .before .before in let z = k .before .before .before in λ x t. command-shown (now (z .args .s)) (z .args .at) _ (z .pre) (k .before .word .ensures) x t (told k _ (c .enum-told13 .given .1))
+returns-13 c =
+    let k = c .before .before in
+    λ x t. command-shown _ _ _ (k .before .before .before .pre) (k .before .word .ensures) x t (told k _ (c .enum-told13 .given .1))
 
 returns-14 : tie.Need-returns-14
-returns-14 c = let k = c .before .before in let z = k .before .before .before in λ x t. frame-end-shown (now (z .args .s)) (z .args .at) _ (z .pre) (k .before .word .ensures) x t (told k _ (c .enum-told14 .given .1))
+returns-14 c =
+    let k = c .before .before in
+    λ x t. frame-end-shown _ _ _ (k .before .before .before .pre) (k .before .word .ensures) x t (told k _ (c .enum-told14 .given .1))
 
 returns-15 : tie.Need-returns-15
-returns-15 c = let k = c .before .before in let z = k .before .before .before in λ x t. unassigned-shown (now (z .args .s)) (z .args .at) _ (z .pre) (k .before .word .ensures) x t (told k _ (c .enum-told15 .given .1))
+returns-15 c =
+    let k = c .before .before in
+    λ x t. unassigned-shown _ _ _ (k .before .before .before .pre) (k .before .word .ensures) x t (told k _ (c .enum-told15 .given .1))
 
 pub show-spec : {M : Type 1} → statement M
 show-spec =

@@ -1,4 +1,4 @@
--- `frame::items::text` meets its contract.
+-- `frame::items::text` meets its contract: the bytes, and where the part lies.
 -- Assumes nothing.
 use Prim.Native.Nat.{_≤_}
 use mathlib.Core.Path.{_≡_, ap, sym, _∙_}
@@ -52,7 +52,9 @@ part-result-end-2 : tie.Need-part-result-end-2
 part-result-end-2 c = search needs
 
 returns : tie.Need-returns
-returns c = let p = text-none _ _ _ _ (told (c .before .before)) _ (c .before .before .text-count .ensures) (omega arith) in (p .0, ap (within (ptr (c .before .before .before .before .before .before .before .before .args .s))) (p .1))
+returns c =
+    let p = text-none _ _ _ _ (told (c .before .before)) _ (c .before .before .text-count .ensures) (omega arith) in
+    (p .0, ap (within (ptr (c .before .before .before .before .before .before .before .before .args .s))) (p .1))
 
 add-from : tie.Need-add-from
 add-from c = let p = part (c .before) (omega arith) in omega (arith, p .after-word, p .inside)
@@ -76,10 +78,14 @@ part-result-end-3 : tie.Need-part-result-end-3
 part-result-end-3 c = let p = part (c .before .before) (omega arith) in omega (arith, p .after-word, p .inside)
 
 returns-2 : tie.Need-returns-2
-returns-2 c = let p = text-refused (now (c .before .before .before .before .before .args .s)) (c .before .before .before .before .before .args .n) _ _ (sym (ap viewFound (c .before .enum-told .given .1)) ∙ c .before .before .before .item .ensures) in (p .0, ap (within (ptr (c .before .before .before .before .before .args .s))) (p .1))
+returns-2 c =
+    let p = text-refused (now (c .before .before .before .before .before .args .s)) (c .before .before .before .before .before .args .n) _ _ (sym (ap viewFound (c .before .enum-told .given .1)) ∙ c .before .before .before .item .ensures) in
+    (p .0, ap (within (ptr (c .before .before .before .before .before .args .s))) (p .1))
 
 returns-3 : tie.Need-returns-3
-returns-3 c = let p = part (c .before .before .before) (omega arith) in (p .bytes-are (λ i. (c .before .before .before .before .before .before .before .before .shared-slice-known .given i) .fits), ap (within (ptr (c .before .before .before .before .before .before .before .before .before .args .s))) (p .from-is))
+returns-3 c =
+    let p = part (c .before .before .before) (omega arith) in
+    (p .bytes-are (λ i. (c .before .before .before .before .before .before .before .before .shared-slice-known .given i) .fits), ap (within (ptr (c .before .before .before .before .before .before .before .before .before .args .s))) (p .from-is))
 
 pub text-spec : {M : Type 1} → statement M
 text-spec =
