@@ -1,4 +1,4 @@
--- The scans over a data frame's items: what a word tells there, and the search for an event, for its size and for a channel.
+-- What a word tells in a scan over a data frame's items: of one word, a Start event, or an End event.
 -- Assumes nothing.
 use Prim.Native.Nat.{ℕ, zero, suc, _+_, _-_, _*_, _/_, _%_, _<_, _≤_}
 use mathlib.Core.Path.{_≡_, refl, sym, ap, ap₂, subst, _∙_}
@@ -100,23 +100,7 @@ module _ (s : List ℕ) (at : ℕ) where
       let j : n ≡ longAt s (at + 1) = omega arith in
       end-word (omega arith) (ap EndEvent j)
 
--- ---- the search for event e
-
-pub record Seeking (s : List ℕ) (card e left at : ℕ) : Type 0 where
-  pub standing : Standing s dataKind card at
-  pub same : pickNth left (events (at + 3) (itemsFrom s at)) ≡ pickNth e (events 3 (itemsFrom s 0))
-
-pub seeking-start : (s : List ℕ) (card e : ℕ) → Standing s dataKind card 0 → Seeking s card e e 0
-seeking-start s card e g = record { standing = g; same = refl }
-
-plain-event : (at : ℕ) (x : Item) (xs : List Item) → opens at x xs ≡ [] → events at (x ∷ xs) ≡ events (at + length (wordsOf x)) xs
-unfolding events
-plain-event at x xs e = ap (λ (l : List Opened). l ++ events (at + length (wordsOf x)) xs) e
-
-start-event : (at t ts n : ℕ) (xs : List Item)
-    → events at (StartEvent t ts n ∷ xs) ≡ record { event = record { kind = t; timestamp = ts; number = n; size = first (gather endSize xs); index = at }; items = xs } ∷ events (at + 6) xs
-unfolding events wordsOf
-start-event at t ts n xs = refl
+-- ---- what stands at a word
 
 length-start : (t ts n : ℕ) → length (wordsOf (StartEvent t ts n)) ≡ 6
 unfolding wordsOf
@@ -126,82 +110,64 @@ length-end : (n : ℕ) → length (wordsOf (EndEvent n)) ≡ 3
 unfolding wordsOf
 length-end n = refl
 
-module _ (s : List ℕ) (card e left at : ℕ) (k : Seeking s card e left at) (l : at < length s / 2) (w : ℕ) (i : w ≡ wordAt s at) where
-  abbrev h : Here s dataKind card at (k .standing)
-  h = here s dataKind card at (k .standing) l
+module _ (s : List ℕ) (card at : ℕ) (g : Standing s dataKind card at) where
+  -- an item of one word
+  pub record Single : Type 0 where
+    pub x : Item
+    pub split : itemsFrom s at ≡ x ∷ itemsFrom s (at + 1)
+    pub one : length (wordsOf x) ≡ 1
+    pub plain : Plain x
+    pub allowed : Allowed dataKind card (g .earlier) x
+    pub word : wordAt s at ≡ getD (wordsOf x) 0 0
+    pub next : Standing s dataKind card (at + 1)
+    pub behind : next .earlier ≡ x ∷ g .earlier
 
-  abbrev form : Shape s at (h .x)
-  form = shape s at card (k .standing .earlier) (h .x) (h .rest) (h .allowed) (h .reads)
+  -- an item with words after its own
+  pub record Wide (x : Item) (n : ℕ) : Type 0 where
+    pub split : itemsFrom s at ≡ x ∷ itemsFrom s (at + n)
+    pub next : Standing s dataKind card (at + n)
 
-  -- past an item that opens no event
-  past-item : (n : ℕ) → length (wordsOf (h .x)) ≡ n → ((at : ℕ) (xs : List Item) → opens at (h .x) xs ≡ []) → Seeking s card e left (at + n)
-  past-item n m o =
-      subst (λ (n : ℕ). Seeking s card e left (at + n)) m
-      (record {
-        standing = h .next;
-        same =
-            ap (λ (j : ℕ). pickNth left (events j (itemsFrom s (at + length (wordsOf (h .x)))))) (omega arith)
-            ∙ sym (ap (pickNth left) (ap (events (at + 3)) (h .split) ∙ plain-event (at + 3) (h .x) _ (o (at + 3) _)))
-            ∙ k .same;
-      })
+  module _ (l : at < length s / 2) (w : ℕ) (i : w ≡ wordAt s at) where
+    abbrev h : Here s dataKind card at g
+    h = here s dataKind card at g l
 
-  pub seeking-one : 0x0100 ≤ w → Seeking s card e left (at + 1)
-  seeking-one a = go form
-    where
-      go : Shape s at (h .x) → Seeking s card e left (at + 1)
-      go (one-word b m q) = past-item 1 m (q .no-event)
-      go (start-word b c x) = absurd (omega arith)
-      go (end-word b x) = absurd (omega arith)
+    abbrev form : Shape s at (h .x)
+    form = shape s at card (g .earlier) (h .x) (h .rest) (h .allowed) (h .reads)
 
-  pub seeking-end : w < 0x00F0 → Seeking s card e left (at + 3)
-  seeking-end a = go form
-    where
-      go : Shape s at (h .x) → Seeking s card e left (at + 3)
-      go (one-word b m q) = absurd (omega arith)
-      go (start-word b c x) = absurd (omega arith)
-      go (end-word b x) = past-item 3 (ap (λ (y : Item). length (wordsOf y)) x ∙ length-end _) (λ at xs. ap (λ (y : Item). opens at y xs) x)
+    pub single : 0x0100 ≤ w → Single
+    single a = go form
+      where
+        first-of : (ws : List ℕ) → length ws ≡ 1 → drop at (words s) ≡ ws ++ h .rest → wordAt s at ≡ getD ws 0 0
+        first-of [] n r = absurd (omega arith)
+        first-of (v ∷ ws) n r = reads-first s at _ r
 
-  -- at a Start event
-  record Opening : Type 0 where
-    next : Standing s dataKind card (at + 6)
-    first : events (at + 3) (itemsFrom s at) ≡ openedAt s at ∷ events (at + 6 + 3) (itemsFrom s (at + 6))
+        go : Shape s at (h .x) → Single
+        go (one-word b m q) =
+            let (f, t, e) = subst (λ (n : ℕ). (itemsFrom s at ≡ h .x ∷ itemsFrom s (at + n)) × (y : Standing s dataKind card (at + n)) × (y .earlier ≡ h .x ∷ g .earlier)) m (h .split, h .next, h .behind) in
+            record { x = h .x; split = f; one = m; plain = q; allowed = h .allowed; word = first-of (wordsOf (h .x)) m (h .reads); next = t; behind = e }
+        go (start-word b c x) = absurd (omega arith)
+        go (end-word b x) = absurd (omega arith)
 
-  opening : 0x00F0 ≤ w → w < 0x0100 → Opening
-  opening a b = go form
-    where
-      go : Shape s at (h .x) → Opening
-      go (one-word c m q) = absurd (omega arith)
-      go (end-word c x) = absurd (omega arith)
-      go (start-word c d x) =
-          let m : length (wordsOf (h .x)) ≡ 6 = ap (λ (y : Item). length (wordsOf y)) x ∙ length-start _ _ _ in
-          record {
-            next = subst (λ (n : ℕ). Standing s dataKind card (at + n)) m (h .next);
-            first =
-                ap (events (at + 3)) (h .split ∙ ap₂ (λ (y : Item) (n : ℕ). y ∷ itemsFrom s (at + n)) x m)
-                ∙ start-event (at + 3) _ _ _ _
-                ∙ ap (λ (j : ℕ). openedAt s at ∷ events j (itemsFrom s (at + 6))) (omega arith);
-          }
+    wide : (x : Item) (n : ℕ) → h .x ≡ x → length (wordsOf x) ≡ n → Wide x n
+    wide x n e m =
+        let k : length (wordsOf (h .x)) ≡ n = ap (λ (y : Item). length (wordsOf y)) e ∙ m in
+        record {
+          split = h .split ∙ ap₂ (λ (y : Item) (n : ℕ). y ∷ itemsFrom s (at + n)) e k;
+          next = subst (λ (n : ℕ). Standing s dataKind card (at + n)) k (h .next);
+        }
 
-  pub seeking-start-word : 0x00F0 ≤ w → w < 0x0100 → (left ≡ 0 → ⊥) → Seeking s card e (left - 1) (at + 6)
-  unfolding pickNth
-  seeking-start-word a b n =
-      let o = opening a b in
-      let m : left ≡ suc (left - 1) = omega arith in
-      record {
-        standing = o .next;
-        same = sym (ap₂ (λ (j : ℕ) (l : List Opened). pickNth j l) m (o .first)) ∙ k .same;
-      }
+    pub started : 0x00F0 ≤ w → w < 0x0100 → Wide (StartEvent (wordAt s at % 16) (timeAt s (at + 1)) (longAt s (at + 4))) 6
+    started a b = go form
+      where
+        go : Shape s at (h .x) → Wide (StartEvent (wordAt s at % 16) (timeAt s (at + 1)) (longAt s (at + 4))) 6
+        go (one-word c m q) = absurd (omega arith)
+        go (start-word c d x) = wide _ 6 x (length-start _ _ _)
+        go (end-word c x) = absurd (omega arith)
 
-  pub seeking-found : 0x00F0 ≤ w → w < 0x0100 → left ≡ 0 → EventAt s card e at
-  unfolding pickNth
-  seeking-found a b z =
-      let o = opening a b in
-      record {
-        within = omega arith;
-        picked = sym (k .same) ∙ ap₂ (λ (j : ℕ) (l : List Opened). pickNth j l) z (o .first);
-        standing = o .next;
-      }
-
-pub seeking-none : (s : List ℕ) (card e left at : ℕ) → Seeking s card e left at → length s / 2 ≤ at → pickNth e (events 3 (itemsFrom s 0)) ≡ none
-unfolding pickNth events
-seeking-none s card e left at k l = sym (k .same) ∙ ap (λ (xs : List Item). pickNth left (events (at + 3) xs)) (nothing-left s dataKind card at (k .standing) l)
+    pub ended : w < 0x00F0 → Wide (EndEvent (longAt s (at + 1))) 3
+    ended a = go form
+      where
+        go : Shape s at (h .x) → Wide (EndEvent (longAt s (at + 1))) 3
+        go (one-word c m q) = absurd (omega arith)
+        go (start-word c d x) = absurd (omega arith)
+        go (end-word c x) = wide _ 3 x (length-end _)

@@ -1,2 +1,3 @@
 pub mod Scanning
 pub mod DataScan
+pub mod EventScan

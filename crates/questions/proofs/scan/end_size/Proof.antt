@@ -1,63 +1,57 @@
+-- `questions::scan::end_size` meets its contract.
+-- Assumes nothing.
+use Prim.Native.Nat.{ℕ, _-_, _/_}
+use mathlib.Core.Path.{_≡_, refl}
+use native.Mathlib.Omega.{arith}
+use lib.ListN.{length}
+use borrow.Author.Needs.{needs}
+use Rattle.format.specs.Rules.{dataKind}
+use Rattle.questions.specs.Standing.{Standing}
+use Rattle.questions.proofs.EventScan.{Sizing, sizing-start, sizing-one, sizing-start-word, sizing-found, sizing-none}
 use Rattle.questions.proofs.scan.end_size.Statement.{statement}
 use Rattle.questions.proofs.scan.end_size.Tie as tie
-use Rattle.questions.proofs.scan.end_size.Reads as reads
-use Rattle.questions.proofs.scan.end_size.Lts as lts
-use Rattle.book.proofs.words.long.Reads as long-reads
-use Rattle.questions.proofs.scan.word_in.Reads as word-in-reads
 
 abbrev Inv-loop : tie.InvT-loop
-Inv-loop s from last at₀ at = ?
+Inv-loop s from last at₀ at = (last ≡ length s / 2) × ((card : ℕ) → Standing s dataKind card from → Sizing s card from at)
 
 abbrev μ-loop : tie.MeasureT-loop
-μ-loop s from last at₀ at = ?
+μ-loop s from last at₀ at = last - at
 
--- src/scan.rt:81:5
 loop-holds : tie.Need-loop-holds Inv-loop μ-loop
-loop-holds c = ?
+loop-holds c = (refl, λ card g. sizing-start _ card _ g)
 
--- src/scan.rt:82:13
 word-in-requires : tie.Need-word-in-requires Inv-loop μ-loop
-word-in-requires c κs = ?
+word-in-requires c κs = omega arith
 
--- src/scan.rt:84:13
 add-at : tie.Need-add-at Inv-loop μ-loop
-add-at c = ?
+add-at c = omega arith
 
--- src/scan.rt:81:5
 loop-less : tie.Need-loop-less Inv-loop μ-loop
-loop-less c = ?
+loop-less c = omega arith
 
--- src/scan.rt:81:5
 loop-again : tie.Need-loop-again Inv-loop μ-loop
-loop-again c = ?
+loop-again c = let w = c .before in let v = w .before .before .loop .inv in (v .0, λ card g. sizing-one _ card _ _ (v .1 card g) (omega arith) _ (w .word-in .ensures) (c .if1 .taken))
 
--- src/scan.rt:88:28
 add-long : tie.Need-add-long Inv-loop μ-loop
-add-long c = ?
+add-long c = omega arith
 
--- src/scan.rt:88:13
 long-requires : tie.Need-long-requires Inv-loop μ-loop
-long-requires c κs = ?
+long-requires c κs = search needs
 
--- src/scan.rt:88:13
 returns : tie.Need-returns Inv-loop μ-loop
-returns c = ?
+returns c = λ card g. let w = c .before .before .before in let v = w .before .before .loop .inv in sizing-found _ card _ _ (v .1 card g) (omega arith) _ (w .word-in .ensures) (omega arith) _ (c .long .ensures)
 
--- src/scan.rt:90:9
 add-at-2 : tie.Need-add-at-2 Inv-loop μ-loop
-add-at-2 c = ?
+add-at-2 c = omega arith
 
--- src/scan.rt:81:5
 loop-less-2 : tie.Need-loop-less-2 Inv-loop μ-loop
-loop-less-2 c = ?
+loop-less-2 c = omega arith
 
--- src/scan.rt:81:5
 loop-again-2 : tie.Need-loop-again-2 Inv-loop μ-loop
-loop-again-2 c = ?
+loop-again-2 c = let w = c .before .before in let v = w .before .before .loop .inv in (v .0, λ card g. sizing-start-word _ card _ _ (v .1 card g) (omega arith) _ (w .word-in .ensures) (omega arith) (omega arith))
 
--- src/scan.rt:76:1
 returns-2 : tie.Need-returns-2 Inv-loop μ-loop
-returns-2 c = ?
+returns-2 c = λ card g. let v = c .before .loop .inv in sizing-none _ card _ _ (v .1 card g) (omega arith)
 
 pub end-size-spec : {M : Type 1} → statement M
 end-size-spec =
