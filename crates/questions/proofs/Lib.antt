@@ -1,3 +1,5 @@
 pub mod Scanning
 pub mod DataScan
 pub mod EventScan
+pub mod Reading
+pub mod EventAnswers

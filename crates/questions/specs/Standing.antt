@@ -7,11 +7,12 @@ use mathlib.Core.List.{List, [], _∷_}
 use mathlib.Core.Option.{none, some}
 use lib.ListN.{length, drop}
 use Rattle.format.specs.Words.{words, wordAt, timeAt, longAt}
+use Rattle.format.specs.Answers.{Outcome, accepted, andThen, Done}
 use Rattle.format.specs.Book.{endEvent}
 use Rattle.format.specs.Items.{Item, Channel, three, Token, whole, broken, flawed, tokens}
 use Rattle.format.specs.Rules.{Kind, dataKind, monitorKind, gather, first}
 use Rattle.format.specs.Frames.{Sound, allWords}
-use Rattle.format.specs.Questions.{Opened, endSize, events, pickNth, until, past, isChannel, isHistogram}
+use Rattle.format.specs.Questions.{Event, Opened, endSize, events, pickNth, present, done, until, past, isChannel, isHistogram}
 use Rattle.questions.specs.declared.answers.Place.{Place}
 use Rattle.questions.specs.declared.answers.Place.the-variants as place
 
@@ -32,6 +33,11 @@ pub record Standing (s : List ℕ) (kind : Kind) (card at : ℕ) : Type 0 where
   pub sound : Sound kind card earlier (itemsFrom s at)
   pub only : drop at (words s) ≡ allWords (itemsFrom s at)
   pub even : length s % 2 ≡ 0
+
+-- the same, whatever the card
+pub record Stands (s : List ℕ) (kind : Kind) (at : ℕ) : Type 0 where
+  pub card : ℕ
+  pub standing : Standing s kind card at
 
 -- the word of a header, with the prefix that its class has
 pub record Header (prefix w card chip c : ℕ) : Type 0 where
@@ -61,6 +67,15 @@ pub record EventAt (s : List ℕ) (card e q : ℕ) : Type 0 where
 abbrev pub EventSought : List ℕ → ℕ → ℕ → Place → Type 0
 EventSought s card e (place.At q) = EventAt s card e q
 EventSought s card e place.Nothing = pickNth e (events 3 (itemsFrom s 0)) ≡ none
+
+-- what event e of some items answers
+abbrev pub eventIn : List Item → ℕ → Outcome Event
+eventIn xs e = andThen (present (pickNth e (events 3 xs))) (λ o. accepted (o .event))
+
+-- what a question that fills lent words answers, and how it leaves them
+pub record Filling (o : Outcome (List Item)) (written : Outcome (List Item) → List ℕ → List ℕ) (found : List ℕ) (answer : Done) (left : List ℕ) : Type 0 where
+  pub answered : answer ≡ done o
+  pub filled : left ≡ written o found
 
 -- behind word q stands what is behind a Channel header: its time bins and samples come first
 pub record Headed (s : List ℕ) (q : ℕ) : Type 0 where

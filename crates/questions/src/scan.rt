@@ -17,8 +17,8 @@ const ONE_WORD: u16 = 0x0100;
 // The first word that begins a Start event; those of End events are below.
 const START: u16 = 0x00F0;
 
-// The first word that begins a Histogram.
-const HISTOGRAM: u16 = 0x8000;
+// The first word that begins a Histogram; those of Bins are below.
+pub(crate) const HISTOGRAM: u16 = 0x8000;
 
 fn wide(x: u8) -> u16
     ensures { λ r. ⌜ (r ≡ x) × (r < 256) ⌝ }
