@@ -3,3 +3,7 @@ pub mod DataScan
 pub mod EventScan
 pub mod Reading
 pub mod EventAnswers
+pub mod PastLaws
+pub mod MonitorScan
+pub mod Filling
+pub mod CountsAnswers

@@ -6,7 +6,7 @@ use mathlib.Core.Path.{_≡_, refl, sym, ap, ap₂, subst, _∙_}
 use mathlib.Core.List.{List, [], _∷_, _++_}
 use native.Mathlib.Nat.{add-zero}
 use native.Mathlib.Omega.{arith}
-use lib.ListN.{length, getD, drop, length-drop, drop-of-length-le}
+use lib.ListN.{length, getD, drop, length-append, length-drop, drop-of-length-le}
 use lib.Seq.{drop-at, drop-drop, getD-drop}
 use Rattle.format.specs.Words.{words, bytes, wordAt}
 use Rattle.format.specs.Items.{Item, wordsOf, Token, whole, tokens}
@@ -44,6 +44,7 @@ module _ (s : List ℕ) (kind : Kind) (card at : ℕ) (g : Standing s kind card 
     pub allowed : Allowed kind card (g .earlier) x
     pub next : Standing s kind card (at + length (wordsOf x))
     pub behind : next .earlier ≡ x ∷ g .earlier
+    pub room : at + length (wordsOf x) ≤ length s / 2
     -- the words from here on
     pub rest : List ℕ
     pub reads : drop at (words s) ≡ wordsOf x ++ rest
@@ -68,6 +69,7 @@ module _ (s : List ℕ) (kind : Kind) (card at : ℕ) (g : Standing s kind card 
         allowed = sound-head kind card (g .earlier) x xs u;
         next = record { earlier = x ∷ g .earlier; sound = subst (Sound kind card (x ∷ g .earlier)) (sym i) t; only = d ∙ ap allWords (sym i); even = g .even };
         behind = refl;
+        room = omega (arith, length-drop at (words s), length-words s, ap length r, length-append (wordsOf x) (allWords xs), g .even);
         rest = allWords xs;
         reads = r;
       }
