@@ -7,3 +7,4 @@ pub mod PastLaws
 pub mod MonitorScan
 pub mod Filling
 pub mod CountsAnswers
+pub mod ChannelScan

@@ -7,12 +7,12 @@ use mathlib.Core.List.{List, [], _∷_}
 use mathlib.Core.Option.{none, some}
 use lib.ListN.{length, drop}
 use Rattle.format.specs.Words.{words, wordAt, timeAt, longAt}
-use Rattle.format.specs.Answers.{Outcome, accepted, andThen, Done}
+use Rattle.format.specs.Answers.{Outcome, accepted, refused, andThen, Done}
 use Rattle.format.specs.Book.{endEvent}
 use Rattle.format.specs.Items.{Item, Channel, three, Token, whole, broken, flawed, tokens}
 use Rattle.format.specs.Rules.{Kind, dataKind, monitorKind, gather, first}
 use Rattle.format.specs.Frames.{Sound, allWords}
-use Rattle.format.specs.Questions.{Event, Opened, endSize, events, pickNth, present, done, until, past, isChannel, isHistogram}
+use Rattle.format.specs.Questions.{Event, Opened, endSize, events, pickNth, present, done, until, past, isChannel, isHistogram, channelIn}
 use Rattle.questions.specs.declared.answers.Place.{Place}
 use Rattle.questions.specs.declared.answers.Place.the-variants as place
 
@@ -90,9 +90,18 @@ pub record ChannelAt (s : List ℕ) (from chip c q : ℕ) : Type 0 where
   pub passed : past (isChannel chip c) (until endEvent (itemsFrom s from)) ≡ some (until endEvent (itemsFrom s q))
   pub headed : Headed s q
 
-abbrev pub ChannelSought : List ℕ → ℕ → ℕ → ℕ → ℕ → Place → Type 0
-ChannelSought s card from chip c (place.At q) = ChannelAt s from chip c q
-ChannelSought s card from chip c place.Nothing = past (isChannel chip c) (until endEvent (itemsFrom s from)) ≡ none
+abbrev pub ChannelSought : List ℕ → ℕ → ℕ → ℕ → Place → Type 0
+ChannelSought s from chip c (place.At q) = ChannelAt s from chip c q
+ChannelSought s from chip c place.Nothing = past (isChannel chip c) (until endEvent (itemsFrom s from)) ≡ none
+
+-- of event e of a frame's items
+pub record ChannelFound (s : List ℕ) (e chip c q : ℕ) : Type 0 where
+  pub found : channelIn e chip c (itemsFrom s 0) ≡ accepted (until endEvent (itemsFrom s q))
+  pub headed : Headed s q
+
+abbrev pub SamplesSought : List ℕ → ℕ → ℕ → ℕ → Place → Type 0
+SamplesSought s e chip c (place.At q) = ChannelFound s e chip c q
+SamplesSought s e chip c place.Nothing = channelIn e chip c (itemsFrom s 0) ≡ refused 13 0
 
 pub record HistogramAt (s : List ℕ) (card chip c q : ℕ) : Type 0 where
   pub passed : past (isHistogram chip c) (itemsFrom s 0) ≡ some (itemsFrom s q)

@@ -95,7 +95,7 @@ pub(crate) fn end_size(s: &[u8], from: usize) -> u32
 // Where the items behind a Channel header begin, of those before the first End event from here on.
 pub(crate) fn seek_channel(s: &[u8], from: usize, header: u16) -> Place
     requires { ⌜ 0xC000 ≤ header ⌝ }
-    ensures { λ r. ⌜ ((card chip c : ℕ) → Header 0xC000 header card chip c → Standing (now (s .entry)) dataKind card from → ChannelSought (now (s .entry)) card from chip c r) ⌝ }
+    ensures { λ r. ⌜ ((card chip c : ℕ) → Header 0xC000 header card chip c → Standing (now (s .entry)) dataKind card from → ChannelSought (now (s .entry)) from chip c r) ⌝ }
 {
     let last = s.len() / 2;
     let mut at = from;
