@@ -285,9 +285,9 @@ module _ (s : List ℕ) (from : ℕ) (l₀ : List ℕ) (at t : ℕ) (l : List �
           elim (decLt w 0x0100) [
             | no n ↦ (let g : 0x0100 ≤ w = omega arith in split-at (one g .x) 1 (one g .split) (go (one g .x) (shown g)))
             | yes y ↦ elim (decLt w 0x00F0) [
-                | yes z ↦ split-at _ 3 (ended s (k .card) at (k .standing) h w i z .split) (fill-end t _ _ l)
-                | no z ↦ (let g : 0x00F0 ≤ w = omega arith in split-at _ 6 (started s (k .card) at (k .standing) h w i g y .split) (fill-start t _ _ _ _ l))
-              ]
+              | yes z ↦ split-at _ 3 (ended s (k .card) at (k .standing) h w i z .split) (fill-end t _ _ l)
+              | no z ↦ (let g : 0x00F0 ≤ w = omega arith in split-at _ 6 (started s (k .card) at (k .standing) h w i g y .split) (fill-start t _ _ _ _ l))
+            ]
           ]
 
 pub sampling-end : (s : List ℕ) (from : ℕ) (l₀ : List ℕ) (at t : ℕ) (l : List ℕ) → Sampling s from l₀ at t l → length s / 2 ≤ at → l ≡ fillSamples 0 (itemsFrom s from) l₀

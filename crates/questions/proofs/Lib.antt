@@ -8,3 +8,4 @@ pub mod MonitorScan
 pub mod Filling
 pub mod CountsAnswers
 pub mod ChannelScan
+pub mod SamplesAnswers

@@ -42,7 +42,15 @@ fn find_channel(s: &[u8], kind: Kind, card: u16, e: usize, chip: u16, channel: u
 }
 
 // The samples of a channel in an event, of a frame's items.
-fn samples_in(s: &[u8], kind: Kind, card: u16, e: usize, chip: u16, channel: u16, out: &mut [u16]) -> Filled
+fn samples_in(
+    s: &[u8],
+    kind: Kind,
+    card: u16,
+    e: usize,
+    chip: u16,
+    channel: u16,
+    out: &mut [u16],
+) -> Filled
     requires { ⌜ Standing (now s) (viewKind kind) card 0 × (512 ≤ length (now out)) ⌝ }
     ensures { λ r. ⌜ Filling (channelIn e chip channel (itemsFrom (now (s .entry)) 0)) samplesLeft (now (out .entry)) (viewFilled r) (now (out .exit)) ⌝ }
 {
