@@ -9,3 +9,5 @@ pub mod Filling
 pub mod CountsAnswers
 pub mod ChannelScan
 pub mod SamplesAnswers
+pub mod Unique
+pub mod LentWords
