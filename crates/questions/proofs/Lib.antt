@@ -1,0 +1,13 @@
+pub mod Scanning
+pub mod DataScan
+pub mod EventScan
+pub mod Reading
+pub mod EventAnswers
+pub mod PastLaws
+pub mod MonitorScan
+pub mod Filling
+pub mod CountsAnswers
+pub mod ChannelScan
+pub mod SamplesAnswers
+pub mod Unique
+pub mod LentWords

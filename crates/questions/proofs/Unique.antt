@@ -1,0 +1,50 @@
+-- T39, T40. What an answer says on paper fixes the answer: each view is injective, so each promise of this crate has one answer, and leaves one
+-- list of lent words.
+-- Assumes nothing.
+use Prim.Native.Nat.{ℕ}
+use mathlib.Core.Path.{_≡_, refl, sym, ap, _∙_}
+use mathlib.Core.List.{List}
+use native.Mathlib.Omega.{arith}
+use Rattle.format.specs.Answers.{accepted}
+use Rattle.format.specs.Questions as questions
+use Rattle.format.specs.Questions.{eventAt, Sampled, Counted}
+use Rattle.book.proofs.Unique.{one, same-refusal}
+use Rattle.questions.specs.declared.answers.Event.{Event}
+use Rattle.questions.specs.declared.answers.EventFound.{EventFound}
+use Rattle.questions.specs.declared.answers.EventFound.the-variants as found
+use Rattle.questions.specs.declared.answers.Filled.{Filled}
+use Rattle.questions.specs.declared.answers.Filled.the-variants as filled
+use Rattle.questions.specs.Views.{eventOf, viewEvent, viewFilled}
+
+-- ---- T40
+
+event-is : (a b : questions.Event) → accepted a ≡ accepted b → a ≡ b
+event-is a b e = cc
+
+same-event : (v w : Event) → eventOf v ≡ eventOf w → v ≡ w
+same-event v w e = λ i. record { kind = e i .kind; timestamp = e i .timestamp; number = e i .number; size = e i .size; index = e i .index }
+
+pub same-found : (r q : EventFound) → viewEvent r ≡ viewEvent q → r ≡ q
+same-found (found.Event v) (found.Event w) e = ap found.Event (same-event v w (event-is (eventOf v) (eventOf w) e))
+same-found (found.Event v) (found.Refused r) e = let z : _≡_ {A = ℕ} 0 1 = cc in absurd (omega arith)
+same-found (found.Refused r) (found.Event v) e = let z : _≡_ {A = ℕ} 0 1 = cc in absurd (omega arith)
+same-found (found.Refused r) (found.Refused q) e = ap found.Refused (same-refusal r q e)
+
+pub same-filled : (r q : Filled) → viewFilled r ≡ viewFilled q → r ≡ q
+same-filled filled.Done filled.Done e = refl
+same-filled filled.Done (filled.Refused r) e = let z : _≡_ {A = ℕ} 0 1 = cc in absurd (omega arith)
+same-filled (filled.Refused r) filled.Done e = let z : _≡_ {A = ℕ} 0 1 = cc in absurd (omega arith)
+same-filled (filled.Refused r) (filled.Refused q) e = ap filled.Refused (same-refusal r q e)
+
+-- ---- T39, function by function
+
+pub event-once : (s : List ℕ) (e : ℕ) (r q : EventFound) → viewEvent r ≡ eventAt s e → viewEvent q ≡ eventAt s e → r ≡ q
+event-once s e = one viewEvent same-found (eventAt s e)
+
+pub samples-once : (s : List ℕ) (e chip c : ℕ) (l : List ℕ) (r q : Filled) (l₁ l₂ : List ℕ)
+    → Sampled s e chip c l (viewFilled r) l₁ → Sampled s e chip c l (viewFilled q) l₂ → (r ≡ q) × (l₁ ≡ l₂)
+samples-once s e chip c l r q l₁ l₂ a b = (same-filled r q (a .answered ∙ sym (b .answered)), a .filled ∙ sym (b .filled))
+
+pub counts-once : (s : List ℕ) (chip c : ℕ) (l : List ℕ) (r q : Filled) (l₁ l₂ : List ℕ)
+    → Counted s chip c l (viewFilled r) l₁ → Counted s chip c l (viewFilled q) l₂ → (r ≡ q) × (l₁ ≡ l₂)
+counts-once s chip c l r q l₁ l₂ a b = (same-filled r q (a .answered ∙ sym (b .answered)), a .filled ∙ sym (b .filled))

@@ -1,0 +1,53 @@
+-- `questions::fill::clear_samples` meets its contract.
+-- Assumes nothing.
+use Prim.Native.Nat.{_-_}
+use native.Mathlib.Omega.{arith}
+use borrow.Author.Needs.{needs}
+use Rattle.questions.proofs.Filling.{Clearing, clearing-start, clearing-next, clearing-end}
+use Rattle.questions.proofs.fill.clear_samples.Statement.{statement}
+use Rattle.questions.proofs.fill.clear_samples.Tie as tie
+
+abbrev Inv-loop : tie.InvT-loop
+Inv-loop out₀ i₀ out i = Clearing 512 0xFFFF out₀ i out
+
+abbrev μ-loop : tie.MeasureT-loop
+μ-loop out₀ i₀ out i = 512 - i
+
+loop-holds : tie.Need-loop-holds Inv-loop μ-loop
+loop-holds c = clearing-start 512 0xFFFF _ (c .pre)
+
+mul-out : tie.Need-mul-out Inv-loop μ-loop
+mul-out c = search needs
+
+slice-write-out : tie.Need-slice-write-out Inv-loop μ-loop
+slice-write-out c = search needs
+
+add-i : tie.Need-add-i Inv-loop μ-loop
+add-i c = search needs
+
+loop-less : tie.Need-loop-less Inv-loop μ-loop
+loop-less c = search needs
+
+loop-again : tie.Need-loop-again Inv-loop μ-loop
+loop-again c = clearing-next 512 0xFFFF _ _ _ (c .before .loop .inv) (c .loop-test .taken)
+
+same-length : tie.Need-same-length Inv-loop μ-loop
+same-length c = search needs
+
+returns : tie.Need-returns Inv-loop μ-loop
+returns c = clearing-end 512 0xFFFF _ _ _ (c .before .loop .inv) (c .loop-test .left)
+
+pub clear-samples-spec : {M : Type 1} → statement M
+clear-samples-spec =
+    tie.close
+    (tie.spec
+    Inv-loop
+    μ-loop
+    loop-holds
+    mul-out
+    slice-write-out
+    add-i
+    loop-less
+    loop-again
+    same-length
+    returns)

@@ -1,0 +1,8 @@
+// Questions on a frame's events, samples and counts. Each judges the whole frame first; then one plain scan over the items of an accepted
+// frame, which needs no rule. What each function answers is said by the definitions of the crate `format`.
+pub mod answers;
+pub mod counts;
+pub mod event;
+pub mod fill;
+pub mod samples;
+pub mod scan;

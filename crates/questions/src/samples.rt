@@ -1,0 +1,92 @@
+// The samples question.
+ghost use mathlib.Core.Path.{_≡_};
+ghost use Prim.Native.Nat.{_≤_};
+ghost use lib.ListN.{length};
+ghost use Rattle.format.specs.Questions.{channelIn, samplesLeft, Sampled};
+ghost use Rattle.frame.specs.Views.{viewKind};
+ghost use Rattle.questions.specs.Views.{viewFilled};
+ghost use Rattle.questions.specs.Standing.{itemsFrom, Standing, SamplesSought, Filling};
+use crate::answers::Filled;
+use crate::answers::Place;
+use crate::event::find_event;
+use crate::fill::SAMPLES;
+use crate::fill::clear_samples;
+use crate::fill::fill_samples;
+use crate::scan::seek_channel;
+use book::items::Channel;
+use book::refusal::Refusal;
+use frame::reading::Reading;
+use frame::reading::read;
+use frame::state::Kind;
+
+// Where the samples of a channel begin: behind its header, in event e. No item has a header that is not valid.
+fn find_channel(s: &[u8], kind: Kind, card: u16, e: usize, chip: u16, channel: u16) -> Place
+    requires { ⌜ Standing (now s) (viewKind kind) card 0 ⌝ }
+    ensures { λ r. ⌜ SamplesSought (now (s .entry)) e chip channel r ⌝ }
+{
+    let place = find_event(s, kind, e);
+    match place {
+        Place::At(at) => {
+            let header = Channel {
+                card,
+                chip,
+                channel,
+            };
+            if header.valid(card) {
+                return seek_channel(s, at + 6, header.word());
+            }
+            Place::Nothing
+        }
+        Place::Nothing => Place::Nothing,
+    }
+}
+
+// The samples of a channel in an event, of a frame's items.
+fn samples_in(
+    s: &[u8],
+    kind: Kind,
+    card: u16,
+    e: usize,
+    chip: u16,
+    channel: u16,
+    out: &mut [u16],
+) -> Filled
+    requires { ⌜ Standing (now s) (viewKind kind) card 0 × (512 ≤ length (now out)) ⌝ }
+    ensures { λ r. ⌜ Filling (channelIn e chip channel (itemsFrom (now (s .entry)) 0)) samplesLeft (now (out .entry)) (viewFilled r) (now (out .exit)) ⌝ }
+{
+    let place = find_channel(s, kind, card, e, chip, channel);
+    match place {
+        Place::At(at) => {
+            clear_samples(out);
+            fill_samples(s, at, out);
+            Filled::Done
+        }
+        Place::Nothing => Filled::Refused(Refusal {
+            number: Refusal::ABSENT,
+            place: 0,
+        }),
+    }
+}
+
+// The samples of event e, from 0, of a chip and a channel: into the first 512 words lent, each at its time, 0xFFFF where no sample stands.
+// Refuses as `read` does, then 12 where fewer words are lent, then 13 where there is no such event or channel in it; a refusal leaves all of
+// them as found.
+pub fn samples(s: &[u8], e: usize, chip: u16, channel: u16, out: &mut [u16]) -> Filled
+    ensures { λ r. ⌜ Sampled (now (s .entry)) e chip channel (now (out .entry)) (viewFilled r) (now (out .exit)) ⌝ }
+{
+    let reading = read(s);
+    match reading {
+        Reading::Refused(r) => Filled::Refused(r),
+        Reading::Accepted(frame) => {
+            if out.len() < SAMPLES {
+                return Filled::Refused(Refusal {
+                    number: Refusal::ROOM,
+                    place: 0,
+                });
+            }
+            let kind = frame.kind;
+            let end = s.len() - 2;
+            samples_in(&s[6..end], kind, frame.card, e, chip, channel, out)
+        }
+    }
+}
