@@ -1,73 +1,67 @@
+-- `plane::scan::note_kinds` meets its contract: the words passed are noted, the others still blank.`
+-- Assumes nothing.
+use Prim.Native.Nat.{_-_}
+use mathlib.Core.Path.{_≡_, refl}
+use lib.ListN.{length, length-set}
+use native.Mathlib.Omega.{arith}
+use borrow.Author.Needs.{needs}
+use Rattle.plane.proofs.Scanning.{Noting, sized, note-start, note-next, note-end}
 use Rattle.plane.proofs.scan.note_kinds.Statement.{statement}
 use Rattle.plane.proofs.scan.note_kinds.Tie as tie
-use Rattle.plane.proofs.scan.note_kinds.Reads as reads
-use Rattle.plane.proofs.scan.note_kinds.Lts as lts
-use Rattle.book.proofs.class.classify.Reads as classify-reads
-use Rattle.book.proofs.class.words_after.Reads as words-after-reads
-use Rattle.book.proofs.words.word.Reads as word-reads
-use Rattle.plane.proofs.scan.kind_of.Reads as kind-of-reads
 
 abbrev Inv-loop : tie.InvT-loop
-Inv-loop f map₀ last at₀ map at = ?
+Inv-loop f map₀ last at₀ map at = Noting f map last at × (length map ≡ length map₀)
 
 abbrev μ-loop : tie.MeasureT-loop
-μ-loop f map₀ last at₀ map at = ?
+μ-loop f map₀ last at₀ map at = last - at
 
--- src/scan.rt:136:16
 sub-last : tie.Need-sub-last Inv-loop μ-loop
-sub-last c = ?
+sub-last c = omega (arith, sized _ (c .before .before .pre .0) .some-words)
 
--- src/scan.rt:138:5
 loop-holds : tie.Need-loop-holds Inv-loop μ-loop
-loop-holds c = ?
+loop-holds c = (note-start _ _ (c .before .before .pre .0) (c .before .before .pre .1) (c .before .before .pre .2), refl)
 
--- src/scan.rt:139:13
 word-requires : tie.Need-word-requires Inv-loop μ-loop
-word-requires c κs = ?
+word-requires c κs = search needs
 
--- src/scan.rt:140:27
 classify-requires : tie.Need-classify-requires Inv-loop μ-loop
-classify-requires c κs = ?
+classify-requires c κs = search needs
 
--- src/scan.rt:140:19
 kind-of-requires : tie.Need-kind-of-requires Inv-loop μ-loop
-kind-of-requires c κs = ?
+kind-of-requires c κs = search needs
 
--- src/scan.rt:140:9
 slice-write-map : tie.Need-slice-write-map Inv-loop μ-loop
-slice-write-map c = ?
+slice-write-map c = let g = c .before .before .before .before .loop .inv .0 in omega (arith, g .few, g .long)
 
--- src/scan.rt:141:20
 words-after-requires : tie.Need-words-after-requires Inv-loop μ-loop
-words-after-requires c κs = ?
+words-after-requires c κs = search needs
 
--- src/scan.rt:141:20
 cast-more : tie.Need-cast-more Inv-loop μ-loop
-cast-more c = ?
+cast-more c = search needs
 
--- src/scan.rt:142:14
 add-at : tie.Need-add-at Inv-loop μ-loop
-add-at c = ?
+add-at c = omega (arith, c .before .before .before .before .before .loop .inv .0 .few)
 
--- src/scan.rt:142:14
 add-at-2 : tie.Need-add-at-2 Inv-loop μ-loop
-add-at-2 c = ?
+add-at-2 c = omega (arith, c .before .before .before .before .before .loop .inv .0 .few)
 
--- src/scan.rt:138:5
 loop-less : tie.Need-loop-less Inv-loop μ-loop
-loop-less c = ?
+loop-less c =
+    let w = c .before .before .before in
+    let m = note-next _ _ _ _ (w .before .before .loop .inv .0) (w .before .loop-test .taken) _ _ _ _ (w .word .ensures) (c .before .before .classify .ensures) (c .before .kind-of .ensures) (c .words-after .ensures) in
+    omega (arith, m .0)
 
--- src/scan.rt:138:5
 loop-again : tie.Need-loop-again Inv-loop μ-loop
-loop-again c = ?
+loop-again c =
+    let w = c .before .before .before in
+    let m = note-next _ _ _ _ (w .before .before .loop .inv .0) (w .before .loop-test .taken) _ _ _ _ (w .word .ensures) (c .before .before .classify .ensures) (c .before .kind-of .ensures) (c .words-after .ensures) in
+    (m .2, rw length-set (w .before .before .loop .inv .1))
 
--- src/scan.rt:132:1
 same-length : tie.Need-same-length Inv-loop μ-loop
-same-length c = ?
+same-length c = c .before .loop .inv .1
 
--- src/scan.rt:132:1
 returns : tie.Need-returns Inv-loop μ-loop
-returns c = ?
+returns c = note-end _ _ _ _ (c .before .loop .inv .0) (c .loop-test .left)
 
 pub note-kinds-spec : {M : Type 1} → statement M
 note-kinds-spec =

@@ -1,89 +1,78 @@
+-- `plane::scan::spot_in` meets its contract: what it has passed is not the word asked for.`
+-- Assumes nothing.
+use Prim.Native.Nat.{_-_}
+use native.Mathlib.Omega.{arith}
+use borrow.Author.Needs.{needs}
+use Rattle.plane.proofs.Scanning.{Seeking, sized, seek-start, seek-found, seek-next, seek-end}
 use Rattle.plane.proofs.scan.spot_in.Statement.{statement}
 use Rattle.plane.proofs.scan.spot_in.Tie as tie
-use Rattle.plane.proofs.scan.spot_in.Reads as reads
-use Rattle.plane.proofs.scan.spot_in.Lts as lts
-use Rattle.book.proofs.class.classify.Reads as classify-reads
-use Rattle.book.proofs.class.words_after.Reads as words-after-reads
-use Rattle.book.proofs.words.word.Reads as word-reads
-use Rattle.plane.proofs.scan.header_key.Reads as header-key-reads
-use Rattle.plane.proofs.scan.key_behind.Reads as key-behind-reads
-use Rattle.plane.proofs.scan.kind_of.Reads as kind-of-reads
-use Rattle.plane.proofs.scan.spot_from.Reads as spot-from-reads
-use Rattle.plane.proofs.scan.value_at.Reads as value-at-reads
 
 abbrev Inv-loop : tie.InvT-loop
-Inv-loop f w last at₀ key₀ at key = ?
+Inv-loop f w last at₀ key₀ at key = Seeking f w last at key
 
 abbrev μ-loop : tie.MeasureT-loop
-μ-loop f w last at₀ key₀ at key = ?
+μ-loop f w last at₀ key₀ at key = last - at
 
--- src/scan.rt:112:16
 sub-last : tie.Need-sub-last Inv-loop μ-loop
-sub-last c = ?
+sub-last c = omega (arith, sized _ (c .before .pre) .some-words)
 
--- src/scan.rt:115:5
 loop-holds : tie.Need-loop-holds Inv-loop μ-loop
-loop-holds c = ?
+loop-holds c = seek-start _ _ (c .before .pre)
 
--- src/scan.rt:116:13
 word-requires : tie.Need-word-requires Inv-loop μ-loop
-word-requires c κs = ?
+word-requires c κs = search needs
 
--- src/scan.rt:117:13
 classify-requires : tie.Need-classify-requires Inv-loop μ-loop
-classify-requires c κs = ?
+classify-requires c κs = search needs
 
--- src/scan.rt:119:17
 kind-of-requires : tie.Need-kind-of-requires Inv-loop μ-loop
-kind-of-requires c κs = ?
+kind-of-requires c κs = search needs
 
--- src/scan.rt:120:17
 value-at-requires : tie.Need-value-at-requires Inv-loop μ-loop
-value-at-requires c κs = ?
+value-at-requires c κs = omega (arith, c .before .before .before .before .before .loop .inv .few)
 
--- src/scan.rt:121:13
 spot-from-requires : tie.Need-spot-from-requires Inv-loop μ-loop
-spot-from-requires c κs = ?
+spot-from-requires c κs = search needs
 
--- src/scan.rt:121:13
 returns : tie.Need-returns Inv-loop μ-loop
-returns c = ?
+returns c = 
+    let v = c .before in
+    let w = v .before .before .before .before in
+    seek-found _ _ _ _ _ (w .before .before .loop .inv) (w .before .loop-test .taken) _ _ (w .word .ensures) (v .before .before .before .classify .ensures) (v .before .before .if1 .taken) _ _ _
+    (v .before .kind-of .ensures) (v .value-at .ensures) (c .spot-from .ensures)
 
--- src/scan.rt:123:13
 header-key-requires : tie.Need-header-key-requires Inv-loop μ-loop
-header-key-requires c κs = ?
+header-key-requires c κs = search needs
 
--- src/scan.rt:124:9
 key-behind-requires : tie.Need-key-behind-requires Inv-loop μ-loop
-key-behind-requires c κs = ?
+key-behind-requires c κs = c .header-key .ensures
 
--- src/scan.rt:125:20
 words-after-requires : tie.Need-words-after-requires Inv-loop μ-loop
-words-after-requires c κs = ?
+words-after-requires c κs = search needs
 
--- src/scan.rt:125:20
 cast-more : tie.Need-cast-more Inv-loop μ-loop
-cast-more c = ?
+cast-more c = search needs
 
--- src/scan.rt:126:14
 add-at : tie.Need-add-at Inv-loop μ-loop
-add-at c = ?
+add-at c = omega (arith, c .before .before .before .before .before .before .before .loop .inv .few)
 
--- src/scan.rt:126:14
 add-at-2 : tie.Need-add-at-2 Inv-loop μ-loop
-add-at-2 c = ?
+add-at-2 c = omega (arith, c .before .before .before .before .before .before .before .loop .inv .few)
 
--- src/scan.rt:115:5
 loop-less : tie.Need-loop-less Inv-loop μ-loop
-loop-less c = ?
+loop-less c =
+    let w = c .before .before .before .before .before in
+    let m = seek-next _ _ _ _ _ (w .before .before .loop .inv) (w .before .loop-test .taken) _ _ (w .word .ensures) (c .before .before .before .before .classify .ensures) (c .before .before .before .if1 .left) _ _ (c .before .key-behind .ensures) (c .words-after .ensures) in
+    omega (arith, m .0)
 
--- src/scan.rt:115:5
 loop-again : tie.Need-loop-again Inv-loop μ-loop
-loop-again c = ?
+loop-again c =
+    let w = c .before .before .before .before .before in
+    let m = seek-next _ _ _ _ _ (w .before .before .loop .inv) (w .before .loop-test .taken) _ _ (w .word .ensures) (c .before .before .before .before .classify .ensures) (c .before .before .before .if1 .left) _ _ (c .before .key-behind .ensures) (c .words-after .ensures) in
+    m .2
 
--- src/scan.rt:108:1
 returns-2 : tie.Need-returns-2 Inv-loop μ-loop
-returns-2 c = ?
+returns-2 c = seek-end _ _ _ _ _ (c .before .loop .inv) (c .loop-test .left)
 
 pub spot-in-spec : {M : Type 1} → statement M
 spot-in-spec =

@@ -1,39 +1,33 @@
+-- `plane::scan::value_at` meets its contract.
+-- Assumes nothing.
+use Rattle.plane.proofs.Scanning.{sample-value, bin-value}
+use denote.Ref.{now}
+use native.Mathlib.Omega.{arith}
+use mathlib.Core.Path.{ap, _∙_}
 use borrow.Author.Needs.{needs}
 use Rattle.plane.proofs.scan.value_at.Statement.{statement}
 use Rattle.plane.proofs.scan.value_at.Tie as tie
-use Rattle.plane.proofs.scan.value_at.Reads as reads
-use Rattle.plane.proofs.scan.value_at.Lts as lts
-use Rattle.book.proofs.items.Sample.of_word.Reads as of-word-reads
-use Rattle.book.proofs.words.long.Reads as long-reads
-use Rattle.book.proofs.words.word.Reads as word-reads
 
--- src/scan.rt:88:32
 word-requires : tie.Need-word-requires
 word-requires c κs = search needs
 
--- src/scan.rt:88:16
 of-word-requires : tie.Need-of-word-requires
 of-word-requires c κs = search needs
 
--- src/scan.rt:88:16
 cast-result : tie.Need-cast-result
 cast-result c = search needs
 
--- src/scan.rt:88:9
 returns : tie.Need-returns
-returns c = ?
+returns c = let a = c .before .before .before .before .before .args in sample-value (now (a .f)) (a .kind) (a .w) _ (c .before .before .before .if1 .taken) _ (c .before .of-word .ensures) (c .before .before .word .ensures)
 
--- src/scan.rt:90:13
 add-long : tie.Need-add-long
 add-long c = search needs
 
--- src/scan.rt:90:5
 long-requires : tie.Need-long-requires
 long-requires c κs = search needs
 
--- src/scan.rt:83:1
 returns-2 : tie.Need-returns-2
-returns-2 c = ?
+returns-2 c = let a = c .before .before .before .args in bin-value (now (a .f)) (a .kind) (a .w) _ (c .before .if1 .left) (c .long .ensures)
 
 pub value-at-spec : {M : Type 1} → statement M
 value-at-spec =
