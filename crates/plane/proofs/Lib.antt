@@ -1,1 +1,3 @@
 pub mod Scanning
+pub mod UndoLaws
+pub mod RecordLaws

@@ -27,6 +27,9 @@ abbrev pub viewSpot : SpotFound → Option spots.Spot
 viewSpot (found.Spot p) = some (record { kind = p .kind; value = p .value; key = p .key })
 viewSpot found.Nothing = none
 
+abbrev pub summaryAt : ℕ → ℕ → ℕ → Summary
+summaryAt length count total = record { length = length; count = count; total = total }
+
 abbrev pub summaryOf : Record → Summary
 summaryOf r = record { length = r .length; count = r .count; total = r .total }
 
@@ -39,11 +42,11 @@ viewJudged (judging.Accepted r p) = accepted (record { length = r .length; count
 viewJudged (judging.Refused r) = refusal r
 
 -- document 01's entries hold nothing after the reason
-abbrev pub entryOf : Entry → formats.Entry
-entryOf e = record { word = e .word; kind = e .kind; old = e .old; new = e .new; operator = e .operator; reason = e .reason; extra = [] }
+abbrev pub asEntry : Entry → formats.Entry
+asEntry e = record { word = e .word; kind = e .kind; old = e .old; new = e .new; operator = e .operator; reason = e .reason; extra = [] }
 
 abbrev pub viewEntry : EntryFound → Outcome formats.Entry
-viewEntry (entries.Entry e) = accepted (entryOf e)
+viewEntry (entries.Entry e) = accepted (asEntry e)
 viewEntry (entries.Refused r) = refusal r
 
 -- the number of the newest entry that does not fit, or 0, as an answer
