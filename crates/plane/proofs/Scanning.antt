@@ -2,7 +2,7 @@
 -- Assumes nothing.
 use Prim.Native.Nat.{ℕ, zero, suc, _+_, _-_, _*_, _/_, _%_, _<_, _≤_}
 use mathlib.Core.Path.{_≡_, refl, sym, ap, ap₂, subst, _∙_}
-use mathlib.Core.List.{List}
+use mathlib.Core.List.{List, [], _∷_}
 use mathlib.Core.Bool.{Bool, true, false}
 use mathlib.Core.Option.{Option, none, some}
 use native.Mathlib.Omega.{arith}
@@ -199,3 +199,8 @@ sample-value f kind w v k h e g = rw (eq-eqb kind 1 k) (e ∙ ap (λ (x : ℕ). 
 pub bin-value : (f : List ℕ) (kind w v : ℕ) → (kind ≡ 1 → ⊥) → v ≡ longAt f (w + 1) → v ≡ valueAt kind f w
 unfolding valueAt
 bin-value f kind w v k e = rw (ne-eqb kind 1 k) e
+
+pub getD-past : (l : List ℕ) (i : ℕ) → length l ≤ i → 0 ≡ getD l i 0
+getD-past [] i h = refl
+getD-past (x ∷ l) zero h = absurd (omega arith)
+getD-past (x ∷ l) (suc i) h = getD-past l i (omega arith)

@@ -33,10 +33,11 @@ use Rattle.ledger.specs.Chains.{Fits}
 use Rattle.ledger.specs.First.{first}
 use Rattle.ledger.specs.House.{toldOf, house, house-spot}
 use Rattle.ledger.proofs.Judging.{fits-right}
+use Rattle.ledger.proofs.Stores.{sets-whole}
 use Rattle.ledger.proofs.Walking.{judge-none, judge-back, judge-stop}
 use Rattle.ledger.proofs.House.{own, stands-there, kind-is, house-lawful}
 use Rattle.plane.specs.Views.{unfit}
-use Rattle.plane.specs.Undoing.{Undoing}
+use Rattle.plane.specs.Undoing.{Kinds, Undoing}
 
 -- ---- the map tells the kinds, as the book does
 
@@ -68,18 +69,18 @@ module _ (map f : List ℕ) (g : Undoing map f) (w k old new o r : ℕ) where
           absurd (⊎-elim (λ q. omega arith) (λ q. omega arith) (kind-is f w s (g .frame) e))
 
   -- a Sample or Bin begins there: the five tests
-  pub fit-there : (kind value : ℕ) → kind ≡ getD map w 0 → (kind ≡ 0 → ⊥) → value ≡ valueAt kind f w
-      → ((((eqb kind k && eqb value new) && legalValue k old) && not (eqb old new)) && signed o r) ≡ fits house first f (plain w k old new o r)
+  pub fit-there : (kind value : ℕ) → kind ≡ getD map w 0 → (kind ≡ 0 → ⊥) → value ≡ valueAt kind f w → (lawful named : Bool) → lawful ≡ legalValue k old → named ≡ signed o r
+      → ((((eqb kind k && eqb value new) && lawful) && not (eqb old new)) && named) ≡ fits house first f (plain w k old new o r)
   unfolding fits fitsItem all first house
-  fit-there kind value m n v = go (house .spot f w) refl
+  fit-there kind value m n v lawful named l i = go (house .spot f w) refl
     where
       go : (s : Option Spot) → house .spot f w ≡ s
-          → ((((eqb kind k && eqb value new) && legalValue k old) && not (eqb old new)) && signed o r) ≡ atSpot (house .spot f w) (fitsItem house first (plain w k old new o r))
+          → ((((eqb kind k && eqb value new) && lawful) && not (eqb old new)) && named) ≡ atSpot (house .spot f w) (fitsItem house first (plain w k old new o r))
       go none e = absurd (n (m ∙ g .kinds w ∙ sym (told-kind f w) ∙ ap kindOf e))
       go (some s) e =
           let q : kind ≡ s .kind = m ∙ g .kinds w ∙ sym (told-kind f w) ∙ ap kindOf e in
           let p : value ≡ s .value = v ∙ ap (λ (i : ℕ). valueAt i f w) q ∙ sym (value-read f (g .frame .bytes) w (own s) (stands-there f w s e)) in
-          rw (e, q, p, and-true, and-true)
+          rw (e, q, p, l, i, and-true, and-true)
 
 -- ---- undoing
 
@@ -204,3 +205,15 @@ module _ (f b : List ℕ) (h : ℕ) (k : h ≡ 16 + lengthIn b) (e : Entry) wher
 
 pub turn-done : (f b : List ℕ) (m : ℕ) → m ≤ 0 → unfit 0 ≡ historyVerdict house first f (entriesTo first b m)
 turn-done f b m l = let z : m ≡ 0 = omega arith in rw z (sym (judge-none house first f b))
+
+-- ---- a copy of the frame
+
+module _ (frame found g : List ℕ) (l : length found ≡ length frame) (e : g ≡ sets found 0 frame) where
+  copied : g ≡ frame
+  copied = e ∙ sets-whole found frame (sym l)
+
+  pub undoing-start : Accepted house frame → (map : List ℕ) → Kinds frame map → Undoing map g
+  undoing-start a map k = subst (Undoing map) (sym copied) (record { frame = a; kinds = k })
+
+  pub same-history : (es : List Entry) (o : Done) → o ≡ historyVerdict house first g es → o ≡ historyVerdict house first frame es
+  same-history es o q = q ∙ ap (λ (s : List ℕ). historyVerdict house first s es) copied

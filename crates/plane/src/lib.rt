@@ -35,8 +35,8 @@ pub fn spot(f: &[u8], w: usize) -> SpotFound
 {
     let reading = read(f);
     match reading {
-        Reading::Refused(_) => SpotFound::Nothing,
-        Reading::Accepted(_) => spot_in(f, w),
+        Reading::Refused(_refusal) => SpotFound::Nothing,
+        Reading::Accepted(_frame) => spot_in(f, w),
     }
 }
 
@@ -70,7 +70,7 @@ pub fn record(buf: &[u8]) -> RecordFound
         let reading = read(part);
         match reading {
             Reading::Refused(r) => RecordFound::Refused(r),
-            Reading::Accepted(_) => {
+            Reading::Accepted(_frame) => {
                 let total = end + Entry::SIZE * count;
                 summary(history(part, buf, count), length, count, total)
             }
@@ -80,5 +80,40 @@ pub fn record(buf: &[u8]) -> RecordFound
             number: Refusal::HEADER,
             place: 0,
         })
+    }
+}
+
+// Whether a buffer begins with a record, as `record` answers, and what stands at word w of its frame.
+pub fn judge(buf: &[u8], w: usize) -> Judged
+    ensures { λ r. ⌜ viewJudged r ≡ judgedAt house first (now (buf .entry)) w ⌝ }
+{
+    let found = record(buf);
+    match found {
+        RecordFound::Refused(r) => Judged::Refused(r),
+        RecordFound::Record(x) => {
+            let end = Record::HEADER + x.length;
+            let stands = spot_in(&buf[16..end], w);
+            Judged::Accepted(x, stands)
+        }
+    }
+}
+
+// Entry j of a record, from 1 as the oldest. Refuses as `record` does, then by 26 where j is 0 or above the entry count.
+pub fn entry(buf: &[u8], j: usize) -> EntryFound
+    ensures { λ r. ⌜ viewEntry r ≡ entryAnswer house first (now (buf .entry)) j ⌝ }
+{
+    let found = record(buf);
+    match found {
+        RecordFound::Refused(r) => EntryFound::Refused(r),
+        RecordFound::Record(x) => {
+            if (1 <= j) & (j <= x.count) {
+                let at = Record::HEADER + x.length + Entry::SIZE * (j - 1);
+                return EntryFound::Entry(entry_at(buf, at));
+            }
+            EntryFound::Refused(Refusal {
+                number: Refusal::NO_ENTRY,
+                place: 0,
+            })
+        }
     }
 }

@@ -10,15 +10,15 @@ use Rattle.plane.proofs.scan.spot_in.Reads as spot-in-reads
 read-requires : tie.Need-read-requires
 read-requires c κs = search needs
 
--- src/lib.rt:38:32
-enum-told : tie.Need-enum-told
-enum-told c = search needs
+-- src/lib.rt:38:26
+enum-known-reading : tie.Need-enum-known-reading
+enum-known-reading c = search needs
 
--- src/lib.rt:39:33
-enum-told-2 : tie.Need-enum-told-2
-enum-told-2 c = search needs
+-- src/lib.rt:39:27
+enum-known-reading-2 : tie.Need-enum-known-reading-2
+enum-known-reading-2 c = search needs
 
--- src/lib.rt:39:33
+-- src/lib.rt:39:38
 spot-in-requires : tie.Need-spot-in-requires
 spot-in-requires c κs = ?
 
@@ -32,4 +32,11 @@ returns-2 c = search needs
 
 pub spot-spec : {M : Type 1} → statement M
 spot-spec =
-    tie.close (tie.spec read-requires enum-told enum-told-2 spot-in-requires returns returns-2)
+    tie.close
+    (tie.spec
+    read-requires
+    enum-known-reading
+    enum-known-reading-2
+    spot-in-requires
+    returns
+    returns-2)

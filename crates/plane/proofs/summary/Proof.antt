@@ -1,15 +1,14 @@
+-- `plane::summary` meets its contract.
+-- Assumes nothing.
+use borrow.Author.Tests.{eq-eqb, ne-eqb}
 use Rattle.plane.proofs.summary.Statement.{statement}
 use Rattle.plane.proofs.summary.Tie as tie
-use Rattle.plane.proofs.summary.Reads as reads
-use Rattle.plane.proofs.summary.Lts as lts
 
--- src/lib.rt:48:9
 returns : tie.Need-returns
-returns c = ?
+returns c = rw (eq-eqb _ 0 (c .if1 .taken))
 
--- src/lib.rt:44:1
 returns-2 : tie.Need-returns-2
-returns-2 c = ?
+returns-2 c = rw (ne-eqb _ 0 (c .if1 .left))
 
 pub summary-spec : {M : Type 1} → statement M
 summary-spec = tie.close (tie.spec returns returns-2)
