@@ -8,9 +8,9 @@ use mathlib.Core.Option.{Option, none, some}
 use native.Mathlib.Nat.{add-sub-cancel-left}
 use native.Mathlib.Omega.{arith}
 use lib.Dec.{eqb, leb, ltb}
-use lib.ListN.{length, getD, take, drop, length-drop}
+use lib.ListN.{length, getD, take, drop, length-drop, replicate}
 use lib.Seq.{take-all, length-take-le}
-use borrow.Author.Tests.{eqb-true, eqb-false, eq-eqb, ne-eqb, le-leb, lt-leb, lt-ltb}
+use borrow.Author.Tests.{leb-true, eqb-true, eqb-false, eq-eqb, ne-eqb, le-leb, lt-leb, lt-ltb}
 use Rattle.format.specs.Words.{pick, Bytes, wordAt, longAt}
 use Rattle.format.specs.Answers.{Outcome, accepted, refused, Done, andThen, need, firstOf}
 use Rattle.format.specs.Frames.{Frame, verdict}
@@ -18,6 +18,7 @@ use Rattle.format.specs.Steps.{Overview, overview, readOf}
 use Rattle.format.specs.Questions.{done}
 use Rattle.format.specs.Spots.{spot, legalValue}
 use Rattle.format.specs.Spots as spots
+use Rattle.format.proofs.PrefixLaws.{and-left, and-right}
 use Rattle.format.proofs.WordLaws.{below-drop, below-take}
 use Rattle.format.proofs.PutLaws.{spot-refused}
 use Rattle.ledger.specs.Tests.{all}
@@ -192,3 +193,34 @@ module _ (b : List ℕ) (x : Summary) (t : Told b x) where
       → accepted e ≡ entryAnswer house first b j
   unfolding entryAnswer numbered first
   entry-there j e h i = let g : (leb 1 j && leb j (countIn b)) ≡ true = rw (t .count) at h in rw (t .verdict, g, i, t .length)
+
+-- ---- what the words of a right header tell
+
+pub length-is : (b : List ℕ) (v : ℕ) → v ≡ wordAt b 3 → v ≡ lengthIn b
+unfolding lengthIn
+length-is b v e = e
+
+pub count-is : (b : List ℕ) (v : ℕ) → v ≡ wordAt b 5 → v ≡ countIn b
+unfolding countIn
+count-is b v e = e
+
+module _ (b : List ℕ) (len : ℕ) where
+  part-bytes : Bytes b → Bytes (take (16 + len - 16) (drop 16 b))
+  part-bytes y = below-take (16 + len - 16) (drop 16 b) 256 (omega arith) (below-drop 16 b 256 y)
+
+  pub part-accepted : Bytes b → (x : Overview) → accepted x ≡ readOf (take (16 + len - 16) (drop 16 b)) → Accepted house (take (16 + len - 16) (drop 16 b))
+  part-accepted y x e = record { bytes = part-bytes y; judged = judge-accepted (take (16 + len - 16) (drop 16 b)) x e }
+
+  pub told-frame : Bytes b → (x : Summary) → Told b x → len ≡ x .length → Accepted house (take (16 + len - 16) (drop 16 b))
+  told-frame y x t e =
+      record { bytes = part-bytes y; judged = ap (λ (f : List ℕ). house .judge f) (frame-part b len (e ∙ t .length)) ∙ t .judged }
+
+-- an entry number from 1 to the count
+pub numbers : (j n : ℕ) → (leb 1 j && leb j n) ≡ true → (1 ≤ j) × (j ≤ n)
+numbers j n e = (leb-true 1 j (and-left (leb 1 j) (leb j n) e), leb-true j n (and-right (leb 1 j) (leb j n) e))
+
+-- a part of a list of zeros
+pub zeros : (n i : ℕ) → _≡_ {A = ℕ} (getD (replicate n 0) i 0) 0
+zeros zero i = refl
+zeros (suc n) zero = refl
+zeros (suc n) (suc i) = zeros n i

@@ -9,10 +9,12 @@ ghost use Rattle.ledger.specs.Judged.{judgedAt};
 ghost use Rattle.ledger.specs.First.{first};
 ghost use Rattle.ledger.specs.House.{house};
 ghost use Rattle.plane.specs.Views.{viewSpot, viewRecord, viewJudged, viewEntry, unfit, summaryAt};
+
 pub mod answers;
 pub mod header;
 pub mod history;
 pub mod scan;
+
 use answers::Entry;
 use answers::EntryFound;
 use answers::Judged;

@@ -1,50 +1,47 @@
+-- `plane::judge` meets its contract.
+-- Assumes nothing.
+use denote.Ref.{now}
+use Prim.Native.Nat.{ℕ}
+use mathlib.Core.Path.{refl, ap, sym, _∙_}
+use mathlib.Core.List.{List}
+use native.Mathlib.Omega.{arith}
+use Rattle.format.specs.Spots.{spot}
+use Rattle.plane.specs.Views.{viewRecord}
+use Rattle.plane.proofs.RecordLaws.{frame-part, room, told, told-frame, judged-refused, judged-accepted}
 use borrow.Author.Needs.{needs}
 use Rattle.plane.proofs.judge.Statement.{statement}
 use Rattle.plane.proofs.judge.Tie as tie
-use Rattle.plane.proofs.judge.Reads as reads
-use Rattle.plane.proofs.judge.Lts as lts
-use Rattle.plane.proofs.record.Reads as record-reads
-use Rattle.plane.proofs.scan.spot_in.Reads as spot-in-reads
 
--- src/lib.rt:90:9
 record-requires : tie.Need-record-requires
 record-requires c κs = search needs
 
--- src/lib.rt:92:30
 enum-known-found : tie.Need-enum-known-found
 enum-known-found c = search needs
 
--- src/lib.rt:93:29
 enum-known-found-2 : tie.Need-enum-known-found-2
 enum-known-found-2 c = search needs
 
--- src/lib.rt:94:23
 add-end : tie.Need-add-end
-add-end c = ?
+add-end c = let t = (told (now (c .before .before .before .before .before .before .args .buf)) _ (sym (ap viewRecord (c .before .before .found2 .given .1)) ∙ c .before .before .before .before .«record» .ensures)) in omega (arith, room _ (t .header) .within, t .length)
 
--- src/lib.rt:95:34
 sub-spot-in : tie.Need-sub-spot-in
 sub-spot-in c = search needs
 
--- src/lib.rt:95:34
 part-spot-in-start : tie.Need-part-spot-in-start
 part-spot-in-start c = search needs
 
--- src/lib.rt:95:34
 part-spot-in-end : tie.Need-part-spot-in-end
-part-spot-in-end c = ?
+part-spot-in-end c = let t = (told (now (c .before .before .before .before .before .before .args .buf)) _ (sym (ap viewRecord (c .before .before .found2 .given .1)) ∙ c .before .before .before .before .«record» .ensures)) in omega (arith, room _ (t .header) .within, t .length)
 
--- src/lib.rt:95:17
 spot-in-requires : tie.Need-spot-in-requires
-spot-in-requires c κs = ?
+spot-in-requires c κs = told-frame (now (c .before .before .before .before .before .before .before .args .buf)) _ (λ i. (c .before .before .before .before .before .before .shared-slice-known .given i) .fits) _ (told (now (c .before .before .before .before .before .before .before .args .buf)) _ (sym (ap viewRecord (c .before .before .before .found2 .given .1)) ∙ c .before .before .before .before .before .«record» .ensures)) refl
 
--- src/lib.rt:87:1
 returns : tie.Need-returns
-returns c = ?
+returns c = judged-refused (now (c .before .before .before .before .before .args .buf)) _ _ (sym (ap viewRecord (c .before .found .given .1)) ∙ c .before .before .before .«record» .ensures) _
 
--- src/lib.rt:87:1
 returns-2 : tie.Need-returns-2
-returns-2 c = ?
+returns-2 c = let t = (told (now (c .before .before .before .before .before .before .before .before .args .buf)) _ (sym (ap viewRecord (c .before .before .before .before .found2 .given .1)) ∙ c .before .before .before .before .before .before .«record» .ensures)) in
+    judged-accepted (now (c .before .before .before .before .before .before .before .before .args .buf)) _ t _ _ (c .spot-in .ensures ∙ ap (λ (f : List ℕ). spot f (c .before .before .before .before .before .before .before .before .args .w)) (frame-part (now (c .before .before .before .before .before .before .before .before .args .buf)) _ (t .length)))
 
 pub judge-spec : {M : Type 1} → statement M
 judge-spec =

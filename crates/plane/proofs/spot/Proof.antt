@@ -1,32 +1,27 @@
+-- `plane::spot` meets its contract.
+-- Assumes nothing.
+use mathlib.Core.Path.{ap, sym, _∙_}
+use Rattle.frame.specs.Views.{viewReading}
+use Rattle.plane.proofs.RecordLaws.{judge-accepted, nothing-stands}
 use borrow.Author.Needs.{needs}
 use Rattle.plane.proofs.spot.Statement.{statement}
 use Rattle.plane.proofs.spot.Tie as tie
-use Rattle.plane.proofs.spot.Reads as reads
-use Rattle.plane.proofs.spot.Lts as lts
-use Rattle.frame.proofs.reading.read.Reads as read-reads
-use Rattle.plane.proofs.scan.spot_in.Reads as spot-in-reads
 
--- src/lib.rt:36:9
 read-requires : tie.Need-read-requires
 read-requires c κs = search needs
 
--- src/lib.rt:38:26
 enum-known-reading : tie.Need-enum-known-reading
 enum-known-reading c = search needs
 
--- src/lib.rt:39:27
 enum-known-reading-2 : tie.Need-enum-known-reading-2
 enum-known-reading-2 c = search needs
 
--- src/lib.rt:39:38
 spot-in-requires : tie.Need-spot-in-requires
-spot-in-requires c κs = ?
+spot-in-requires c κs = record { bytes = λ i. (c .before .before .before .before .shared-slice-known .given i) .fits; judged = judge-accepted _ _ (sym (ap viewReading (c .before .reading2 .given .1)) ∙ c .before .before .before .read .ensures) }
 
--- src/lib.rt:33:1
 returns : tie.Need-returns
-returns c = ?
+returns c = nothing-stands _ _ _ _ (sym (ap viewReading (c .before .reading .given .1)) ∙ c .before .before .before .read .ensures)
 
--- src/lib.rt:33:1
 returns-2 : tie.Need-returns-2
 returns-2 c = search needs
 

@@ -1,31 +1,26 @@
+-- `plane::history::history_in` meets its contract.
+-- Assumes nothing.
+use mathlib.Core.Path.{sym}
+use lib.Seq.{length-take-le}
 use borrow.Author.Needs.{needs}
 use Rattle.plane.proofs.history.history_in.Statement.{statement}
 use Rattle.plane.proofs.history.history_in.Tie as tie
-use Rattle.plane.proofs.history.history_in.Reads as reads
-use Rattle.plane.proofs.history.history_in.Lts as lts
-use Rattle.plane.proofs.history.unwind.Reads as unwind-reads
 
--- src/history.rt:145:12
 slice-relend-prefix-unwind : tie.Need-slice-relend-prefix-unwind
 slice-relend-prefix-unwind c = search needs
 
--- src/history.rt:145:12
 slice-aggregate-unwind : tie.Need-slice-aggregate-unwind
-slice-aggregate-unwind c = ?
+slice-aggregate-unwind c = sym (length-take-le _ _ (c .before .before .before .before .before .pre .1))
 
--- src/history.rt:145:5
 unwind-requires : tie.Need-unwind-requires
-unwind-requires c κs = ?
+unwind-requires c κs = let p = c .before .before .before .before .before .before .pre in (p .0, length-take-le _ _ (p .1), p .2, p .3, p .4, p .5)
 
--- src/history.rt:140:1
 same-length : tie.Need-same-length
 same-length c = search needs
 
--- src/history.rt:140:1
 same-length-2 : tie.Need-same-length-2
 same-length-2 c = search needs
 
--- src/history.rt:140:1
 returns : tie.Need-returns
 returns c = search needs
 

@@ -35,7 +35,7 @@ spot-from-requires : tie.Need-spot-from-requires Inv-loop μ-loop
 spot-from-requires c κs = search needs
 
 returns : tie.Need-returns Inv-loop μ-loop
-returns c = 
+returns c =
     let v = c .before in
     let w = v .before .before .before .before in
     seek-found _ _ _ _ _ (w .before .before .loop .inv) (w .before .loop-test .taken) _ _ (w .word .ensures) (v .before .before .before .classify .ensures) (v .before .before .if1 .taken) _ _ _
