@@ -1,3 +1,4 @@
 pub mod Scanning
 pub mod UndoLaws
 pub mod RecordLaws
+pub mod Unique

@@ -80,7 +80,7 @@ module _ (map f : List ℕ) (g : Undoing map f) (w k old new o r : ℕ) where
       go (some s) e =
           let q : kind ≡ s .kind = m ∙ g .kinds w ∙ sym (told-kind f w) ∙ ap kindOf e in
           let p : value ≡ s .value = v ∙ ap (λ (i : ℕ). valueAt i f w) q ∙ sym (value-read f (g .frame .bytes) w (own s) (stands-there f w s e)) in
-          rw (e, q, p, l, i, and-true, and-true)
+          rw (e, q, p, l, i) (sym (and-true _ ∙ and-true _))
 
 -- ---- undoing
 

@@ -1,13 +1,14 @@
 -- `plane::record` meets its contract: the header, the frame, then the history.
 -- Assumes nothing.
 use denote.Ref.{now}
-use Prim.Native.Nat.{ℕ}
-use mathlib.Core.Path.{refl, ap, sym, _∙_}
+use Prim.Native.Nat.{ℕ, _+_, _-_}
+use mathlib.Core.Path.{_≡_, refl, ap, sym, _∙_}
+use mathlib.Core.Bool.{true}
 use mathlib.Core.List.{List}
-use lib.ListN.{length}
+use lib.ListN.{length, take, drop}
 use native.Mathlib.Omega.{arith}
 use Rattle.format.specs.Steps.{readOf}
-use Rattle.ledger.specs.Records.{entriesTo, historyVerdict}
+use Rattle.ledger.specs.Records.{lengthIn, countIn, frameIn, entriesTo, headerRight, historyVerdict}
 use Rattle.ledger.specs.First.{first}
 use Rattle.ledger.specs.House.{house}
 use Rattle.frame.specs.Views.{viewReading}
@@ -15,6 +16,19 @@ use Rattle.plane.proofs.RecordLaws.{judge-refused, judge-accepted, fram
 use borrow.Author.Needs.{needs}
 use Rattle.plane.proofs.record.Statement.{statement}
 use Rattle.plane.proofs.record.Tie as tie
+
+-- the header is right; its words tell the frame's length and the entry count; the part lent is the frame
+right : (c : tie.Then1) → headerRight first (now (c .before .before .before .args .buf)) ≡ true
+right c = sym (c .before .header-right .ensures) ∙ c .if1 .taken
+
+long : (c : tie.After-word) → c .word .result ≡ lengthIn (now (c .before .before .before .before .args .buf))
+long c = length-is _ _ (c .word .ensures)
+
+many : (c : tie.After-word2) → c .word2 .result ≡ countIn (now (c .before .before .before .before .before .args .buf))
+many c = count-is _ _ (c .word2 .ensures)
+
+lent : (c : tie.After-word) → take (16 + c .word .result - 16) (drop 16 (now (c .before .before .before .before .args .buf))) ≡ frameIn (now (c .before .before .before .before .args .buf))
+lent c = frame-part _ _ (long c)
 
 header-right-requires : tie.Need-header-right-requires
 header-right-requires c κs = search needs
@@ -41,7 +55,7 @@ part-part-start : tie.Need-part-part-start
 part-part-start c = search needs
 
 part-part-end : tie.Need-part-part-end
-part-part-end c = let r = room (now (c .before .before .before .before .before .args .buf)) (sym (c .before .before .before .header-right .ensures) ∙ c .before .before .if1 .taken) in omega (arith, r .within, (length-is (now (c .before .before .before .before .before .args .buf)) _ (c .before .word .ensures)))
+part-part-end c = omega (arith, room _ (right (c .before .before)) .within, long (c .before))
 
 read-requires : tie.Need-read-requires
 read-requires c κs = search needs
@@ -59,27 +73,32 @@ add-total : tie.Need-add-total
 add-total c = search needs
 
 history-requires : tie.Need-history-requires
-history-requires c κs = let y = part-accepted (now (c .before .before .before .before .before .before .before .before .before .before .args .buf)) (c .before .before .before .before .before .before .word .result) (λ i. (c .before .before .before .before .before .before .before .before .before .shared-slice-known .given i) .fits) _ (sym (ap viewReading (c .before .reading2 .given .1)) ∙ c .before .before .before .read .ensures) in
-    let r = room (now (c .before .before .before .before .before .before .before .before .before .before .args .buf)) (sym (c .before .before .before .before .before .before .before .before .header-right .ensures) ∙ c .before .before .before .before .before .before .before .if1 .taken) in
-    (y, ap length (frame-part (now (c .before .before .before .before .before .before .before .before .before .before .args .buf)) _ (length-is (now (c .before .before .before .before .before .before .before .before .before .before .args .buf)) _ (c .before .before .before .before .before .before .word .ensures))) ∙ r .frame, omega (arith, r .within, (count-is (now (c .before .before .before .before .before .before .before .before .before .before .args .buf)) _ (c .before .before .before .before .before .word2 .ensures))))
+history-requires c κs =
+    let w = c .before .before .before .before .before .before in
+    let r = room _ (right (w .before)) in
+    let reads = sym (ap viewReading (c .before .reading2 .given .1)) ∙ c .before .before .before .read .ensures in
+    (part-accepted (now (w .before .before .before .before .args .buf)) (w .word .result) (λ i. (w .before .before .before .shared-slice-known .given i) .fits) _ reads, ap length (lent w) ∙ r .frame, omega (arith, r .within, many (c .before .before .before .before .before)))
 
 summary-requires : tie.Need-summary-requires
 summary-requires c κs = search needs
 
 returns : tie.Need-returns
-returns c = wrong-frame (now (c .before .before .before .before .before .before .before .before .before .before .args .buf)) _ _ (sym (c .before .before .before .before .before .before .before .before .header-right .ensures) ∙ c .before .before .before .before .before .before .before .if1 .taken)
-    (judge-refused _ _ _ (sym (ap viewReading (c .before .reading .given .1)) ∙ c .before .before .before .read .ensures ∙ ap readOf (frame-part (now (c .before .before .before .before .before .before .before .before .before .before .args .buf)) _ (length-is (now (c .before .before .before .before .before .before .before .before .before .before .args .buf)) _ (c .before .before .before .before .before .before .word .ensures)))))
+returns c =
+    let w = c .before .before .before .before .before .before in
+    wrong-frame _ _ _ (right (w .before)) (judge-refused _ _ _ (sym (ap viewReading (c .before .reading .given .1)) ∙ c .before .before .before .read .ensures ∙ ap readOf (lent w)))
 
 returns-2 : tie.Need-returns-2
-returns-2 c = let p = frame-part (now (c .before .before .before .before .before .before .before .before .before .before .before .before .args .buf)) _ (length-is (now (c .before .before .before .before .before .before .before .before .before .before .before .before .args .buf)) _ (c .before .before .before .before .before .before .before .before .word .ensures)) in
+returns-2 c =
+    let w = c .before .before .before .before .before .before .before .before in
+    let buf = now (w .before .before .before .before .args .buf) in
+    let n = c .before .before .before .before .before .before .before in
+    let reads = sym (ap viewReading (c .before .before .before .reading2 .given .1)) ∙ c .before .before .before .before .before .read .ensures ∙ ap readOf (lent w) in
     c .summary .ensures
-    ∙ right-frame (now (c .before .before .before .before .before .before .before .before .before .before .before .before .args .buf)) (sym (c .before .before .before .before .before .before .before .before .before .before .header-right .ensures) ∙ c .before .before .before .before .before .before .before .before .before .if1 .taken)
-    (judge-accepted _ _ (sym (ap viewReading (c .before .before .before .reading2 .given .1)) ∙ c .before .before .before .before .before .read .ensures ∙ ap readOf p))
-    _ _ _ _ (length-is (now (c .before .before .before .before .before .before .before .before .before .before .before .before .args .buf)) _ (c .before .before .before .before .before .before .before .before .word .ensures)) (count-is (now (c .before .before .before .before .before .before .before .before .before .before .before .before .args .buf)) _ (c .before .before .before .before .before .before .before .word2 .ensures)) refl
-    (c .before .history .ensures ∙ ap (λ (f : List ℕ). historyVerdict house first f (entriesTo first (now (c .before .before .before .before .before .before .before .before .before .before .before .before .args .buf)) (c .before .before .before .before .before .before .before .word2 .result))) p)
+    ∙ right-frame buf (right (w .before)) (judge-accepted _ _ reads) _ _ _ _ (long w) (many n) refl
+    (c .before .history .ensures ∙ ap (λ (f : List ℕ). historyVerdict house first f (entriesTo first buf (n .word2 .result))) (lent w))
 
 returns-3 : tie.Need-returns-3
-returns-3 c = wrong-header (now (c .before .before .before .args .buf)) (sym (c .before .header-right .ensures) ∙ c .if1 .left)
+returns-3 c = wrong-header _ (sym (c .before .header-right .ensures) ∙ c .if1 .left)
 
 pub record-spec : {M : Type 1} → statement M
 record-spec =
