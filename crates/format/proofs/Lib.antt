@@ -57,3 +57,4 @@ pub mod Stability
 pub mod SpotKeys
 pub mod Placed
 pub mod TextPlaced
+pub mod ScanLaws
