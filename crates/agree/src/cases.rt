@@ -84,6 +84,8 @@ pub fn low32(x: u64) -> u32
 impl Case {
     // The largest argument of 16 bits.
     const WORD: u64 = 65535;
+    // And of 32 bits.
+    const LONG: u64 = 4294967295;
 
     // Whether each argument is at most what stands here for it, the others are zero, and only a payload that is named has bytes.
     fn within(self, a0: u64, a1: u64, a2: u64, a3: u64, a4: u64, p: bool, q: bool) -> bool {
@@ -107,7 +109,20 @@ impl Case {
             1 => self.within(0, 0, 0, 0, 0, true, false),
             2 => self.within(u64::MAX, 0, 0, 0, 0, true, false),
             3 => self.within(u64::MAX, 0, 0, 0, 0, true, false),
+            4 => self.within(u64::MAX, 0, 0, 0, 0, true, false),
+            5 => self.within(
+                u64::MAX,
+                Case::WORD,
+                Case::WORD,
+                600,
+                Case::WORD,
+                true,
+                false,
+            ),
+            6 => self.within(Case::WORD, Case::WORD, 4200, Case::LONG, 0, true, false),
             11 => self.within(256, Case::WORD, 0, 0, 0, false, false),
+            12 => self.within(0, 0, 0, 0, 0, true, false),
+            13 => self.within(u64::MAX, 0, 0, 0, 0, true, false),
             _ => false,
         }
     }

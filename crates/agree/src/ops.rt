@@ -3,6 +3,8 @@ use crate::cases::Case;
 use crate::ops_book;
 use crate::ops_follower;
 use crate::ops_frame;
+use crate::ops_questions;
+use crate::ops_record;
 
 // Answers a case whose payloads are p and q; 0 where it is none.
 pub fn answer(case: Case, p: &mut [u8], q: &mut [u8], line: &mut [u8]) -> usize {
@@ -15,7 +17,12 @@ pub fn answer(case: Case, p: &mut [u8], q: &mut [u8], line: &mut [u8]) -> usize 
         1 => ops_frame::read(p, line),
         2 => ops_frame::item(p, case.a0, line),
         3 => ops_frame::text(p, case.a0, line),
+        4 => ops_questions::event(p, case.a0, line),
+        5 => ops_questions::samples(p, case.a0, case.a1, case.a2, case.a3, case.a4, line),
+        6 => ops_questions::counts(p, case.a0, case.a1, case.a2, case.a3, line),
         11 => ops_follower::follow(case.a0, case.a1, line),
+        12 => ops_record::record(p, line),
+        13 => ops_record::entry(p, case.a0, line),
         _ => 0,
     }
 }

@@ -1,0 +1,80 @@
+// The ops over the questions on a frame: events, samples, counts.
+use crate::cases;
+use crate::lines;
+use crate::sums;
+use questions::answers::Event;
+use questions::answers::EventFound;
+use questions::answers::Filled;
+
+fn told(x: Event, line: &mut [u8]) -> usize {
+    let at = lines::ok4(
+        line,
+        x.kind as u64,
+        x.timestamp,
+        x.number as u64,
+        x.size as u64,
+    );
+    lines::value(line, at, x.index as u64)
+}
+
+// Op 4: event a0 of the frame p.
+pub fn event(p: &[u8], a0: u64, line: &mut [u8]) -> usize {
+    let answer = questions::event::event(p, a0 as usize);
+    match answer {
+        EventFound::Event(x) => told(x, line),
+        EventFound::Refused(r) => lines::refused(line, r.number, r.place),
+    }
+}
+
+fn filled(answer: Filled, line: &mut [u8]) -> usize {
+    match answer {
+        Filled::Done => lines::ok(line),
+        Filled::Refused(r) => lines::refused(line, r.number, r.place),
+    }
+}
+
+fn samples_into(
+    p: &[u8],
+    e: usize,
+    chip: u16,
+    channel: u16,
+    out: &mut [u16],
+    line: &mut [u8],
+) -> usize {
+    let at = filled(questions::samples::samples(p, e, chip, channel, out), line);
+    lines::buffer(line, at, out.len(), sums::words(out))
+}
+
+// Op 5: samples of event a0, chip a1, channel a2 of the frame p into a3 words, each a4 before.
+pub fn samples(p: &[u8], a0: u64, a1: u64, a2: u64, a3: u64, a4: u64, line: &mut [u8]) -> usize {
+    let n = a3 as usize;
+    if 600 < n {
+        return 0;
+    }
+    let before = cases::low16(a4);
+    let mut out = [before; 600];
+    samples_into(
+        p,
+        a0 as usize,
+        cases::low16(a1),
+        cases::low16(a2),
+        &mut out[0..n],
+        line,
+    )
+}
+
+fn counts_into(p: &[u8], chip: u16, channel: u16, out: &mut [u32], line: &mut [u8]) -> usize {
+    let at = filled(questions::counts::counts(p, chip, channel, out), line);
+    lines::buffer(line, at, out.len(), sums::longs(out))
+}
+
+// Op 6: counts of chip a0, channel a1 of the frame p into a2 words of 32 bits, each a3 before.
+pub fn counts(p: &[u8], a0: u64, a1: u64, a2: u64, a3: u64, line: &mut [u8]) -> usize {
+    let n = a2 as usize;
+    if 4200 < n {
+        return 0;
+    }
+    let before = cases::low32(a3);
+    let mut out = [before; 4200];
+    counts_into(p, cases::low16(a0), cases::low16(a1), &mut out[0..n], line)
+}
