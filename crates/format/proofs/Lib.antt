@@ -49,3 +49,4 @@ pub mod WriterNumbers
 pub mod Completeness
 pub mod NoDeadEnd
 pub mod Writing
+pub mod PartialJudging

@@ -16,3 +16,4 @@ pub mod Tree
 pub mod Runs
 pub mod TokenFaults
 pub mod WriterCases
+pub mod PartialSteps

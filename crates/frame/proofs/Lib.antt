@@ -3,3 +3,4 @@ pub mod Steps
 pub mod TextLoops
 pub mod Loop
 pub mod Judging
+pub mod PartialTurns
