@@ -2,4 +2,5 @@
 // definitions of the crate `format`; none has a `requires`.
 pub mod answers;
 pub mod calls;
+pub mod put;
 mod stores;
