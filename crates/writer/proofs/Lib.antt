@@ -1,3 +1,5 @@
 pub mod CallLaws
 pub mod StoreTurns
 pub mod PutLaws
+pub mod PartStores
+pub mod AddLaws

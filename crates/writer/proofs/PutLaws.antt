@@ -1,23 +1,24 @@
 -- One item put: from the turn that the rules took and the bytes stored to the promise, class by class.
 -- Assumes nothing.
 use Prim.Native.Nat.{ℕ, _+_, _/_, _%_, _≤_, _<_}
-use mathlib.Core.Path.{_≡_, refl, sym, ap, subst, _∙_}
+use mathlib.Core.Path.{_≡_, refl, sym, ap, ap₂, _∙_}
 use mathlib.Core.List.{List, [], _∷_, _++_}
-use mathlib.Core.Bool.{Bool, true, false, _&&_}
+use mathlib.Core.Bool.{Bool, true, false, _&&_, and-true}
 use native.Mathlib.Omega.{arith}
 use lib.Dec.{leb, ltb, eqb}
-use lib.ListN.{length}
+use lib.ListN.{length, getD}
 use lib.Seq.{sets}
-use borrow.Author.Tests.{leb-true, lt-leb, lt-ltb}
-use Rattle.format.specs.Words.{pick, bytes, longWords, timeWords}
+use borrow.Author.Tests.{leb-true, le-leb, lt-leb, lt-ltb}
+use Rattle.format.specs.Words.{pick, Bytes, bytes, longWords, nonZero}
 use Rattle.format.specs.Answers.{Outcome, accepted, refused, leaves}
 use Rattle.format.specs.Book.{text, endEvent}
-use Rattle.format.specs.Items.{Item, StartEvent, EndEvent, classFor, wordsOf, fits, inRange, Token, whole, broken}
+use Rattle.format.specs.Items.{Item, Text, StartEvent, EndEvent, classFor, wordsOf, fits, inRange, Token, whole, broken}
 use Rattle.format.specs.Rules.{Checked, good, bad}
 use Rattle.format.specs.Steps.{St, Stepped, moved, stopped, marked, placeBy, valueBy, sizedBy, orderBy, stateAfter, checkBy}
 use Rattle.format.specs.Writing.{tokenBytes}
 use Rattle.format.specs.PartialSteps.{Put, putChecked, putAnswer, putLeft, PutWrote}
 use Rattle.format.proofs.PrefixLaws.{and-left, and-right}
+use Rattle.format.proofs.TextLaws.{bytes-are}
 use Rattle.format.proofs.Book.{item-in-range}
 use Rattle.book.specs.Fields.{channelWord, histogramWord, hitsWord, sampleWord, binWord, cellWord, timeBinWord, startWord, channelItem, histogramItem, hitsItem, sampleItem, binItem, cellItem, timeItem, startItem, endItem}
 use Rattle.book.specs.declared.items.Channel.{Channel}
@@ -31,7 +32,8 @@ use Rattle.book.specs.declared.items.StartEvent as start
 use Rattle.book.specs.declared.items.EndEvent as end
 use Rattle.book.proofs.FieldLaws.{channel-words, histogram-words, hits-words, sample-words, bin-words, cell-words, time-words, start-words, end-words}
 use Rattle.frame.specs.Views.{tested, endTested, textTested}
-use Rattle.writer.specs.Views.{timeCut, roomIn, answeredBy, placed, placedLeft}
+use Rattle.writer.specs.Views.{timeCut, textBytes, lettered, roomIn, answeredBy, placed, placedLeft}
+use Rattle.writer.proofs.StoreTurns.{zero-behind}
 
 -- ---- the answer to an item of some size
 
@@ -195,6 +197,30 @@ module _ (buf : List ℕ) (n card : ℕ) (st : St) (o : Stepped) (answer : Outco
       none : (a : Outcome Put) → leaves a buf buf ≡ buf
       none (accepted x) = refl
       none (refused k p) = refl
+
+  -- a text that is too long
+  pub text-long : (s : List ℕ) → 254 < length s → o ≡ marked 0 (textTested st false) → answer ≡ answeredBy (length buf) n 0 o → left ≡ buf → Promised (whole (Text s))
+  unfolding putAnswer putLeft checkBy textTested answeredBy
+  text-long s h e f g = rw (lt-leb (length s) 254 h) (go (placeBy st text) (f ∙ ap (answeredBy (length buf) n 0) e))
+    where
+      go : (b : Bool) → answer ≡ answeredBy (length buf) n 0 (marked 0 (pick b (bad 9) (bad 8)))
+          → PutWrote (putChecked buf n (bytes (wordsOf (Text s))) (pick b (bad 9) (bad 8))) (leaves (putChecked buf n (bytes (wordsOf (Text s))) (pick b (bad 9) (bad 8))) buf (sets buf n (bytes (wordsOf (Text s))))) answer left
+      go true a = record { answered = a; written = g }
+      go false a = record { answered = a; written = g }
+
+  -- the rules at a text of at most 254 bytes
+  text-tested : (s : List ℕ) → Bytes s → length s ≤ 254 → textTested st (nonZero s) ≡ checkBy card (n / 2) st (whole (Text s))
+  unfolding checkBy textTested
+  text-tested s bs h = rw (le-leb (length s) 254 h, bytes-are s bs) (rw (and-true, and-true))
+
+  text-is : (s : List ℕ) → Bytes s → length s ≤ 254 → lettered s ≡ bytes (wordsOf (Text s))
+  unfolding textBytes wordsOf bytes
+  text-is s bs h =
+      let w : 0x0100 + (length s + 1) % 256 ≡ 0x0100 + (length s + 1) = omega arith in
+      ap₂ (λ (v : ℕ) (z : List ℕ). (v % 256) ∷ (v / 256) ∷ z) w (sym (zero-behind s bs))
+
+  pub text-put : (s : List ℕ) (b : Bool) → Bytes s → length s ≤ 254 → b ≡ nonZero s → o ≡ marked 0 (textTested st b) → Stored (lettered s) → Promised (whole (Text s))
+  text-put s b bs h e f = arm (Text s) (lettered s) (λ i. text-is s bs h) (f ∙ ap (λ (c : Bool). marked 0 (textTested st c)) e ∙ ap (marked 0) (text-tested s bs h))
 
 -- the rules at an End event, with its low bits zero
 pub end-handed : (at next : ℕ) (st : St) (size : ℕ) (r : Stepped) → size < 4294967296 → r ≡ marked next (endTested at st size 0)

@@ -1,12 +1,18 @@
 // The writer's calls on a partial frame in a lent buffer.
 ghost use mathlib.Core.Path.{_≡_};
 ghost use Prim.Native.Nat.{_%_};
+ghost use Rattle.format.specs.Items.{Text, whole};
 ghost use Rattle.format.specs.Frames.{startWord};
-ghost use Rattle.format.specs.Writing.{beginAnswer, beginLeft, closeAnswer, closeLeft, Wrote};
+ghost use Rattle.format.specs.Writing.{beginAnswer, beginLeft, given, addAnswer, addLeft, closeAnswer, closeLeft, Wrote};
+ghost use Rattle.book.specs.Views.{viewItem};
 ghost use Rattle.frame.specs.Views.{viewKind};
-ghost use Rattle.writer.specs.Views.{viewWritten, refuse};
+ghost use Rattle.writer.specs.Views.{viewWritten, viewPut, lengthOf, refuse};
+use crate::answers::Put;
 use crate::answers::Written;
+use crate::put::put;
+use crate::put::put_text;
 use crate::stores::put_word;
+use book::items::Item;
 use book::refusal::Refusal;
 use frame::begun::Partial;
 use frame::head::END;
@@ -64,6 +70,46 @@ pub fn begin(buf: &mut [u8], kind: Kind, card: u16, sequence: u16) -> Written
             put_word(buf, 2, 0);
             put_word(buf, 4, sequence);
             Written::Length(n)
+        }
+    }
+}
+
+// The new length alone.
+fn reached(answer: Put) -> Written
+    ensures { λ r. ⌜ viewWritten r ≡ lengthOf (viewPut answer) ⌝ }
+{
+    match answer {
+        Put::Refused(r) => Written::Refused(r),
+        Put::Reached(length, _) => Written::Length(length),
+    }
+}
+
+// Adds an item to the partial frame in the first `length` bytes: writes its bytes behind them and answers the new length. It refuses by what is
+// wrong with the partial frame (1 to 4, then 6 to 10); then by 8, 9 or 10 for the item, at word `length`/2, a content too wide for its field being
+// 9; then by 12 at place 0 where the item and an end word would pass the buffer or 8,192 bytes. A text is added by `add_text`; here it is 8 or 9.
+pub fn add(buf: &mut [u8], length: usize, item: Item) -> Written
+    ensures { λ r. ⌜ Wrote (addAnswer (now (buf .entry)) length (given (viewItem item))) (addLeft (now (buf .entry)) length (given (viewItem item))) (viewWritten r) (now (buf .exit)) ⌝ }
+{
+    let judged = partial(buf, length);
+    match judged {
+        Partial::Refused(r) => Written::Refused(r),
+        Partial::Accepted(frame) => {
+            let state = frame.state;
+            reached(put(buf, length, frame.card, state, item))
+        }
+    }
+}
+
+// Adds a text, which comes without its final zero. As `add`; a text over 254 bytes or holding a zero is 9.
+pub fn add_text(buf: &mut [u8], length: usize, text: &[u8]) -> Written
+    ensures { λ r. ⌜ Wrote (addAnswer (now (buf .entry)) length (whole (Text (now (text .entry))))) (addLeft (now (buf .entry)) length (whole (Text (now (text .entry))))) (viewWritten r) (now (buf .exit)) ⌝ }
+{
+    let judged = partial(buf, length);
+    match judged {
+        Partial::Refused(r) => Written::Refused(r),
+        Partial::Accepted(frame) => {
+            let state = frame.state;
+            reached(put_text(buf, length, state, text))
         }
     }
 }

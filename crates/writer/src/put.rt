@@ -2,8 +2,8 @@
 ghost use mathlib.Core.Path.{_≡_};
 ghost use mathlib.Core.List.{[], _∷_, _++_};
 ghost use Prim.Native.Nat.{_≤_};
-ghost use lib.ListN.{length};
 ghost use Rattle.format.specs.Words.{bytes, longWords};
+ghost use Rattle.format.specs.Items as items;
 ghost use Rattle.format.specs.Items.{whole};
 ghost use Rattle.format.specs.Steps.{marked, checkBy};
 ghost use Rattle.format.specs.Writing.{given};
@@ -11,13 +11,15 @@ ghost use Rattle.format.specs.PartialSteps.{putAnswer, putLeft, PutWrote};
 ghost use Rattle.book.specs.Fields.{endItem};
 ghost use Rattle.book.specs.Views.{viewItem};
 ghost use Rattle.frame.specs.Views.{viewState, viewStep};
-ghost use Rattle.writer.specs.Views.{viewPut, roomIn, answeredBy, placed, placedLeft, timeCut};
+ghost use Rattle.writer.specs.Views.{viewPut, roomIn, answeredBy, placed, placedLeft, timeCut, lettered, Short};
 use crate::answers::Put;
+use crate::stores::put_letters;
 use crate::stores::put_six;
 use crate::stores::put_three;
 use crate::stores::put_word;
 use book::items::EndEvent;
 use book::items::Item;
+use book::items::Text;
 use book::refusal::Refusal;
 use frame::head::MOST;
 use frame::rules::Step;
@@ -32,6 +34,7 @@ use frame::rules::start_event;
 use frame::rules::text;
 use frame::rules::time_bin;
 use frame::state::State;
+use frame::texts::no_zero;
 
 // An item of so many bytes and an end word fit behind `length` bytes, in the buffer and in a frame.
 fn has_room(room: usize, length: usize, size: usize) -> bool
@@ -141,4 +144,36 @@ pub fn put(buf: &mut [u8], length: usize, card: u16, st: State, item: Item) -> P
             three_words(buf, length, turn, EndEvent::WORD, x.size)
         }
     }
+}
+
+// An item of a text's letters.
+fn text_words(buf: &mut [u8], length: usize, turn: Step, letters: &[u8]) -> Put
+    requires { ⌜ Short (now letters) ⌝ }
+    ensures { λ r. ⌜ PutWrote (placed (now (buf .entry)) length (lettered (now (letters .entry))) (viewStep turn)) (placedLeft (now (buf .entry)) length (lettered (now (letters .entry))) (viewStep turn)) (viewPut r) (now (buf .exit)) ⌝ }
+{
+    let n = letters.len();
+    let size = 2 + (n + 2) / 2 * 2;
+    let w = Text {
+        length: (n + 1) as u16,
+    }.word();
+    let answer = answered(buf.len(), length, turn, size);
+    match answer {
+        Put::Refused(r) => Put::Refused(r),
+        Put::Reached(next, st) => {
+            put_letters(buf, length, w, letters);
+            Put::Reached(next, st)
+        }
+    }
+}
+
+// Puts a text behind `length` bytes, where `st` is the state behind them; the text comes without its final zero. As `put`: it refuses by 8, by 9
+// for a text over 254 bytes or holding a zero, then by 12 at place 0.
+pub fn put_text(buf: &mut [u8], length: usize, st: State, letters: &[u8]) -> Put
+    ensures { λ r. ⌜ PutWrote (putAnswer (now (buf .entry)) length 0 (viewState st) (whole (items.Text (now (letters .entry))))) (putLeft (now (buf .entry)) length 0 (viewState st) (whole (items.Text (now (letters .entry))))) (viewPut r) (now (buf .exit)) ⌝ }
+{
+    if Text::MOST < letters.len() {
+        return answered(buf.len(), length, text(st, false, 0), 0);
+    }
+    let turn = text(st, no_zero(letters), 0);
+    text_words(buf, length, turn, letters)
 }

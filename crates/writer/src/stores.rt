@@ -1,11 +1,12 @@
 // Words and texts put into a buffer as bytes, low byte first.
 ghost use mathlib.Core.Path.{_≡_};
 ghost use mathlib.Core.List.{[], _∷_, _++_};
-ghost use Prim.Native.Nat.{_+_, _<_};
+ghost use Prim.Native.Nat.{_+_, _<_, _≤_};
 ghost use lib.ListN.{length};
 ghost use lib.Seq.{sets};
 ghost use Rattle.format.specs.Words.{bytes, longWords};
-ghost use Rattle.writer.specs.Views.{timeCut};
+ghost use Rattle.writer.specs.Views.{timeCut, finalZero, textBytes};
+use book::words::copy;
 
 // A word.
 pub(crate) fn put_word(buf: &mut [u8], at: usize, w: u16)
@@ -38,4 +39,38 @@ pub(crate) fn put_six(buf: &mut [u8], at: usize, w: u16, time: u64, n: u32)
     let next = at + 6;
     put_three(buf, at, w, low);
     put_three(buf, next, high, n);
+}
+
+// The final zero of a text of n bytes, and a padding byte where one is due.
+fn put_zero(buf: &mut [u8], at: usize, n: usize)
+    requires { ⌜ at + length (finalZero n) ≤ length (now buf) ⌝ }
+    ensures { λ _. ⌜ now (buf .exit) ≡ sets (now (buf .entry)) at (finalZero n) ⌝ }
+{
+    if n % 2 == 0 {
+        put_word(buf, at, 0);
+        return;
+    }
+    buf[at] = 0;
+}
+
+// Some bytes.
+fn put_bytes(buf: &mut [u8], at: usize, from: &[u8])
+    requires { ⌜ at + length (now from) ≤ length (now buf) ⌝ }
+    ensures { λ _. ⌜ now (buf .exit) ≡ sets (now (buf .entry)) at (now (from .entry)) ⌝ }
+{
+    let to = at + from.len();
+    copy(from, &mut buf[at..to]);
+}
+
+// A word, and a text's bytes with its final zero.
+pub(crate) fn put_letters(buf: &mut [u8], at: usize, w: u16, letters: &[u8])
+    requires { ⌜ at + length (textBytes w (now letters)) ≤ length (now buf) ⌝ }
+    ensures { λ _. ⌜ now (buf .exit) ≡ sets (now (buf .entry)) at (textBytes w (now (letters .entry))) ⌝ }
+{
+    let n = letters.len();
+    let from = at + 2;
+    let to = from + n;
+    put_word(buf, at, w);
+    put_bytes(buf, from, letters);
+    put_zero(buf, to, n);
 }
