@@ -104,6 +104,9 @@ impl Case {
         let op = self.op;
         match op {
             0 => self.within(Case::WORD, 0, 0, 0, 0, false, false),
+            1 => self.within(0, 0, 0, 0, 0, true, false),
+            2 => self.within(u64::MAX, 0, 0, 0, 0, true, false),
+            3 => self.within(u64::MAX, 0, 0, 0, 0, true, false),
             11 => self.within(256, Case::WORD, 0, 0, 0, false, false),
             _ => false,
         }

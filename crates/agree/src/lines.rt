@@ -58,6 +58,21 @@ pub fn ok2(line: &mut [u8], a: u64, b: u64) -> usize
     value(line, at, b)
 }
 
+// The line of an accepted call that answers three values, and four.
+pub fn ok3(line: &mut [u8], a: u64, b: u64, c: u64) -> usize
+    ensures { λ r. ⌜ r ≤ length (now (line .exit)) ⌝ }
+{
+    let at = ok2(line, a, b);
+    value(line, at, c)
+}
+
+pub fn ok4(line: &mut [u8], a: u64, b: u64, c: u64, d: u64) -> usize
+    ensures { λ r. ⌜ r ≤ length (now (line .exit)) ⌝ }
+{
+    let at = ok3(line, a, b, c);
+    value(line, at, d)
+}
+
 // The line of a refused call.
 pub fn refused(line: &mut [u8], number: u32, place: usize) -> usize
     ensures { λ r. ⌜ r ≤ length (now (line .exit)) ⌝ }

@@ -14,7 +14,7 @@ use lib.Seq.{drop-drop, drop-at, take-at}
 use Rattle.format.specs.Words.{Bytes, bytes}
 use Rattle.format.specs.Answers.{Outcome, accepted, refused}
 use Rattle.format.specs.Items.{Item, wordsOf, Token, whole}
-use Rattle.format.specs.Rules.{Kind, since, count, mayEnd}
+use Rattle.format.specs.Rules.{Kind, mayEnd}
 use Rattle.format.specs.Frames.{Frame, behind, Allowed, Sound, allWords, encode, Legal, verdict}
 use Rattle.format.specs.Writing.{partialWords, partialVerdict, beginAnswer, beginLeft, addAnswer, addLeft, closeAnswer, closeLeft}
 use Rattle.format.specs.Runs.{Ran, ran, next, addAll, writeAll}
@@ -23,7 +23,7 @@ use Rattle.format.proofs.WordLaws.{length-bytes}
 use Rattle.format.proofs.Acceptance.{sound, complete}
 use Rattle.format.proofs.ItemQuestions.{all-words}
 use Rattle.format.proofs.SoundLaws.{sound-right, sound-head}
-use Rattle.format.proofs.JoinLaws.{sound-none, behind-one}
+use Rattle.format.proofs.JoinLaws.{behind-one}
 use Rattle.format.proofs.PartialLaws.{partial-complete, begun-length}
 use Rattle.format.proofs.WriterLaws.{begin-exactly, begin-accepted, add-exactly, add-accepted, close-exactly, close-accepted}
 use Rattle.format.proofs.StoreLaws.{six, begin-left, begin-kept, add-kept, close-left}
@@ -283,14 +283,6 @@ module _ (kind : Kind) (card sequence : ℕ) (buf : List ℕ) where
         reached = v .reached ∙ ap (λ (xs : List Item). length (encode (frame xs))) i;
         written = v .written ∙ ap (λ (xs : List Item). encode (frame xs) ++ drop m buf) i;
       }
-
--- there are legal frames of every kind, card and sequence word
-pub empty-legal : (kind : Kind) (card sequence : ℕ) → card ≤ 31 → sequence ≤ 0x0100 → Legal (record { kind = kind; card = card; sequence = sequence; items = [] })
-unfolding behind since count allWords
-empty-legal kind card sequence c q =
-    let f : Frame = record { kind = kind; card = card; sequence = sequence; items = [] } in
-    let l = encode-length f in
-    record { card = c; sequence = q; sound = sound-none kind card []; ended = refl; short = omega arith }
 
 -- T18: every legal frame is written, if it fits
 pub written : (f : Frame) → Legal f → (buf : List ℕ) → length (encode f) ≤ length buf

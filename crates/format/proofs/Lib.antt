@@ -49,4 +49,12 @@ pub mod WriterNumbers
 pub mod Completeness
 pub mod NoDeadEnd
 pub mod Writing
+pub mod Demand2
+pub mod AlikeLaws
+pub mod SpotLaws
+pub mod PutLaws
+pub mod Stability
+pub mod SpotKeys
+pub mod Placed
+pub mod TextPlaced
 pub mod PartialJudging

@@ -1,5 +1,5 @@
 -- Front page of the writer (document 01, "Reading and writing items"): T15 to T20 and T33 to T35 in full, each by citing one law. What the
--- statements say is in specs/Writing.antt, specs/Faults.antt, specs/WriterCases.antt and specs/Runs.antt.
+-- statements say is in specs/Writing.antt, specs/TokenFaults.antt, specs/WriterCases.antt and specs/Runs.antt.
 -- Assumes nothing.
 use Prim.Native.Nat.{ℕ, _+_, _<_, _≤_}
 use mathlib.Core.Path.{_≡_}
@@ -15,6 +15,7 @@ use Rattle.format.specs.Frames.{Frame, behind, Sound, allWords, encode, 
 use Rattle.format.specs.Writing.{Partial, partialWords, partialVerdict, beginAnswer, beginLeft, given, addAnswer, addLeft, closeAnswer, closeLeft}
 use Rattle.format.specs.WriterCases.{PartialAnswer, content, withItem, framed, Ends, oneOf, PartialRefused, Begin, handed, Add, Short, Close, Holds, RunWrote}
 use Rattle.format.specs.Runs.{ran, writeAll}
+use Rattle.format.proofs.Refusals.{empty-legal}
 use Rattle.format.proofs.PartialRefusals.{partial-exactly}
 use Rattle.format.proofs.SoundLaws.{sound-left}
 use Rattle.format.proofs.NoDeadEnd.{no-dead-end, partial-ends}
@@ -22,7 +23,7 @@ use Rattle.format.proofs.WriterLaws.{begin-exactly, add-exactly, close-
 use Rattle.format.proofs.StoreLaws.{begin-left, add-left, begin-found, add-found, close-found, begin-bytes, add-bytes, close-bytes, begin-kept, add-kept, close-kept}
 use Rattle.format.proofs.WriterSteps.{begin-judged, add-judged, close-frame}
 use Rattle.format.proofs.WriterNumbers.{partial-refused, partial-numbers, add-room, begin-numbers, given-handed, add-numbers, close-numbers}
-use Rattle.format.proofs.Completeness.{empty-legal, written, too-short, run-wrote, rewritten}
+use Rattle.format.proofs.Completeness.{written, too-short, run-wrote, rewritten}
 
 -- T15. "Add and close first judge the partial frame by rules 1 to 10, with this length (even, at most the buffer's) and size word and without
 -- rule 5": it is accepted exactly where a sound list of items begins to be written so, and refused by the first broken rule of 1 to 4, or "the first

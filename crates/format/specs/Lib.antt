@@ -16,4 +16,5 @@ pub mod Tree
 pub mod Runs
 pub mod TokenFaults
 pub mod WriterCases
+pub mod Spots
 pub mod PartialSteps

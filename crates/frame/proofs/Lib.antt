@@ -3,4 +3,7 @@ pub mod Steps
 pub mod TextLoops
 pub mod Loop
 pub mod Judging
+pub mod Shows
+pub mod Finding
+pub mod Unique
 pub mod PartialTurns

@@ -12,7 +12,8 @@ use Rattle.format.specs.Answers.{Outcome, accepted, refused}
 use Rattle.format.specs.Words.{wordAt}
 use Rattle.format.specs.Steps as steps
 use Rattle.format.specs.Steps.{St, Stepped, moved, stopped, placeBy, endedBy, Summary, Overview}
-use Rattle.book.specs.Views.{refusal}
+use Rattle.format.specs.Questions.{Shown}
+use Rattle.book.specs.Views.{viewItem, refusal}
 use Rattle.frame.specs.declared.state.Kind.{Kind}
 use Rattle.frame.specs.declared.state.Kind.the-variants as kind
 use Rattle.frame.specs.declared.state.Mode.{Mode}
@@ -26,6 +27,9 @@ use Rattle.frame.specs.declared.reading.Reading.{Reading}
 use Rattle.frame.specs.declared.reading.Reading.the-variants as reading
 use Rattle.frame.specs.declared.reading.Indexed.{Indexed}
 use Rattle.frame.specs.declared.reading.Indexed.the-variants as indexed
+use Rattle.frame.specs.declared.items.FoundItem.{FoundItem}
+use Rattle.frame.specs.declared.items.Found.{Found}
+use Rattle.frame.specs.declared.items.Found.the-variants as found
 use Rattle.frame.specs.declared.walk.Walked.{Walked}
 use Rattle.frame.specs.declared.walk.Walked.the-variants as walk
 
@@ -68,6 +72,13 @@ viewReading (reading.Refused r) = refusal r
 abbrev pub viewIndexed : Indexed → Outcome steps.Indexed
 viewIndexed (indexed.Accepted f i) = accepted (record { frame = viewFrame f; index = i })
 viewIndexed (indexed.Refused r) = refusal r
+
+abbrev pub viewFoundItem : FoundItem → Shown
+viewFoundItem x = record { item = viewItem (x .item); next = x .next }
+
+abbrev pub viewFound : Found → Outcome Shown
+viewFound (found.Item x) = accepted (viewFoundItem x)
+viewFound (found.Refused r) = refusal r
 
 -- what is answered where the items of a frame were walked through
 unfoldable pub endingOf : List ℕ → ℕ → rules.Kind → ℕ → Summary → Outcome steps.Indexed

@@ -1,9 +1,22 @@
-// Frames are read: one verdict, one reading. What each function answers is said by the definitions of the crate `format`.
+// Frames are read: one verdict, one reading. What each function answers is said by the definitions of the crate `format`; each takes all
+// bytes and all arguments. `read` tells whether some bytes are a frame, `item` what stands at an ordinal, `text` a text's bytes. The modules
+// below hold the rules at one item, by which the writer goes too.
 pub mod begun;
 pub mod head;
+pub mod items;
 pub mod partial;
 pub mod reading;
 pub mod rules;
 pub mod state;
 pub mod texts;
 pub mod walk;
+
+pub use items::Found;
+pub use items::FoundItem;
+pub use items::item;
+pub use items::text;
+pub use reading::Frame;
+pub use reading::Reading;
+pub use reading::read;
+pub use state::Kind;
+pub use state::State;

@@ -77,7 +77,8 @@ pub(crate) fn judge(s: &[u8], n: usize) -> Indexed
     }
 }
 
-// Whether the bytes are a frame, and of what kind, card, sequence word and number of items.
+// Whether the bytes are a frame, and of what kind, card, sequence word and number of items. Refuses 1 to 5 in order at 0, then the first
+// faulty item by its first of 6 to 10 at its word index, then 11 at the last word.
 pub fn read(s: &[u8]) -> Reading
     ensures { λ r. ⌜ viewReading r ≡ readOf (now (s .entry)) ⌝ }
 {

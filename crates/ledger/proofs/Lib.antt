@@ -20,3 +20,7 @@ pub mod Swapping
 pub mod Demand3
 pub mod Walking
 pub mod Figures
+pub mod House
+pub mod HouseEdits
+pub mod HouseDemand3
+pub mod HouseFigures

@@ -6,3 +6,6 @@ pub mod Calls
 pub mod Chains
 pub mod Histories
 pub mod First
+pub mod House
+pub mod Judged
+pub mod HouseTable

@@ -1,0 +1,176 @@
+-- T39, T40. What an answer says on paper fixes the answer: each view is injective, so each promise of this crate has one answer.
+-- Assumes nothing.
+use Prim.Native.Nat.{ℕ}
+use mathlib.Core.Path.{_≡_, refl, sym, ap, ap₂, _∙_}
+use mathlib.Core.List.{List}
+use native.Mathlib.Omega.{arith}
+use denote.Ref.{RefT, now, ptr}
+use denote.Slice.{slice-vals}
+use Rattle.format.specs.Answers.{accepted, refused}
+use Rattle.format.specs.Rules as rules
+use Rattle.format.specs.Steps as steps
+use Rattle.format.specs.Steps.{St, Stepped, moved, stopped, Summary, Overview, start, readOf}
+use Rattle.format.specs.Questions.{Shown, shownAt, textAt}
+use Rattle.book.proofs.Unique.{one, undone, same-item, same-refusal}
+use Rattle.frame.specs.declared.state.Kind.{Kind}
+use Rattle.frame.specs.declared.state.Kind.the-variants as kind
+use Rattle.frame.specs.declared.state.Mode.{Mode}
+use Rattle.frame.specs.declared.state.Mode.the-variants as mode
+use Rattle.frame.specs.declared.state.State.{State}
+use Rattle.frame.specs.declared.rules.Step.{Step}
+use Rattle.frame.specs.declared.rules.Step.the-variants as step
+use Rattle.frame.specs.declared.walk.Summary as declared
+use Rattle.frame.specs.declared.walk.Walked.{Walked}
+use Rattle.frame.specs.declared.walk.Walked.the-variants as walk
+use Rattle.frame.specs.declared.reading.Frame.{Frame}
+use Rattle.frame.specs.declared.reading.Reading.{Reading}
+use Rattle.frame.specs.declared.reading.Reading.the-variants as reading
+use Rattle.frame.specs.declared.reading.Indexed.{Indexed}
+use Rattle.frame.specs.declared.reading.Indexed.the-variants as indexed
+use Rattle.frame.specs.declared.items.FoundItem.{FoundItem}
+use Rattle.frame.specs.declared.items.Found.{Found}
+use Rattle.frame.specs.declared.items.Found.the-variants as found
+use Rattle.frame.specs.Views.{viewKind, viewMode, viewState, viewStep, viewSummary, viewWalk, viewFrame, viewReading, viewIndexed, viewFoundItem, viewFound}
+use Rattle.frame.specs.Parts.{textFrom, within}
+
+-- ---- T40
+
+abbrev kindBack : rules.Kind → Kind
+kindBack rules.dataKind = kind.Data
+kindBack rules.monitorKind = kind.Monitor
+kindBack rules.commandKind = kind.Command
+
+kind-back : (r : Kind) → kindBack (viewKind r) ≡ r
+kind-back kind.Data = refl
+kind-back kind.Monitor = refl
+kind-back kind.Command = refl
+
+pub same-kind : (r q : Kind) → viewKind r ≡ viewKind q → r ≡ q
+same-kind = undone viewKind kindBack kind-back
+
+abbrev modeBack : rules.Where → Mode
+modeBack rules.outside = mode.Outside
+modeBack rules.inside = mode.Inside
+modeBack rules.afterChannel = mode.AfterChannel
+modeBack rules.afterTime = mode.AfterTime
+modeBack rules.afterSample = mode.AfterSample
+modeBack rules.unheaded = mode.Unheaded
+modeBack rules.headed = mode.Headed
+modeBack rules.commands = mode.Commands
+
+mode-back : (r : Mode) → modeBack (viewMode r) ≡ r
+mode-back mode.Outside = refl
+mode-back mode.Inside = refl
+mode-back mode.AfterChannel = refl
+mode-back mode.AfterTime = refl
+mode-back mode.AfterSample = refl
+mode-back mode.Unheaded = refl
+mode-back mode.Headed = refl
+mode-back mode.Commands = refl
+
+pub same-mode : (r q : Mode) → viewMode r ≡ viewMode q → r ≡ q
+same-mode = undone viewMode modeBack mode-back
+
+abbrev stateBack : St → State
+stateBack st = record { mode = modeBack (st .mode); key = st .key; next = st .next; opener = st .opener }
+
+state-back : (r : State) → stateBack (viewState r) ≡ r
+state-back r = λ i. record { mode = mode-back (r .mode) i; key = r .key; next = r .next; opener = r .opener }
+
+pub same-state : (r q : State) → viewState r ≡ viewState q → r ≡ q
+same-state = undone viewState stateBack state-back
+
+abbrev stepBack : Stepped → Step
+stepBack (moved st next) = step.Moved (stateBack st) next
+stepBack (stopped n) = step.Stopped n
+
+step-back : (r : Step) → stepBack (viewStep r) ≡ r
+step-back (step.Moved st next) = ap (λ (s : State). step.Moved s next) (state-back st)
+step-back (step.Stopped n) = refl
+
+pub same-step : (r q : Step) → viewStep r ≡ viewStep q → r ≡ q
+same-step = undone viewStep stepBack step-back
+
+abbrev frameBack : Overview → Frame
+frameBack f = record { kind = kindBack (f .kind); card = f .card; sequence = f .sequence; items = f .items; state = stateBack (f .state) }
+
+frame-back : (r : Frame) → frameBack (viewFrame r) ≡ r
+frame-back r = λ i. record { kind = kind-back (r .kind) i; card = r .card; sequence = r .sequence; items = r .items; state = state-back (r .state) i }
+
+pub same-frame : (r q : Frame) → viewFrame r ≡ viewFrame q → r ≡ q
+same-frame = undone viewFrame frameBack frame-back
+
+-- an accepted answer is no refusal, and fixes what was accepted
+module _ {A : Type 0} where
+  inner : (a b : A) → accepted a ≡ accepted b → a ≡ b
+  inner a b e = cc
+
+  neither : {B : Type 0} (a : A) (n p : ℕ) → accepted a ≡ refused n p → B
+  neither a n p e = let z : _≡_ {A = ℕ} 0 1 = cc in absurd (omega arith)
+
+pub same-reading : (r q : Reading) → viewReading r ≡ viewReading q → r ≡ q
+same-reading (reading.Accepted f) (reading.Accepted g) e = ap reading.Accepted (same-frame f g (inner _ _ e))
+same-reading (reading.Accepted f) (reading.Refused n) e = neither _ _ _ e
+same-reading (reading.Refused n) (reading.Accepted f) e = neither _ _ _ (sym e)
+same-reading (reading.Refused n) (reading.Refused m) e = ap reading.Refused (same-refusal n m e)
+
+pub same-indexed : (r q : Indexed) → viewIndexed r ≡ viewIndexed q → r ≡ q
+same-indexed (indexed.Accepted f i) (indexed.Accepted g j) e =
+    let h = inner _ _ e in
+    ap₂ indexed.Accepted (same-frame f g (ap (λ (x : steps.Indexed). x .frame) h)) (ap (λ (x : steps.Indexed). x .index) h)
+same-indexed (indexed.Accepted f i) (indexed.Refused n) e = neither _ _ _ e
+same-indexed (indexed.Refused n) (indexed.Accepted f i) e = neither _ _ _ (sym e)
+same-indexed (indexed.Refused n) (indexed.Refused m) e = ap indexed.Refused (same-refusal n m e)
+
+abbrev summaryBack : Summary → declared.Summary
+summaryBack x = record { count = x .count; index = x .index; state = stateBack (x .state) }
+
+summary-back : (r : declared.Summary) → summaryBack (viewSummary r) ≡ r
+summary-back r = λ i. record { count = r .count; index = r .index; state = state-back (r .state) i }
+
+pub same-walk : (r q : Walked) → viewWalk r ≡ viewWalk q → r ≡ q
+same-walk (walk.Ended x) (walk.Ended y) e = ap walk.Ended (undone viewSummary summaryBack summary-back x y (inner _ _ e))
+same-walk (walk.Ended x) (walk.Refused n) e = neither _ _ _ e
+same-walk (walk.Refused n) (walk.Ended x) e = neither _ _ _ (sym e)
+same-walk (walk.Refused n) (walk.Refused m) e = ap walk.Refused (same-refusal n m e)
+
+same-found-item : (r q : FoundItem) → viewFoundItem r ≡ viewFoundItem q → r ≡ q
+same-found-item r q e =
+    let a = same-item (r .item) (q .item) (ap (λ (x : Shown). x .item) e) in
+    let b : r .next ≡ q .next = ap (λ (x : Shown). x .next) e in
+    λ i. record { item = a i; next = b i }
+
+pub same-found : (r q : Found) → viewFound r ≡ viewFound q → r ≡ q
+same-found (found.Item x) (found.Item y) e = ap found.Item (same-found-item x y (inner _ _ e))
+same-found (found.Item x) (found.Refused n) e = neither _ _ _ e
+same-found (found.Refused n) (found.Item x) e = neither _ _ _ (sym e)
+same-found (found.Refused n) (found.Refused m) e = ap found.Refused (same-refusal n m e)
+
+-- ---- T39, no second result, function by function
+
+pub read-once : (s : List ℕ) (r q : Reading) → viewReading r ≡ readOf s → viewReading q ≡ readOf s → r ≡ q
+read-once s = one viewReading same-reading (readOf s)
+
+pub item-once : (s : List ℕ) (n : ℕ) (r q : Found) → viewFound r ≡ shownAt s n → viewFound q ≡ shownAt s n → r ≡ q
+item-once s n = one viewFound same-found (shownAt s n)
+
+-- A reference has a place, the elements that stand there, and a name by which the logic tracks them, of which no program can tell: what is
+-- fixed is the place and the elements, and so the one machine value of the part, a pointer and a count.
+pub text-once : (s : RefT (List ℕ)) (n : ℕ) (r q : RefT (List ℕ))
+    → (now r ≡ textAt (now s) n) × (ptr r ≡ within (ptr s) (textFrom (now s) n))
+    → (now q ≡ textAt (now s) n) × (ptr q ≡ within (ptr s) (textFrom (now s) n))
+    → (now r ≡ now q) × (ptr r ≡ ptr q) × (slice-vals r ≡ slice-vals q)
+text-once s n r q e f =
+    let a : now r ≡ now q = e .0 ∙ sym (f .0) in
+    let b : ptr r ≡ ptr q = e .1 ∙ sym (f .1) in
+    (a, b, (rw (a, b)))
+
+pub start-once : (k : Kind) (r q : State) → viewState r ≡ start (viewKind k) → viewState q ≡ start (viewKind k) → r ≡ q
+start-once k = one viewState same-state (start (viewKind k))
+
+-- channel, histogram, hit_count, last_cell, time_bin, sample, bin, start_event, end_event and text of src/rules.rt
+pub step-once : (b : Stepped) (r q : Step) → viewStep r ≡ b → viewStep q ≡ b → r ≡ q
+step-once = one viewStep same-step
+
+-- The promises of may_end, may_start, may_stand_inside, may_time, may_sample, may_histogram, may_bin, may_text, paused and no_zero are
+-- equations of the answer itself: `equal-once` of the crate `book`.

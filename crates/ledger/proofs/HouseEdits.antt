@@ -1,0 +1,139 @@
+-- Edits of records over document 01's frames: what allows one in document 01's words, and the items that one leaves.
+-- Assumes nothing.
+use Prim.Native.Nat.{ℕ, suc, _+_, _*_}
+use mathlib.Core.Path.{_≡_, refl, sym, ap, _∙_}
+use mathlib.Core.Logic.{_↔_, _⊎_, ⊎-elim, inl, inr}
+use mathlib.Core.Bool.{true}
+use mathlib.Core.List.{List, [], _∷_, _++_}
+use mathlib.Core.Option.{Option, some}
+use native.Mathlib.Omega.{arith}
+use lib.ListN.{length, take, drop}
+use Rattle.format.specs.Words.{Bytes}
+use Rattle.format.specs.Answers.{accepted, refused}
+use Rattle.format.specs.Frames.{Frame, verdict}
+use Rattle.format.specs.Spots.{SpotIs, legalValue, withValue, withItems}
+use Rattle.format.specs.Spots as spots
+use Rattle.format.proofs.ItemQuestions.{some-is}
+use Rattle.format.proofs.PutLaws.{stands, spot-is}
+use Rattle.format.proofs.Stability as stability
+use Rattle.ledger.specs.Frames.{Spot}
+use Rattle.ledger.specs.Formats.{Correction}
+use Rattle.ledger.specs.Records.{header, lengthIn, countIn, totalIn, frameIn, entryBytes, recordVerdict}
+use Rattle.ledger.specs.Calls.{entryFor, openAnswer, editAnswer, editExit}
+use Rattle.ledger.specs.Chains.{Allowed}
+use Rattle.ledger.specs.Histories.{bytesOf, frameAfter, entriesOf, recordAfter, acceptedEdits}
+use Rattle.ledger.specs.Tests.{Plain}
+use Rattle.ledger.specs.First.{first}
+use Rattle.ledger.specs.House.{told, toldOf, house, Free}
+use Rattle.ledger.proofs.Codecs.{bytes-part}
+use Rattle.ledger.proofs.FirstLaws.{full-limit}
+use Rattle.ledger.proofs.Editing.{edit-exactly}
+use Rattle.ledger.proofs.Refusals.{edit-refusals}
+use Rattle.ledger.proofs.Forward.{forward-whole}
+use Rattle.ledger.proofs.Changing as changing
+use Rattle.ledger.proofs.House.{own, stands-there, same-told, house-first}
+
+asks-nothing : {A : Type 0} (x : List ℕ) (n p : ℕ) → first .asked x ≡ refused n p → A
+unfolding first
+asks-nothing x n p e = let z : _≡_ {A = ℕ} 0 1 = cc in absurd (omega arith)
+
+module _ (b : List ℕ) (c : Correction) where
+  free-of : Allowed house first b c → Free b c
+  unfolding house first
+  free-of a =
+      record {
+        spot = own (a .spot);
+        stands = stands-there (frameIn b) (c .word) (a .spot) (a .stands);
+        sample = λ k. stability.legal-sample (c .value) .0 (ap (λ (i : ℕ). legalValue i (c .value)) (sym k) ∙ a .legal);
+        bin = λ k. stability.legal-bin (c .value) .0 (ap (λ (i : ℕ). legalValue i (c .value)) (sym k) ∙ a .legal);
+        changed = a .changed;
+        operator = a .operator;
+        reason = a .reason;
+        few = full-limit b (entryFor house (frameIn b) c) .0 (a .limit);
+        room = a .room;
+      }
+
+  -- a spot's kind is 1 or 2, so these two cases are all
+  free-legal : Bytes b → (h : Free b c) → legalValue (h .spot .kind) (c .value) ≡ true
+  free-legal y h =
+      ⊎-elim
+      (λ k. ap (λ (i : ℕ). legalValue i (c .value)) k ∙ stability.legal-sample (c .value) .1 (h .sample k))
+      (λ k. ap (λ (i : ℕ). legalValue i (c .value)) k ∙ stability.legal-bin (c .value) .1 (h .bin k))
+      (stability.legal-kind (h .spot .kind) (h .spot .value) (stability.standing (frameIn b) (bytes-part b 16 (lengthIn b) y) (c .word) (h .spot) (h .stands)))
+
+  free-allowed : Bytes b → c .extra ≡ [] → Free b c → Allowed house first b c
+  unfolding house first
+  free-allowed y x h =
+      record {
+        asked = refl;
+        spot = told (h .spot);
+        stands = ap (λ (o : Option spots.Spot). toldOf o) (h .stands);
+        suits = refl;
+        legal = free-legal y h;
+        changed = h .changed;
+        operator = h .operator;
+        reason = h .reason;
+        good = rw x;
+        limit = full-limit b (entryFor house (frameIn b) c) .1 (h .few);
+        room = h .room;
+      }
+
+  -- on an accepted record an edit is accepted exactly where none of 22, 23, 24, 25 and 12 forbids it
+  pub edit-free : Bytes b → c .extra ≡ [] → recordVerdict house first b ≡ accepted tt → (editAnswer house first b c ≡ accepted tt) ↔ Free b c
+  edit-free y x v = (λ e. free-of (edit-exactly house first b c v .0 e), λ h. edit-exactly house first b c v .1 (free-allowed y x h))
+
+  -- the frame that it leaves has the items that stood, but for the value of the one asked for
+  pub edit-items : Bytes b → editAnswer house first b c ≡ accepted tt → (f : Frame) → verdict (frameIn b) ≡ accepted f
+      → (p : spots.Spot) (is : SpotIs (f .items) (c .word) p)
+      → verdict (frameIn (editExit house first b c)) ≡ accepted (withItems f (is .before ++ (withValue (is .item) (c .value) ∷ is .after)))
+  unfolding house
+  edit-items y e f v p is =
+      let a = changing.allowed house first house-first b c y e in
+      let there = spot-is (frameIn b) f (c .word) p v .1 is in
+      let k : p ≡ own (a .spot) = some-is p (own (a .spot)) (sym there ∙ stands-there (frameIn b) (c .word) (a .spot) (a .stands)) in
+      let l : legalValue (p .kind) (c .value) ≡ true = ap (λ (q : spots.Spot). legalValue (q .kind) (c .value)) k ∙ a .legal in
+      ap verdict (changing.edit-frame house first house-first b c y e)
+      ∙ stability.put-accepted (frameIn b) (bytes-part b 16 (lengthIn b) y) (c .word) p there (c .value) l f v is
+
+  -- such an item stands in an accepted frame
+  pub edit-stands : Bytes b → editAnswer house first b c ≡ accepted tt
+      → (f : Frame) × (verdict (frameIn b) ≡ accepted f) × ((p : spots.Spot) × SpotIs (f .items) (c .word) p)
+  edit-stands y e =
+      let a = changing.allowed house first house-first b c y e in
+      let s = stands (frameIn b) (c .word) (own (a .spot)) (stands-there (frameIn b) (c .word) (a .spot) (a .stands)) in
+      (s .frame, s .accepted, (own (a .spot), s .is))
+
+  pub edit-there : Bytes b → editAnswer house first b c ≡ accepted tt
+      → (p : spots.Spot) → spots.spot (frameIn b) (c .word) ≡ some p → spots.spot (frameIn (editExit house first b c)) (c .word) ≡ some (spots.revalued p (c .value))
+  unfolding house
+  edit-there y e p h = stands-there _ (c .word) (told (spots.revalued p (c .value))) (changing.edit-there house first house-first b c y e (told p) (ap (λ (o : Option spots.Spot). toldOf o) h))
+
+  pub edit-elsewhere : Bytes b → editAnswer house first b c ≡ accepted tt
+      → (w : ℕ) → (w ≡ c .word → ⊥) → spots.spot (frameIn (editExit house first b c)) w ≡ spots.spot (frameIn b) w
+  unfolding house
+  edit-elsewhere y e w n = same-told (spots.spot (frameIn (editExit house first b c)) w) (spots.spot (frameIn b) w) (changing.edit-elsewhere house first house-first b c y e w n)
+
+  pub edit-bytes : Bytes b → editAnswer house first b c ≡ accepted tt
+      → editExit house first b c
+      ≡ header first (lengthIn b) (suc (countIn b))
+      ++ (spots.put (frameIn b) (c .word) (c .value)
+      ++ (take (16 * countIn b) (drop (16 + lengthIn b) b) ++ (entryBytes first (entryFor house (frameIn b) c) ++ drop (totalIn first b + 16) b)))
+  unfolding house first
+  edit-bytes y e = changing.edit-whole house first house-first b c y e
+
+  -- this format asks nothing before 22
+  pub edit-reasons : (n p : ℕ) → editAnswer house first b c ≡ refused n p
+      → (recordVerdict house first b ≡ refused n p) ⊎ (Plain 22 n p ⊎ (Plain 23 n p ⊎ (Plain 24 n p ⊎ (Plain 25 n p ⊎ Plain 12 n p))))
+  edit-reasons n p e = ⊎-elim inl (λ r. inr (⊎-elim asks (λ q. q) r)) (edit-refusals house first b c n p e)
+    where
+      asks : first .asked (c .extra) ≡ refused n p → Plain 22 n p ⊎ (Plain 23 n p ⊎ (Plain 24 n p ⊎ (Plain 25 n p ⊎ Plain 12 n p)))
+      asks q = asks-nothing (c .extra) n p q
+
+-- a record after any calls, with an entry's 16 bytes
+pub record-whole : (f buf : List ℕ) → Bytes f → openAnswer house first f buf ≡ accepted tt → (cs : List Correction)
+    → recordAfter house first f buf cs
+    ≡ header first (length f) (length (acceptedEdits house first f buf cs))
+    ++ (frameAfter house f (acceptedEdits house first f buf cs)
+    ++ (bytesOf first (entriesOf house f (acceptedEdits house first f buf cs)) ++ drop (16 + length f + 16 * length (acceptedEdits house first f buf cs)) buf))
+unfolding first
+record-whole f buf y e cs = forward-whole house first house-first f buf y e cs

@@ -1,0 +1,55 @@
+-- Document 01's own frames as a book that records are kept over, and what its entry format asks of an edit, in document 01's words.
+-- Assumes nothing.
+use Prim.Native.Nat.{ℕ, _+_, _≤_, _<_}
+use mathlib.Core.Path.{_≡_, refl}
+use mathlib.Core.List.{List}
+use mathlib.Core.Option.{Option, none, some}
+use lib.ListN.{length}
+use Rattle.format.specs.Frames.{verdict}
+use Rattle.format.specs.Questions.{done}
+use Rattle.format.specs.Spots as spots
+use Rattle.ledger.specs.Frames.{Spot, FrameBook}
+use Rattle.ledger.specs.Formats.{Correction}
+use Rattle.ledger.specs.First.{first}
+use Rattle.ledger.specs.Records.{countIn, totalIn, frameIn}
+
+-- a frame's spot as a book tells it
+abbrev pub told : spots.Spot → Spot
+told p = record { kind = p .kind; value = p .value; key = p .key }
+
+abbrev pub toldOf : Option spots.Spot → Option Spot
+toldOf none = none
+toldOf (some p) = some (told p)
+
+-- the frame judge with its refusals as they are, the spots of accepted frames, and the values put there
+unfoldable pub house : FrameBook
+house = record {
+  judge = λ s. done (verdict s);
+  spot = λ s w. toldOf (spots.spot s w);
+  put = spots.put;
+  legal = spots.legalValue;
+}
+
+pub house-judge : (s : List ℕ) → house .judge s ≡ done (verdict s)
+unfolding house
+house-judge s = refl
+
+pub house-spot : (s : List ℕ) (w : ℕ) → house .spot s w ≡ toldOf (spots.spot s w)
+unfolding house
+house-spot s w = refl
+
+-- an edit of an accepted record that none of 22, 23, 24, 25 and 12 forbids
+pub record Free (b : List ℕ) (c : Correction) : Type 0 where
+  -- the word index is a Sample's or Bin's first word
+  pub spot : spots.Spot
+  pub stands : spots.spot (frameIn b) (c .word) ≡ some spot
+  -- a sample of at most 4,095, a bin's count of at least 1 and 32 bits, and not the present value
+  pub sample : spot .kind ≡ 1 → c .value ≤ 4095
+  pub bin : spot .kind ≡ 2 → (1 ≤ c .value) × (c .value < 4294967296)
+  pub changed : spot .value ≡ c .value → ⊥
+  -- operator 1 to 65,535, reason 1 to 5
+  pub operator : (1 ≤ c .operator) × (c .operator ≤ 65535)
+  pub reason : (1 ≤ c .reason) × (c .reason ≤ 5)
+  -- fewer than 512 entries stand, and the buffer holds one more
+  pub few : countIn b < 512
+  pub room : totalIn first b + 16 ≤ length b
