@@ -58,3 +58,4 @@ pub mod SpotKeys
 pub mod Placed
 pub mod TextPlaced
 pub mod PartialJudging
+pub mod PutSteps

@@ -107,27 +107,27 @@ module _ (buf : List ℕ) (n : ℕ) where
     close-refused = rw verdict-refused
 
   module _ (v : PartialOverview) (e : partialReadOf buf n ≡ accepted v) where
-    content : (f : Partial) × (partialVerdict buf n ≡ accepted f) × (accepted (partialOverview f) ≡ accepted v)
+    pub contained : (f : Partial) × (partialVerdict buf n ≡ accepted f) × (accepted (partialOverview f) ≡ accepted v)
     unfolding partialReadOf
-    content = then-kept (partialVerdict buf n) (λ f. accepted (partialOverview f)) v e
+    contained = then-kept (partialVerdict buf n) (λ f. accepted (partialOverview f)) v e
 
-    view : partialOverview (content .0) ≡ v
-    view = accepted-is _ _ (content .2)
+    pub view-is : partialOverview (contained .0) ≡ v
+    view-is = accepted-is _ _ (contained .2)
 
-    words-behind : Bytes buf → 3 + total (content .0 .earlier) ≡ n / 2
+    words-behind : Bytes buf → 3 + total (contained .0 .earlier) ≡ n / 2
     words-behind bs =
-        let (xs, b) = partial-sound buf bs n (content .0) (content .1) in
-        let l = begun-length buf n (content .0) xs b in
-        let t : total (content .0 .earlier) ≡ total [] + length (allWords xs) = ap total (b .earlier) ∙ total-behind [] xs in
+        let (xs, b) = partial-sound buf bs n (contained .0) (contained .1) in
+        let l = begun-length buf n (contained .0) xs b in
+        let t : total (contained .0 .earlier) ≡ total [] + length (allWords xs) = ap total (b .earlier) ∙ total-behind [] xs in
         let z = total-nil in
         omega arith
 
-    by-state : Bytes buf → (t : Token)
-        → checkBy (v .card) (n / 2) (v .state) t ≡ states (content .0 .kind) (check (content .0 .kind) (content .0 .card) (content .0 .earlier) t)
+    pub by-state : Bytes buf → (t : Token)
+        → checkBy (v .card) (n / 2) (v .state) t ≡ states (contained .0 .kind) (check (contained .0 .kind) (contained .0 .card) (contained .0 .earlier) t)
     by-state bs t =
-        ap (λ (w : PartialOverview). checkBy (w .card) (n / 2) (w .state) t) (sym view)
-        ∙ ap (λ (at : ℕ). checkBy (content .0 .card) at (stateOf (content .0 .kind) (content .0 .earlier)) t) (sym (words-behind bs))
-        ∙ turn (content .0 .kind) (content .0 .card) (content .0 .earlier) t
+        ap (λ (w : PartialOverview). checkBy (w .card) (n / 2) (w .state) t) (sym view-is)
+        ∙ ap (λ (at : ℕ). checkBy (contained .0 .card) at (stateOf (contained .0 .kind) (contained .0 .earlier)) t) (sym (words-behind bs))
+        ∙ turn (contained .0 .kind) (contained .0 .card) (contained .0 .earlier) t
 
     same-answer : (kind : Kind) (t : Token) (o : Checked (List Item))
         → addChecked buf n t o ≡ andThen (putChecked buf n (tokenBytes t) (states kind o)) (λ x. accepted (x .reached))
@@ -142,8 +142,8 @@ module _ (buf : List ℕ) (n : ℕ) where
     pub add-put : Bytes buf → (t : Token) → addAnswer buf n t ≡ andThen (putAnswer buf n (v .card) (v .state) t) (λ x. accepted (x .reached))
     unfolding addAnswer putAnswer
     add-put bs t =
-        rw (content .1, by-state bs t)
-        (same-answer (content .0 .kind) t (check (content .0 .kind) (content .0 .card) (content .0 .earlier) t))
+        rw (contained .1, by-state bs t)
+        (same-answer (contained .0 .kind) t (check (contained .0 .kind) (contained .0 .card) (contained .0 .earlier) t))
 
     pub add-put-left : Bytes buf → (t : Token) → addLeft buf n t ≡ putLeft buf n (v .card) (v .state) t
     unfolding addLeft putLeft
@@ -154,21 +154,21 @@ module _ (buf : List ℕ) (n : ℕ) where
         go (refused k p) = refl
 
     -- the walk that it was accepted by
-    walked : (q : List Item) × (walk (kindIn buf) (cardIn buf) [] 3 (partialBody buf n) ≡ accepted q) × (partialOf buf q ≡ accepted (content .0))
+    walked : (q : List Item) × (walk (kindIn buf) (cardIn buf) [] 3 (partialBody buf n) ≡ accepted q) × (partialOf buf q ≡ accepted (contained .0))
     unfolding partialVerdict partialJudged
     walked =
-        let (t, g) = kept (eqb (partialFault buf n) 0) (partialJudged buf n) (partialFault buf n) 0 (content .0) (content .1) in
-        then-kept (walk (kindIn buf) (cardIn buf) [] 3 (partialBody buf n)) (partialOf buf) (content .0) g
+        let (t, g) = kept (eqb (partialFault buf n) 0) (partialJudged buf n) (partialFault buf n) 0 (contained .0) (contained .1) in
+        then-kept (walk (kindIn buf) (cardIn buf) [] 3 (partialBody buf n)) (partialOf buf) (contained .0) g
 
-    ended : endedBy (v .state .mode) ≡ mayEnd (content .0 .earlier)
+    ended : endedBy (v .state .mode) ≡ mayEnd (contained .0 .earlier)
     unfolding stateOf
     ended =
-        let f : record { kind = kindIn buf; card = cardIn buf; sequence = wordAt buf 2; earlier = walked .0 } ≡ content .0 = accepted-is _ _ (walked .2) in
-        ap (λ (w : PartialOverview). endedBy (w .state .mode)) (sym view)
+        let f : record { kind = kindIn buf; card = cardIn buf; sequence = wordAt buf 2; earlier = walked .0 } ≡ contained .0 = accepted-is _ _ (walked .2) in
+        ap (λ (w : PartialOverview). endedBy (w .state .mode)) (sym view-is)
         ∙ ap (λ (g : Partial). endedBy (stateOf (g .kind) (g .earlier) .mode)) (sym f)
         ∙ may-end (kindIn buf) (cardIn buf) 3 (partialBody buf n) (walked .0) (walked .1)
         ∙ ap (λ (g : Partial). mayEnd (g .earlier)) f
 
     pub close-state : closeAnswer buf n ≡ pick (endedBy (v .state .mode)) (pick (leb (n + 2) (length buf)) (accepted (n + 2)) (refused 12 0)) (refused 11 (n / 2))
     unfolding closeAnswer
-    close-state = rw (content .1, ended)
+    close-state = rw (contained .1, ended)

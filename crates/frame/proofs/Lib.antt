@@ -7,3 +7,4 @@ pub mod Shows
 pub mod Finding
 pub mod Unique
 pub mod PartialTurns
+pub mod PartialUnique

@@ -3,3 +3,5 @@ pub mod StoreTurns
 pub mod PutLaws
 pub mod PartStores
 pub mod AddLaws
+pub mod Unique
+pub mod Promises

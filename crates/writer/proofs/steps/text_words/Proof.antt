@@ -1,4 +1,4 @@
--- `writer::put::text_words` meets its contract.
+-- `writer::steps::text_words` meets its contract.
 -- Assumes nothing.
 use denote.Ref.{now}
 use Prim.Native.Nat.{ℕ, _+_, _*_, _/_, _%_}
@@ -11,8 +11,8 @@ use Rattle.writer.specs.Views.{viewPut, textBytes, lettered}
 use Rattle.writer.proofs.StoreTurns.{text-size}
 use Rattle.writer.proofs.PutLaws.{roomy, kept, stored}
 use borrow.Author.Needs.{needs}
-use Rattle.writer.proofs.put.text_words.Statement.{statement}
-use Rattle.writer.proofs.put.text_words.Tie as tie
+use Rattle.writer.proofs.steps.text_words.Statement.{statement}
+use Rattle.writer.proofs.steps.text_words.Tie as tie
 
 add-size : tie.Need-add-size
 add-size c = search needs

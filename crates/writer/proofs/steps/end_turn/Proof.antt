@@ -1,10 +1,10 @@
--- `writer::put::end_turn` meets its contract.
+-- `writer::steps::end_turn` meets its contract.
 -- Assumes nothing.
 use native.Mathlib.Omega.{arith}
 use Rattle.writer.proofs.PutLaws.{end-handed}
 use borrow.Author.Needs.{needs}
-use Rattle.writer.proofs.put.end_turn.Statement.{statement}
-use Rattle.writer.proofs.put.end_turn.Tie as tie
+use Rattle.writer.proofs.steps.end_turn.Statement.{statement}
+use Rattle.writer.proofs.steps.end_turn.Tie as tie
 
 end-event-requires : tie.Need-end-event-requires
 end-event-requires c κs = search needs

@@ -1,10 +1,10 @@
--- `writer::put::put` meets its contract.
+-- `writer::steps::put` meets its contract.
 -- Assumes nothing.
 use Rattle.writer.proofs.PutLaws.{channel-put, histogram-put, hits-put, sample-put, bin-put, cell-put, time-put, start-put, end-put, text-none}
 use mathlib.Core.Path.{refl}
 use borrow.Author.Needs.{needs}
-use Rattle.writer.proofs.put.put.Statement.{statement}
-use Rattle.writer.proofs.put.put.Tie as tie
+use Rattle.writer.proofs.steps.put.Statement.{statement}
+use Rattle.writer.proofs.steps.put.Tie as tie
 use Rattle.book.proofs.items.Bin.word.Reads as items-Bin-word-reads
 use Rattle.book.proofs.items.Channel.word.Reads as items-Channel-word-reads
 use Rattle.book.proofs.items.Histogram.word.Reads as items-Histogram-word-reads

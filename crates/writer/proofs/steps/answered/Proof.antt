@@ -1,12 +1,12 @@
--- `writer::put::answered` meets its contract.
+-- `writer::steps::answered` meets its contract.
 -- Assumes nothing.
 use mathlib.Core.Path.{ap}
 use native.Mathlib.Omega.{arith}
 use Rattle.frame.specs.Views.{viewStep}
 use Rattle.writer.proofs.PutLaws.{turned-away, comes-in, no-room, room-there}
 use borrow.Author.Needs.{needs}
-use Rattle.writer.proofs.put.answered.Statement.{statement}
-use Rattle.writer.proofs.put.answered.Tie as tie
+use Rattle.writer.proofs.steps.answered.Statement.{statement}
+use Rattle.writer.proofs.steps.answered.Tie as tie
 
 enum-known-turn : tie.Need-enum-known-turn
 enum-known-turn c = search needs

@@ -1,4 +1,4 @@
--- `writer::put::one_word` meets its contract.
+-- `writer::steps::six_words` meets its contract.
 -- Assumes nothing.
 use denote.Ref.{now}
 use mathlib.Core.Path.{_≡_, refl, sym, ap, _∙_}
@@ -9,8 +9,8 @@ use Rattle.frame.specs.Views.{viewStep}
 use Rattle.writer.specs.Views.{viewPut, timeCut}
 use Rattle.writer.proofs.PutLaws.{roomy, kept, stored}
 use borrow.Author.Needs.{needs}
-use Rattle.writer.proofs.put.one_word.Statement.{statement}
-use Rattle.writer.proofs.put.one_word.Tie as tie
+use Rattle.writer.proofs.steps.six_words.Statement.{statement}
+use Rattle.writer.proofs.steps.six_words.Tie as tie
 
 answered-requires : tie.Need-answered-requires
 answered-requires c κs = search needs
@@ -21,10 +21,10 @@ enum-known-answer c = search needs
 enum-known-answer-2 : tie.Need-enum-known-answer-2
 enum-known-answer-2 c = search needs
 
-put-word-requires : tie.Need-put-word-requires
-put-word-requires c κs =
+put-six-requires : tie.Need-put-six-requires
+put-six-requires c κs =
     let k = c .before .before in
-    let r = roomy _ _ 2 _ _ (ap viewPut (sym (k .answer2 .given .1)) ∙ k .before .before .answered .ensures) in
+    let r = roomy _ _ 12 _ _ (ap viewPut (sym (k .answer2 .given .1)) ∙ k .before .before .answered .ensures) in
     omega (arith, r)
 
 returns : tie.Need-returns
@@ -32,7 +32,7 @@ unfolding bytes
 returns c =
     let k = c .before in
     let a = k .before .before .before .before .args in
-    kept (now (a .buf)) (a .length) (bytes (a .w ∷ [])) (viewStep (a .turn)) 2 refl _ _ (ap viewPut (sym (k .answer .given .1)) ∙ k .before .before .answered .ensures)
+    kept (now (a .buf)) (a .length) (bytes (a .w ∷ (timeCut (a .time) ++ longWords (a .n)))) (viewStep (a .turn)) 12 refl _ _ (ap viewPut (sym (k .answer .given .1)) ∙ k .before .before .answered .ensures)
 
 same-length : tie.Need-same-length
 same-length c = search needs
@@ -43,16 +43,16 @@ returns-2 c =
     let w = c .before .before in
     let k = w .before .before .before in
     let a = k .before .before .before .before .args in
-    stored (now (a .buf)) (a .length) (bytes (a .w ∷ [])) (viewStep (a .turn)) 2 refl _ _ (ap viewPut (sym (k .answer2 .given .1)) ∙ k .before .before .answered .ensures) (w .put-word .ensures)
+    stored (now (a .buf)) (a .length) (bytes (a .w ∷ (timeCut (a .time) ++ longWords (a .n)))) (viewStep (a .turn)) 12 refl _ _ (ap viewPut (sym (k .answer2 .given .1)) ∙ k .before .before .answered .ensures) (w .put-six .ensures)
 
-pub one-word-spec : {M : Type 1} → statement M
-one-word-spec =
+pub six-words-spec : {M : Type 1} → statement M
+six-words-spec =
     tie.close
     (tie.spec
     answered-requires
     enum-known-answer
     enum-known-answer-2
-    put-word-requires
+    put-six-requires
     returns
     same-length
     returns-2)

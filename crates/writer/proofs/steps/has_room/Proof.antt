@@ -1,9 +1,9 @@
--- `writer::put::has_room` meets its contract.
+-- `writer::steps::has_room` meets its contract.
 -- Assumes nothing.
 use Rattle.writer.proofs.PutLaws.{past-frame}
 use borrow.Author.Needs.{needs}
-use Rattle.writer.proofs.put.has_room.Statement.{statement}
-use Rattle.writer.proofs.put.has_room.Tie as tie
+use Rattle.writer.proofs.steps.has_room.Statement.{statement}
+use Rattle.writer.proofs.steps.has_room.Tie as tie
 
 returns : tie.Need-returns
 returns c = past-frame (c .before .args .room) (c .before .args .length) (c .before .args .size) (c .if1 .taken)

@@ -1,11 +1,11 @@
--- `writer::put::put_text` meets its contract.
+-- `writer::steps::put_text` meets its contract.
 -- Assumes nothing.
 use denote.Ref.{now}
 use mathlib.Core.Path.{refl}
 use Rattle.writer.proofs.PutLaws.{text-long, text-put}
 use borrow.Author.Needs.{needs}
-use Rattle.writer.proofs.put.put_text.Statement.{statement}
-use Rattle.writer.proofs.put.put_text.Tie as tie
+use Rattle.writer.proofs.steps.put_text.Statement.{statement}
+use Rattle.writer.proofs.steps.put_text.Tie as tie
 
 text-requires : tie.Need-text-requires
 text-requires c κs = search needs

@@ -1,4 +1,4 @@
--- `writer::put::three_words` meets its contract.
+-- `writer::steps::three_words` meets its contract.
 -- Assumes nothing.
 use denote.Ref.{now}
 use mathlib.Core.Path.{_≡_, refl, sym, ap, _∙_}
@@ -9,8 +9,8 @@ use Rattle.frame.specs.Views.{viewStep}
 use Rattle.writer.specs.Views.{viewPut, timeCut}
 use Rattle.writer.proofs.PutLaws.{roomy, kept, stored}
 use borrow.Author.Needs.{needs}
-use Rattle.writer.proofs.put.three_words.Statement.{statement}
-use Rattle.writer.proofs.put.three_words.Tie as tie
+use Rattle.writer.proofs.steps.three_words.Statement.{statement}
+use Rattle.writer.proofs.steps.three_words.Tie as tie
 
 answered-requires : tie.Need-answered-requires
 answered-requires c κs = search needs
