@@ -58,3 +58,5 @@ pub mod SpotKeys
 pub mod Placed
 pub mod TextPlaced
 pub mod ScanLaws
+pub mod PartialJudging
+pub mod PutSteps

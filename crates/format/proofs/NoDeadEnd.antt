@@ -35,12 +35,12 @@ module _ (kind : Kind) (card : ℕ) where
   sound-keeps P step p (x ∷ xs) h s = sound-keeps P step (x ∷ p) xs (step p x h (s .0)) (s .1)
 
 -- the words of the items behind p
-total-behind : (p xs : List Item) → total (behind p xs) ≡ total p + length (allWords xs)
+pub total-behind : (p xs : List Item) → total (behind p xs) ≡ total p + length (allWords xs)
 unfolding behind total allWords
 total-behind p [] = omega arith
 total-behind p (x ∷ xs) = omega (arith, total-behind (x ∷ p) xs, length-append (wordsOf x) (allWords xs))
 
-total-nil : total [] ≡ 0
+pub total-nil : total [] ≡ 0
 unfolding total
 total-nil = refl
 

@@ -62,7 +62,7 @@ none-broken : (b : Bool) (x n : ℕ) → pick b x (suc n) ≡ 0 → (b ≡ true)
 none-broken true x n e = (refl, e)
 none-broken false x n e = absurd (omega arith)
 
-partial-head : (buf : List ℕ) (n : ℕ) → partialFault buf n ≡ 0 → PartialHead buf n
+pub partial-head : (buf : List ℕ) (n : ℕ) → partialFault buf n ≡ 0 → PartialHead buf n
 unfolding partialFault
 partial-head buf n e =
     let (t₁, e₁) = none-broken _ _ 0 e in

@@ -51,14 +51,14 @@ sets-at vs l n m e h =
 
 -- ---- T33: a refused call leaves the buffer as found
 
-as-found : {A B : Type 0} (o : Outcome A) (found written : B) (k p : ℕ) → o ≡ refused k p → leaves o found written ≡ found
+pub as-found : {A B : Type 0} (o : Outcome A) (found written : B) (k p : ℕ) → o ≡ refused k p → leaves o found written ≡ found
 as-found o found written k p e = rw e
 
-as-written : {A B : Type 0} (o : Outcome A) (found written : B) (a : A) → o ≡ accepted a → leaves o found written ≡ written
+pub as-written : {A B : Type 0} (o : Outcome A) (found written : B) (a : A) → o ≡ accepted a → leaves o found written ≡ written
 as-written o found written a e = rw e
 
 -- what holds of the buffer as found and as written holds of what a call leaves
-either-way : {A : Type 0} (P : List ℕ → Type 0) (o : Outcome A) {found written : List ℕ} → P found → P written → P (leaves o found written)
+pub either-way : {A : Type 0} (P : List ℕ → Type 0) (o : Outcome A) {found written : List ℕ} → P found → P written → P (leaves o found written)
 either-way P (accepted a) p q = q
 either-way P (refused k r) p q = p
 

@@ -50,7 +50,7 @@ unfolding bytes
 bytes-append [] vs = refl
 bytes-append (u ∷ us) vs = ap (λ (l : List ℕ). (u % 256) ∷ (u / 256) ∷ l) (bytes-append us vs)
 
-twice : (i : ℕ) → 2 * suc i ≡ suc (suc (2 * i))
+pub twice : (i : ℕ) → 2 * suc i ≡ suc (suc (2 * i))
 twice i = omega arith
 
 twice+1 : (i : ℕ) → 2 * suc i + 1 ≡ suc (suc (2 * i + 1))

@@ -18,3 +18,4 @@ pub mod TokenFaults
 pub mod WriterCases
 pub mod Spots
 pub mod Scans
+pub mod PartialSteps

@@ -6,3 +6,5 @@ pub mod Judging
 pub mod Shows
 pub mod Finding
 pub mod Unique
+pub mod PartialTurns
+pub mod PartialUnique

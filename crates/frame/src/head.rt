@@ -18,6 +18,9 @@ pub const MOST: usize = 8192;
 // The sequence word that starts the count, and the highest there is.
 pub const LAST_SEQUENCE: u16 = 0x0100;
 
+// The highest card that a start word can hold.
+pub const LAST_CARD: u16 = 31;
+
 // The last word of a frame.
 pub const END: u16 = 0x000F;
 

@@ -1,14 +1,18 @@
 // Frames are read: one verdict, one reading. What each function answers is said by the definitions of the crate `format`; each takes all
-// bytes and all arguments. `read` tells whether some bytes are a frame, `item` what stands at an ordinal, `text` a text's bytes. The modules
-// below hold the rules at one item, by which the writer goes too.
+// bytes and all arguments. `read` tells whether some bytes are a frame, `item` what stands at an ordinal, `text` a text's bytes; `partial` judges
+// what the writer has written so far. The modules below hold the rules at one item, by which the writer goes too.
+pub mod begun;
 pub mod head;
 pub mod items;
+pub mod partial;
 pub mod reading;
 pub mod rules;
 pub mod state;
 pub mod texts;
 pub mod walk;
 
+pub use begun::Partial;
+pub use begun::PartialFrame;
 pub use items::Found;
 pub use items::FoundItem;
 pub use items::item;

@@ -1,0 +1,229 @@
+-- One item put: from the turn that the rules took and the bytes stored to the promise, class by class.
+-- Assumes nothing.
+use Prim.Native.Nat.{ℕ, _+_, _/_, _%_, _≤_, _<_}
+use mathlib.Core.Path.{_≡_, refl, sym, ap, ap₂, _∙_}
+use mathlib.Core.List.{List, [], _∷_, _++_}
+use mathlib.Core.Bool.{Bool, true, false, _&&_, and-true}
+use native.Mathlib.Omega.{arith}
+use lib.Dec.{leb, ltb, eqb}
+use lib.ListN.{length, getD}
+use lib.Seq.{sets}
+use borrow.Author.Tests.{leb-true, le-leb, lt-leb, lt-ltb}
+use Rattle.format.specs.Words.{pick, Bytes, bytes, longWords, nonZero}
+use Rattle.format.specs.Answers.{Outcome, accepted, refused, leaves}
+use Rattle.format.specs.Book.{text, endEvent}
+use Rattle.format.specs.Items.{Item, Text, StartEvent, EndEvent, classFor, wordsOf, fits, inRange, Token, whole, broken}
+use Rattle.format.specs.Rules.{Checked, good, bad}
+use Rattle.format.specs.Steps.{St, Stepped, moved, stopped, marked, placeBy, valueBy, sizedBy, orderBy, stateAfter, checkBy}
+use Rattle.format.specs.Writing.{tokenBytes}
+use Rattle.format.specs.PartialSteps.{Put, putChecked, putAnswer, putLeft, PutWrote}
+use Rattle.format.proofs.PrefixLaws.{and-left, and-right}
+use Rattle.format.proofs.TextLaws.{bytes-are}
+use Rattle.format.proofs.Book.{item-in-range}
+use Rattle.book.specs.Fields.{channelWord, histogramWord, hitsWord, sampleWord, binWord, cellWord, timeBinWord, startWord, channelItem, histogramItem, hitsItem, sampleItem, binItem, cellItem, timeItem, startItem, endItem}
+use Rattle.book.specs.declared.items.Channel.{Channel}
+use Rattle.book.specs.declared.items.Histogram.{Histogram}
+use Rattle.book.specs.declared.items.HitCount.{HitCount}
+use Rattle.book.specs.declared.items.Sample.{Sample}
+use Rattle.book.specs.declared.items.Bin.{Bin}
+use Rattle.book.specs.declared.items.LastCell.{LastCell}
+use Rattle.book.specs.declared.items.TimeBin.{TimeBin}
+use Rattle.book.specs.declared.items.StartEvent as start
+use Rattle.book.specs.declared.items.EndEvent as end
+use Rattle.book.proofs.FieldLaws.{channel-words, histogram-words, hits-words, sample-words, bin-words, cell-words, time-words, start-words, end-words}
+use Rattle.frame.specs.Views.{tested, endTested, textTested}
+use Rattle.writer.specs.Views.{timeCut, textBytes, lettered, roomIn, answeredBy, placed, placedLeft}
+use Rattle.writer.proofs.StoreTurns.{zero-behind}
+
+-- ---- the answer to an item of some size
+
+module _ (room n size : ℕ) where
+  pub past-frame : 8192 < n → false ≡ roomIn room n size
+  past-frame h = rw (lt-leb (n + size + 2) 8192 (let l : 8192 < n + size + 2 = omega arith in l)) (go (leb (n + size + 2) room))
+    where
+      go : (b : Bool) → false ≡ b && false
+      go true = refl
+      go false = refl
+
+  module _ (o : Stepped) where
+    pub turned-away : (k : ℕ) → o ≡ stopped k → refused k (n / 2) ≡ answeredBy room n size o
+    unfolding answeredBy
+    turned-away k e = rw e
+
+    pub comes-in : (st : St) (next : ℕ) (b : Bool) → o ≡ moved st next → b ≡ roomIn room n size → b ≡ true
+        → accepted (record { reached = n + size; state = st }) ≡ answeredBy room n size o
+    unfolding answeredBy
+    comes-in st next b e f t = rw (e, ← f, t)
+
+    pub no-room : (st : St) (next : ℕ) (b : Bool) → o ≡ moved st next → b ≡ roomIn room n size → b ≡ false → refused 12 0 ≡ answeredBy room n size o
+    unfolding answeredBy
+    no-room st next b e f t = rw (e, ← f, t)
+
+    pub roomy : (x : Put) → accepted x ≡ answeredBy room n size o → n + size + 2 ≤ room
+    unfolding answeredBy
+    roomy x e = go o e
+      where
+        fit : (b : Bool) (a : Outcome Put) → accepted x ≡ pick b a (refused 12 0) → b ≡ true
+        fit true a f = refl
+        fit false a f = let z : _≡_ {A = ℕ} 0 1 = cc in absurd (omega arith)
+
+        go : (o : Stepped) → accepted x ≡ answeredBy room n size o → n + size + 2 ≤ room
+        go (moved st next) f = leb-true _ _ (and-left (leb (n + size + 2) room) (leb (n + size + 2) 8192) (fit (roomIn room n size) _ f))
+        go (stopped k) f = let z : _≡_ {A = ℕ} 0 1 = cc in absurd (omega arith)
+
+-- the frame's own rule for its room
+pub room-there : (room n size : ℕ) (b : Bool) → b ≡ roomIn room n size → b ≡ true → n + size + 2 ≤ 8192
+room-there room n size b e t = leb-true _ _ (and-right (leb (n + size + 2) room) (leb (n + size + 2) 8192) (sym e ∙ t))
+
+-- ---- the promise of the stores
+
+module _ (buf : List ℕ) (n : ℕ) (bs : List ℕ) (o : Stepped) (size : ℕ) (s : size ≡ length bs) where
+  pub kept : (k p : ℕ) → refused k p ≡ answeredBy (length buf) n size o → PutWrote (placed buf n bs o) (placedLeft buf n bs o) (refused k p) buf
+  kept k p e =
+      let f : refused k p ≡ placed buf n bs o = e ∙ ap (λ (m : ℕ). answeredBy (length buf) n m o) s in
+      record { answered = f; written = rw (← f) }
+
+  pub stored : (x : Put) (b : List ℕ) → accepted x ≡ answeredBy (length buf) n size o → b ≡ sets buf n bs
+      → PutWrote (placed buf n bs o) (placedLeft buf n bs o) (accepted x) b
+  stored x b e g =
+      let f : accepted x ≡ placed buf n bs o = e ∙ ap (λ (m : ℕ). answeredBy (length buf) n m o) s in
+      record { answered = f; written = rw (← f) g }
+
+-- ---- an item that passes the rules fits its fields
+
+passed : (a b c : Bool) (r st : St) → pick a (pick b (pick c (good r) (bad 10)) (bad 9)) (bad 8) ≡ good st → b ≡ true
+passed true true c r st e = refl
+passed true false c r st e = let z : _≡_ {A = ℕ} 0 1 = cc in absurd (omega arith)
+passed false b c r st e = let z : _≡_ {A = ℕ} 0 1 = cc in absurd (omega arith)
+
+good-fits : (card at : ℕ) (st : St) (x : Item) (st′ : St) → checkBy card at st (whole x) ≡ good st′ → fits x ≡ true
+unfolding checkBy
+good-fits card at st x st′ e =
+    item-in-range card x (and-left (inRange card x) (sizedBy at st x) (passed (placeBy st (classFor x)) (valueBy card at st x) (orderBy st x) (stateAfter at st x) st′ e))
+
+-- ---- class by class
+
+module _ (buf : List ℕ) (n card : ℕ) (st : St) (o : Stepped) (answer : Outcome Put) (left : List ℕ) where
+  abbrev pub Stored : List ℕ → Type 0
+  Stored bs = PutWrote (placed buf n bs o) (placedLeft buf n bs o) answer left
+
+  abbrev pub Promised : Token → Type 0
+  Promised t = PutWrote (putAnswer buf n card st t) (putLeft buf n card st t) answer left
+
+  -- the bytes count only where the item passes
+  same-answer : (bs cs : List ℕ) (q : Checked St) → ((r : St) → q ≡ good r → bs ≡ cs) → placed buf n bs (marked 0 q) ≡ putChecked buf n cs q
+  unfolding answeredBy
+  same-answer bs cs (good r) f = rw (f r refl)
+  same-answer bs cs (bad k) f = refl
+
+  same-left : (bs cs : List ℕ) (q : Checked St) → ((r : St) → q ≡ good r → bs ≡ cs)
+      → placedLeft buf n bs (marked 0 q) ≡ leaves (putChecked buf n cs q) buf (sets buf n cs)
+  unfolding answeredBy
+  same-left bs cs (good r) f = rw (f r refl)
+  same-left bs cs (bad k) f = refl
+
+  arm : (x : Item) (bs : List ℕ) → (fits x ≡ true → bs ≡ bytes (wordsOf x)) → o ≡ marked 0 (checkBy card (n / 2) st (whole x)) → Stored bs → Promised (whole x)
+  unfolding putAnswer putLeft
+  arm x bs f e w =
+      let g : (r : St) → checkBy card (n / 2) st (whole x) ≡ good r → bs ≡ bytes (wordsOf x) = λ r q. f (good-fits card (n / 2) st x r q) in
+      record {
+        answered = w .answered ∙ ap (placed buf n bs) e ∙ same-answer bs (bytes (wordsOf x)) (checkBy card (n / 2) st (whole x)) g;
+        written = w .written ∙ ap (placedLeft buf n bs) e ∙ same-left bs (bytes (wordsOf x)) (checkBy card (n / 2) st (whole x)) g;
+      }
+
+  -- an item whose words begin with the word v
+  headed : (x : Item) (w v : ℕ) (ws : List ℕ) → w ≡ v → (fits x ≡ true → wordsOf x ≡ v ∷ ws) → o ≡ marked 0 (checkBy card (n / 2) st (whole x))
+      → Stored (bytes (w ∷ ws)) → Promised (whole x)
+  headed x w v ws e f g = arm x (bytes (w ∷ ws)) (λ h. ap (λ (u : ℕ). bytes (u ∷ ws)) e ∙ ap bytes (sym (f h))) g
+
+  pub channel-put : (x : Channel) (w : ℕ) → o ≡ marked 0 (checkBy card 0 st (whole (channelItem x))) → w ≡ channelWord x → Stored (bytes (w ∷ []))
+      → Promised (whole (channelItem x))
+  unfolding checkBy
+  channel-put x w e f = headed (channelItem x) w (channelWord x) [] f (channel-words x) e
+
+  pub histogram-put : (x : Histogram) (w : ℕ) → o ≡ marked 0 (checkBy card 0 st (whole (histogramItem x))) → w ≡ histogramWord x → Stored (bytes (w ∷ []))
+      → Promised (whole (histogramItem x))
+  unfolding checkBy
+  histogram-put x w e f = headed (histogramItem x) w (histogramWord x) [] f (histogram-words x) e
+
+  pub hits-put : (x : HitCount) (w : ℕ) → o ≡ marked 0 (checkBy card 0 st (whole (hitsItem x))) → w ≡ hitsWord x → Stored (bytes (w ∷ []))
+      → Promised (whole (hitsItem x))
+  unfolding checkBy
+  hits-put x w e f = headed (hitsItem x) w (hitsWord x) [] f (hits-words x) e
+
+  pub sample-put : (x : Sample) (w : ℕ) → o ≡ marked 0 (checkBy 0 0 st (whole (sampleItem x))) → w ≡ sampleWord x → Stored (bytes (w ∷ []))
+      → Promised (whole (sampleItem x))
+  unfolding checkBy
+  sample-put x w e f = headed (sampleItem x) w (sampleWord x) [] f (sample-words x) e
+
+  pub bin-put : (x : Bin) (w : ℕ) → o ≡ marked 0 (checkBy 0 0 st (whole (binItem x))) → w ≡ binWord x → Stored (bytes (w ∷ longWords (x .count)))
+      → Promised (whole (binItem x))
+  unfolding checkBy
+  bin-put x w e f = headed (binItem x) w (binWord x) (longWords (x .count)) f (bin-words x) e
+
+  pub cell-put : (x : LastCell) (w : ℕ) → o ≡ marked 0 (checkBy 0 0 st (whole (cellItem x))) → w ≡ cellWord x → Stored (bytes (w ∷ []))
+      → Promised (whole (cellItem x))
+  unfolding checkBy
+  cell-put x w e f = headed (cellItem x) w (cellWord x) [] f (cell-words x) e
+
+  pub time-put : (x : TimeBin) (w : ℕ) → o ≡ marked 0 (checkBy 0 0 st (whole (timeItem x))) → w ≡ timeBinWord x → Stored (bytes (w ∷ []))
+      → Promised (whole (timeItem x))
+  unfolding checkBy
+  time-put x w e f = headed (timeItem x) w (timeBinWord x) [] f (time-words x) e
+
+  pub start-put : (x : start.StartEvent) (w : ℕ) → o ≡ marked 0 (checkBy 0 (n / 2) st (whole (startItem x))) → w ≡ startWord x
+      → Stored (bytes (w ∷ (timeCut (x .timestamp) ++ longWords (x .number)))) → Promised (whole (startItem x))
+  unfolding checkBy
+  start-put x w e f =
+      headed (startItem x) w (startWord x) (timeCut (x .timestamp) ++ longWords (x .number)) f
+      (λ h. start-words x h ∙ ap (λ (k : ℕ). startWord x ∷ (x .timestamp % 65536) ∷ (x .timestamp / 65536 % 65536) ∷ k ∷ longWords (x .number)) (cut h)) e
+    where
+      cut : fits (startItem x) ≡ true → x .timestamp / 4294967296 ≡ x .timestamp / 4294967296 % 65536
+      cut h =
+          let t = leb-true (x .timestamp) 281474976710655 (and-right (leb (x .kind) 15) (leb (x .timestamp) 281474976710655) (and-left (leb (x .kind) 15 && leb (x .timestamp) 281474976710655) (ltb (x .number) 4294967296) h)) in
+          omega (arith, t)
+
+  pub end-put : (x : end.EndEvent) → o ≡ marked 0 (checkBy 0 (n / 2) st (whole (endItem x))) → Stored (bytes (0x00E0 ∷ longWords (x .size))) → Promised (whole (endItem x))
+  unfolding checkBy
+  end-put x e = headed (endItem x) 0x00E0 0x00E0 (longWords (x .size)) refl (λ h. end-words x) e
+
+  -- a text without its bytes is one that breaks its rule
+  pub text-none : o ≡ marked 0 (textTested st false) → answer ≡ answeredBy (length buf) n 0 o → left ≡ buf → Promised (broken text)
+  unfolding putAnswer putLeft checkBy textTested
+  text-none e f g =
+      let q : placed buf n [] o ≡ putChecked buf n [] (checkBy card (n / 2) st (broken text)) = ap (placed buf n []) e ∙ same-answer [] [] (checkBy card (n / 2) st (broken text)) (λ r h. refl) in
+      record { answered = f ∙ q; written = g ∙ sym (none (putChecked buf n [] (checkBy card (n / 2) st (broken text)))) }
+    where
+      none : (a : Outcome Put) → leaves a buf buf ≡ buf
+      none (accepted x) = refl
+      none (refused k p) = refl
+
+  -- a text that is too long
+  pub text-long : (s : List ℕ) → 254 < length s → o ≡ marked 0 (textTested st false) → answer ≡ answeredBy (length buf) n 0 o → left ≡ buf → Promised (whole (Text s))
+  unfolding putAnswer putLeft checkBy textTested answeredBy
+  text-long s h e f g = rw (lt-leb (length s) 254 h) (go (placeBy st text) (f ∙ ap (answeredBy (length buf) n 0) e))
+    where
+      go : (b : Bool) → answer ≡ answeredBy (length buf) n 0 (marked 0 (pick b (bad 9) (bad 8)))
+          → PutWrote (putChecked buf n (bytes (wordsOf (Text s))) (pick b (bad 9) (bad 8))) (leaves (putChecked buf n (bytes (wordsOf (Text s))) (pick b (bad 9) (bad 8))) buf (sets buf n (bytes (wordsOf (Text s))))) answer left
+      go true a = record { answered = a; written = g }
+      go false a = record { answered = a; written = g }
+
+  -- the rules at a text of at most 254 bytes
+  text-tested : (s : List ℕ) → Bytes s → length s ≤ 254 → textTested st (nonZero s) ≡ checkBy card (n / 2) st (whole (Text s))
+  unfolding checkBy textTested
+  text-tested s bs h = rw (le-leb (length s) 254 h, bytes-are s bs) (rw (and-true, and-true))
+
+  text-is : (s : List ℕ) → Bytes s → length s ≤ 254 → lettered s ≡ bytes (wordsOf (Text s))
+  unfolding textBytes wordsOf bytes
+  text-is s bs h =
+      let w : 0x0100 + (length s + 1) % 256 ≡ 0x0100 + (length s + 1) = omega arith in
+      ap₂ (λ (v : ℕ) (z : List ℕ). (v % 256) ∷ (v / 256) ∷ z) w (sym (zero-behind s bs))
+
+  pub text-put : (s : List ℕ) (b : Bool) → Bytes s → length s ≤ 254 → b ≡ nonZero s → o ≡ marked 0 (textTested st b) → Stored (lettered s) → Promised (whole (Text s))
+  text-put s b bs h e f = arm (Text s) (lettered s) (λ i. text-is s bs h) (f ∙ ap (λ (c : Bool). marked 0 (textTested st c)) e ∙ ap (marked 0) (text-tested s bs h))
+
+-- the rules at an End event, with its low bits zero
+pub end-handed : (at next : ℕ) (st : St) (size : ℕ) (r : Stepped) → size < 4294967296 → r ≡ marked next (endTested at st size 0)
+    → r ≡ marked next (checkBy 0 at st (whole (EndEvent size)))
+unfolding endTested checkBy
+end-handed at next st size r h e = rw (lt-ltb size 4294967296 h) e
