@@ -1,7 +1,7 @@
 // The proved library's side of the comparison with an independent second program (document 01, "Figures to agree with"): reads cases from
 // standard input and writes one line for each. README.md says what a case and its line look like, and how an op is added.
 //
-// The ops that are there: 0 classify, 1 read, 2 item, 3 text, 4 event, 5 samples, 6 counts, 11 follow, 12 record, 13 entry. Any other is a bad case.
+// The ops that are there: 0 classify, 1 read, 2 item, 3 text, 4 event, 5 samples, 6 counts, 7 begin, 8 add, 9 add text, 10 close, 11 follow, 12 record, 13 entry. Any other is a bad case.
 mod cases;
 mod lines;
 mod ops;
@@ -10,6 +10,7 @@ mod ops_follower;
 mod ops_frame;
 mod ops_questions;
 mod ops_record;
+mod ops_writer;
 mod sums;
 
 ghost use Prim.Native.Nat.{_≤_};

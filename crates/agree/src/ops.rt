@@ -5,6 +5,7 @@ use crate::ops_follower;
 use crate::ops_frame;
 use crate::ops_questions;
 use crate::ops_record;
+use crate::ops_writer;
 
 // Answers a case whose payloads are p and q; 0 where it is none.
 pub fn answer(case: Case, p: &mut [u8], q: &mut [u8], line: &mut [u8]) -> usize {
@@ -20,6 +21,10 @@ pub fn answer(case: Case, p: &mut [u8], q: &mut [u8], line: &mut [u8]) -> usize 
         4 => ops_questions::event(p, case.a0, line),
         5 => ops_questions::samples(p, case.a0, case.a1, case.a2, case.a3, case.a4, line),
         6 => ops_questions::counts(p, case.a0, case.a1, case.a2, case.a3, line),
+        7 => ops_writer::begin(p, case.a0, case.a1, case.a2, line),
+        8 => ops_writer::add(p, case.a0, case.a1, case.a2, case.a3, case.a4, line),
+        9 => ops_writer::add_text(p, q, case.a0, line),
+        10 => ops_writer::close(p, case.a0, line),
         11 => ops_follower::follow(case.a0, case.a1, line),
         12 => ops_record::record(p, line),
         13 => ops_record::entry(p, case.a0, line),

@@ -1,0 +1,192 @@
+// The ops over the writer: begin, add, add text, close.
+use crate::cases;
+use crate::lines;
+use crate::sums;
+use book::items::Bin;
+use book::items::Channel;
+use book::items::EndEvent;
+use book::items::Histogram;
+use book::items::HitCount;
+use book::items::Item;
+use book::items::LastCell;
+use book::items::Sample;
+use book::items::StartEvent;
+use book::items::TimeBin;
+use frame::state::Kind;
+use writer::answers::Written;
+
+fn told(answer: Written, line: &mut [u8]) -> usize {
+    match answer {
+        Written::Length(n) => lines::ok1(line, n as u64),
+        Written::Refused(r) => lines::refused(line, r.number, r.place),
+    }
+}
+
+// The line with the buffer as the call left it.
+fn left(p: &[u8], line: &mut [u8], at: usize) -> usize {
+    lines::buffer(line, at, p.len(), sums::bytes(p))
+}
+
+fn kind_of(code: u64) -> Kind {
+    match code {
+        0 => Kind::Data,
+        1 => Kind::Monitor,
+        2..=18446744073709551615 => Kind::Command,
+    }
+}
+
+// Op 7: begins a frame of kind a0, card a1 and sequence word a2 in p.
+pub fn begin(p: &mut [u8], a0: u64, a1: u64, a2: u64, line: &mut [u8]) -> usize {
+    let answer = writer::calls::begin(p, kind_of(a0), cases::low16(a1), cases::low16(a2));
+    let at = told(answer, line);
+    left(p, line, at)
+}
+
+fn add_item(p: &mut [u8], length: u64, item: Item, line: &mut [u8]) -> usize {
+    let answer = writer::calls::add(p, length as usize, item);
+    let at = told(answer, line);
+    left(p, line, at)
+}
+
+// The first three fields, as 16 bits each.
+struct Three {
+    a: u16,
+    b: u16,
+    c: u16,
+}
+
+fn header(p: &mut [u8], length: u64, class: u64, f: Three, line: &mut [u8]) -> usize {
+    match class {
+        1 => add_item(
+            p,
+            length,
+            Item::Channel(Channel {
+                card: f.a,
+                chip: f.b,
+                channel: f.c,
+            }),
+            line,
+        ),
+        2 => add_item(
+            p,
+            length,
+            Item::Histogram(Histogram {
+                card: f.a,
+                chip: f.b,
+                channel: f.c,
+            }),
+            line,
+        ),
+        3 => add_item(
+            p,
+            length,
+            Item::HitCount(HitCount {
+                card: f.a,
+                chip: f.b,
+                count: f.c,
+            }),
+            line,
+        ),
+        4 => add_item(p, length, Item::Sample(Sample { value: f.a }), line),
+        6 => add_item(
+            p,
+            length,
+            Item::LastCell(LastCell {
+                chip: f.a,
+                cell: f.b,
+            }),
+            line,
+        ),
+        7 => add_item(p, length, Item::TimeBin(TimeBin { time: f.a }), line),
+        _ => 0,
+    }
+}
+
+// Whether the fields of an item of 16-bit fields are within them, and those that the class does not have are zero.
+fn narrow(class: u64, a2: u64, a3: u64, a4: u64) -> bool {
+    let two = (class == 1) | (class == 2) | (class == 3) | (class == 6);
+    let three = (class == 1) | (class == 2) | (class == 3);
+    (a2 <= 65535) & ((two & (a3 <= 65535)) | (a3 == 0)) & ((three & (a4 <= 65535)) | (a4 == 0))
+}
+
+fn wide(
+    p: &mut [u8],
+    length: u64,
+    class: u64,
+    a2: u64,
+    a3: u64,
+    a4: u64,
+    line: &mut [u8],
+) -> usize {
+    match class {
+        5 => {
+            if (a2 <= 65535) & (a3 <= 4294967295) & (a4 == 0) {
+                return add_item(
+                    p,
+                    length,
+                    Item::Bin(Bin {
+                        bin: cases::low16(a2),
+                        count: cases::low32(a3),
+                    }),
+                    line,
+                );
+            }
+            0
+        }
+        12 => {
+            if (a2 <= 65535) & (a4 <= 4294967295) {
+                let x = StartEvent {
+                    kind: cases::low16(a2),
+                    timestamp: a3,
+                    number: cases::low32(a4),
+                };
+                return add_item(p, length, Item::StartEvent(x), line);
+            }
+            0
+        }
+        13 => {
+            if (a2 <= 4294967295) & (a3 == 0) & (a4 == 0) {
+                return add_item(
+                    p,
+                    length,
+                    Item::EndEvent(EndEvent {
+                        size: cases::low32(a2),
+                    }),
+                    line,
+                );
+            }
+            0
+        }
+        _ => 0,
+    }
+}
+
+// Op 8: adds an item of class a1 with the fields a2, a3, a4 to p of length a0.
+pub fn add(p: &mut [u8], a0: u64, a1: u64, a2: u64, a3: u64, a4: u64, line: &mut [u8]) -> usize {
+    if (a1 == 5) | (a1 == 12) | (a1 == 13) {
+        return wide(p, a0, a1, a2, a3, a4, line);
+    }
+    if narrow(a1, a2, a3, a4) {
+        let f = Three {
+            a: cases::low16(a2),
+            b: cases::low16(a3),
+            c: cases::low16(a4),
+        };
+        return header(p, a0, a1, f, line);
+    }
+    0
+}
+
+// Op 9: adds the text q to p of length a0.
+pub fn add_text(p: &mut [u8], q: &[u8], a0: u64, line: &mut [u8]) -> usize {
+    let answer = writer::calls::add_text(p, a0 as usize, q);
+    let at = told(answer, line);
+    left(p, line, at)
+}
+
+// Op 10: closes p of length a0.
+pub fn close(p: &mut [u8], a0: u64, line: &mut [u8]) -> usize {
+    let answer = writer::calls::close(p, a0 as usize);
+    let at = told(answer, line);
+    left(p, line, at)
+}
