@@ -1,13 +1,18 @@
 -- Words stored one after the other: what is left to store, stored, gives what all of them stored give.
 -- Assumes nothing.
-use Prim.Native.Nat.{ℕ, suc, _+_, _*_, _≤_, _<_}
+use Prim.Native.Nat.{ℕ, suc, _+_, _*_, _-_, _/_, _%_, _≤_, _<_}
 use mathlib.Core.Path.{_≡_, refl, sym, ap, _∙_}
 use mathlib.Core.List.{List, [], _∷_}
 use native.Mathlib.Omega.{arith}
 use native.Mathlib.Numerals.{add-one}
-use lib.ListN.{length, getD, drop, drop-of-length-le}
-use lib.Seq.{sets, drop-cons}
+use lib.ListN.{length, getD, take, drop, length-drop, drop-of-length-le}
+use lib.Seq.{sets, drop-cons, length-take-le}
+use borrow.Rule.Slice.PartMut.{putMid}
 use Rattle.format.specs.Words.{bytes}
+use Rattle.ledger.specs.Formats.{Entry}
+use Rattle.ledger.specs.Records.{entryBytes}
+use Rattle.ledger.specs.First.{first}
+use Rattle.ledger.proofs.Stores.{sets-whole, part-stores}
 
 module _ (at : ℕ) (ws : List ℕ) where
   pub words-start : (buf : List ℕ) → sets buf (at + 2 * 0) (bytes (drop 0 ws)) ≡ sets buf at (bytes ws)
@@ -24,3 +29,17 @@ module _ (at : ℕ) (ws : List ℕ) where
   pub words-end : (buf all : List ℕ) (i : ℕ) → length ws ≤ i → sets buf (at + 2 * i) (bytes (drop i ws)) ≡ all → buf ≡ all
   unfolding bytes
   words-end buf all i h e = ap (λ (l : List ℕ). sets buf (at + 2 * i) (bytes l)) (sym (drop-of-length-le ws {i = i} h)) ∙ e
+
+-- the eight words of an entry
+pub entry-stores : (b l : List ℕ) (at : ℕ) (e : Entry)
+    → l ≡ sets b at (bytes (e .word ∷ e .kind ∷ (e .old % 65536) ∷ (e .old / 65536) ∷ (e .new % 65536) ∷ (e .new / 65536) ∷ e .operator ∷ e .reason ∷ []))
+    → l ≡ sets b at (entryBytes first e)
+unfolding entryBytes first bytes
+entry-stores b l at e s = s
+
+-- a part of a `&mut` slice, filled with a list of its length: that list stored in the whole
+pub part-whole : (xs : List ℕ) (a e : ℕ) (ys : List ℕ) → a ≤ e → e ≤ length xs → length ys ≡ e - a → putMid a (e - a) xs ys ≡ sets xs a ys
+part-whole xs a e ys h k l =
+    let m : length (take (e - a) (drop a xs)) ≡ e - a = length-take-le (e - a) (drop a xs) (rw (length-drop a xs) (omega arith)) in
+    let z : a + 0 ≡ a = omega arith in
+    ap (putMid a (e - a) xs) (sym (sets-whole (take (e - a) (drop a xs)) ys (l ∙ sym m))) ∙ part-stores xs a e 0 ys h k (omega arith) ∙ ap (λ (i : ℕ). sets xs i ys) z

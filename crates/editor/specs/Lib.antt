@@ -1,2 +1,3 @@
 pub mod Views
 pub mod Promises
+pub mod Writes
