@@ -55,3 +55,4 @@ pub mod SpotLaws
 pub mod PutLaws
 pub mod Stability
 pub mod SpotKeys
+pub mod ScanLaws

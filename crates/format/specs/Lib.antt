@@ -17,3 +17,4 @@ pub mod Runs
 pub mod TokenFaults
 pub mod WriterCases
 pub mod Spots
+pub mod Scans

@@ -1,0 +1,4 @@
+pub mod Scanning
+pub mod UndoLaws
+pub mod RecordLaws
+pub mod Unique

@@ -1,0 +1,226 @@
+-- From the header, the frame's verdict and the history to what the questions on a record answer.
+-- Assumes nothing.
+use Prim.Native.Nat.{ℕ, zero, suc, _+_, _-_, _*_, _<_, _≤_}
+use mathlib.Core.Path.{_≡_, refl, sym, ap, ap₂, subst, _∙_}
+use mathlib.Core.List.{List, [], _∷_}
+use mathlib.Core.Bool.{Bool, true, false, not, _&&_}
+use mathlib.Core.Option.{Option, none, some}
+use native.Mathlib.Nat.{add-sub-cancel-left}
+use native.Mathlib.Omega.{arith}
+use lib.Dec.{eqb, leb, ltb}
+use lib.ListN.{length, getD, take, drop, length-drop, replicate}
+use lib.Seq.{take-all, length-take-le}
+use borrow.Author.Tests.{leb-true, eqb-true, eqb-false, eq-eqb, ne-eqb, le-leb, lt-leb, lt-ltb}
+use Rattle.format.specs.Words.{pick, Bytes, wordAt, longAt}
+use Rattle.format.specs.Answers.{Outcome, accepted, refused, Done, andThen, need, firstOf}
+use Rattle.format.specs.Frames.{Frame, verdict}
+use Rattle.format.specs.Steps.{Overview, overview, readOf}
+use Rattle.format.specs.Questions.{done}
+use Rattle.format.specs.Spots.{spot, legalValue}
+use Rattle.format.specs.Spots as spots
+use Rattle.format.proofs.PrefixLaws.{and-left, and-right}
+use Rattle.format.proofs.WordLaws.{below-drop, below-take}
+use Rattle.format.proofs.PutLaws.{spot-refused}
+use Rattle.ledger.specs.Tests.{all}
+use Rattle.ledger.specs.Frames.{Accepted}
+use Rattle.ledger.specs.Formats.{Entry}
+use Rattle.ledger.specs.Records.{lengthIn, countIn, totalIn, frameIn, entryOf, numbered, entriesTo, length-entries, headerRight, signed, historyVerdict, recordVerdict}
+use Rattle.ledger.specs.Calls.{Summary, recordAnswer, entryAnswer}
+use Rattle.ledger.specs.Judged.{Judged, judgedAt}
+use Rattle.ledger.specs.Chains.{Header}
+use Rattle.ledger.specs.First.{first}
+use Rattle.ledger.specs.House.{toldOf, house, house-judge, house-spot}
+use Rattle.ledger.proofs.Headers.{header-words}
+use Rattle.ledger.proofs.Judging.{verdict-parts, parts-verdict, frame-refused}
+use Rattle.plane.specs.Views.{summaryAt}
+
+-- ---- the tests of the code, as the rules have them
+
+pub legal-sample : (k v : ℕ) → k ≡ 1 → leb v 4095 ≡ legalValue k v
+unfolding legalValue
+legal-sample k v e = rw (eq-eqb k 1 e)
+
+pub legal-bin : (k v : ℕ) → (k ≡ 1 → ⊥) → v < 4294967296 → (eqb k 2 && leb 1 v) ≡ legalValue k v
+unfolding legalValue
+legal-bin k v n h = rw (ne-eqb k 1 n, lt-ltb v 4294967296 h) (sym (and-true (eqb k 2 && leb 1 v)))
+  where
+    and-true : (a : Bool) → (a && true) ≡ a
+    and-true true = refl
+    and-true false = refl
+
+pub header-tests : (b : List ℕ) (a c d len e n t z : ℕ) → a ≡ wordAt b 0 → c ≡ wordAt b 1 → d ≡ wordAt b 2 → len ≡ wordAt b 3 → e ≡ wordAt b 4 → n ≡ wordAt b 5
+    → t ≡ wordAt b 6 → z ≡ wordAt b 7
+    → ((((((((leb 16 (length b) && eqb a 1) && eqb c 1) && eqb d 16) && eqb e (16 + len)) && eqb t (16 + len + 16 * n)) && eqb z 0) && leb (16 + len + 16 * n) (length b)) && leb n 512)
+    ≡ headerRight first b
+unfolding headerRight all first lengthIn countIn
+header-tests b a c d len e n t z ea ec ed el ee en et ez = rw (ea, ec, ed, el, ee, en, et, ez, length-entries first b (wordAt b 5))
+
+-- the entry that begins at byte `at` of a buffer, read from the part that begins there
+pub entry-read : (b : List ℕ) (at : ℕ) → at ≤ length b → (w k old new o r : ℕ) → w ≡ wordAt (take (length b - at) (drop at b)) 0 → k ≡ wordAt (take (length b - at) (drop at b)) 1
+    → old ≡ longAt (take (length b - at) (drop at b)) 2 → new ≡ longAt (take (length b - at) (drop at b)) 4 → o ≡ wordAt (take (length b - at) (drop at b)) 6
+    → r ≡ wordAt (take (length b - at) (drop at b)) 7
+    → record { word = w; kind = k; old = old; new = new; operator = o; reason = r; extra = [] } ≡ entryOf first (drop at b)
+unfolding entryOf first
+entry-read b at h w k old new o r ew ek eo en ep er =
+    let d : take (length b - at) (drop at b) ≡ drop at b = take-all (length b - at) (drop at b) (rw (length-drop at b) (omega arith)) in
+    rw (ew, ek, eo, en, ep, er, d)
+
+-- ---- the frame's verdict
+
+judge-of : (o : Outcome Frame) (n p : ℕ) → refused n p ≡ andThen o (λ f. accepted (overview f)) → done o ≡ refused n p
+judge-of (accepted f) n p e = let z : _≡_ {A = ℕ} 0 1 = cc in absurd (omega arith)
+judge-of (refused m q) n p e = cc
+
+accept-of : (o : Outcome Frame) (x : Overview) → accepted x ≡ andThen o (λ f. accepted (overview f)) → done o ≡ accepted tt
+accept-of (accepted f) x e = refl
+accept-of (refused m q) x e = let z : _≡_ {A = ℕ} 0 1 = cc in absurd (omega arith)
+
+pub judge-refused : (s : List ℕ) (n p : ℕ) → refused n p ≡ readOf s → house .judge s ≡ refused n p
+unfolding readOf
+judge-refused s n p e = house-judge s ∙ judge-of (verdict s) n p e
+
+pub judge-accepted : (s : List ℕ) (x : Overview) → accepted x ≡ readOf s → house .judge s ≡ accepted tt
+unfolding readOf
+judge-accepted s x e = house-judge s ∙ accept-of (verdict s) x e
+
+no-frame : (o : Outcome Frame) (n p : ℕ) → done o ≡ refused n p → o ≡ refused n p
+no-frame (accepted f) n p e = let z : _≡_ {A = ℕ} 0 1 = cc in absurd (omega arith)
+no-frame (refused m q) n p e = let f : refused m q ≡ refused n p = e in ap₂ refused (number m q n p f) (place m q n p f)
+  where
+    number : (m q n p : ℕ) → _≡_ {A = Done} (refused m q) (refused n p) → m ≡ n
+    number m q n p f = cc
+
+    place : (m q n p : ℕ) → _≡_ {A = Done} (refused m q) (refused n p) → q ≡ p
+    place m q n p f = cc
+
+-- where the bytes are no frame nothing stands
+pub nothing-stands : (s : List ℕ) (n p w : ℕ) → refused n p ≡ readOf s → none ≡ spot s w
+nothing-stands s n p w e = sym (spot-refused s n p w (no-frame (verdict s) n p (sym (house-judge s) ∙ judge-refused s n p e)))
+
+-- ---- the frame as a part of the record
+
+pub frame-part : (b : List ℕ) (len : ℕ) → len ≡ lengthIn b → take (16 + len - 16) (drop 16 b) ≡ frameIn b
+frame-part b len e = rw (add-sub-cancel-left 16 len, e)
+
+pub frame-bytes : (b : List ℕ) → Bytes b → Bytes (frameIn b)
+frame-bytes b y = below-take (lengthIn b) (drop 16 b) 256 (omega arith) (below-drop 16 b 256 y)
+
+pub record Room (b : List ℕ) : Type 0 where
+  pub within : 16 + lengthIn b + 16 * countIn b ≤ length b
+  pub frame : length (frameIn b) ≡ lengthIn b
+
+pub room : (b : List ℕ) → headerRight first b ≡ true → Room b
+unfolding first
+room b h =
+    let w = header-words first b h in
+    let r : 16 + lengthIn b + 16 * countIn b ≤ length b = w .room in
+    record { within = r; frame = length-take-le (lengthIn b) (drop 16 b) (rw (length-drop 16 b) (omega arith)) }
+
+-- ---- answers
+
+pub wrong-header : (b : List ℕ) → headerRight first b ≡ false → refused 20 0 ≡ recordAnswer house first b
+unfolding recordAnswer recordVerdict firstOf
+wrong-header b h = rw h
+
+pub wrong-frame : (b : List ℕ) (n p : ℕ) → headerRight first b ≡ true → house .judge (frameIn b) ≡ refused n p → refused n p ≡ recordAnswer house first b
+unfolding recordAnswer
+wrong-frame b n p h j = rw (frame-refused house first b n p (header-words first b h) j)
+
+pub right-frame : (b : List ℕ) → headerRight first b ≡ true → house .judge (frameIn b) ≡ accepted tt
+    → (o : Done) (len n total : ℕ) → len ≡ lengthIn b → n ≡ countIn b → total ≡ 16 + len + 16 * n → o ≡ historyVerdict house first (frameIn b) (entriesTo first b n)
+    → andThen o (λ u. accepted (summaryAt len n total)) ≡ recordAnswer house first b
+unfolding recordAnswer first
+right-frame b h j o len n total el en et eo = rw (parts-verdict house first b h j, et, eo, el, en)
+
+-- what an accepted record tells
+pub record Told (b : List ℕ) (x : Summary) : Type 0 where
+  pub verdict : recordVerdict house first b ≡ accepted tt
+  pub header : headerRight first b ≡ true
+  pub judged : house .judge (frameIn b) ≡ accepted tt
+  pub length : x .length ≡ lengthIn b
+  pub count : x .count ≡ countIn b
+  pub total : x .total ≡ totalIn first b
+
+pub told : (b : List ℕ) (x : Summary) → accepted x ≡ recordAnswer house first b → Told b x
+unfolding recordAnswer
+told b x e = go (recordVerdict house first b) refl e
+  where
+    inner : (x y : Summary) → accepted x ≡ accepted y → x ≡ y
+    inner x y q = cc
+
+    go : (o : Done) → recordVerdict house first b ≡ o → accepted x ≡ andThen o (λ u. accepted (summaryAt (lengthIn b) (countIn b) (totalIn first b))) → Told b x
+    go (accepted u) v q =
+        let i = inner _ _ q in
+        let p = verdict-parts house first b v in
+        record { verdict = v; header = p .0; judged = p .1; length = ap (λ (y : Summary). y .length) i; count = ap (λ (y : Summary). y .count) i; total = ap (λ (y : Summary). y .total) i }
+    go (refused n p) v q = let z : _≡_ {A = ℕ} 0 1 = cc in absurd (omega arith)
+
+-- a refused record is refused by every question
+verdict-refused : (o : Done) (y : Summary) (n p : ℕ) → refused n p ≡ andThen o (λ u. accepted y) → o ≡ refused n p
+verdict-refused (accepted u) y n p e = let z : _≡_ {A = ℕ} 0 1 = cc in absurd (omega arith)
+verdict-refused (refused m q) y n p e = let f : refused n p ≡ refused m q = e in ap₂ refused (number n p m q f) (place n p m q f)
+  where
+    number : (m q n p : ℕ) → _≡_ {A = Outcome Summary} (refused m q) (refused n p) → n ≡ m
+    number m q n p f = cc
+
+    place : (m q n p : ℕ) → _≡_ {A = Outcome Summary} (refused m q) (refused n p) → p ≡ q
+    place m q n p f = cc
+
+module _ (b : List ℕ) (n p : ℕ) (e : refused n p ≡ recordAnswer house first b) where
+  refused-there : recordVerdict house first b ≡ refused n p
+  unfolding recordAnswer
+  refused-there = verdict-refused (recordVerdict house first b) _ n p e
+
+  pub judged-refused : (w : ℕ) → refused n p ≡ judgedAt house first b w
+  unfolding judgedAt
+  judged-refused w = rw refused-there
+
+  pub entry-refused : (j : ℕ) → refused n p ≡ entryAnswer house first b j
+  unfolding entryAnswer
+  entry-refused j = rw refused-there
+
+module _ (b : List ℕ) (x : Summary) (t : Told b x) where
+  pub judged-accepted : (w : ℕ) (o : Option spots.Spot) → o ≡ spot (frameIn b) w
+      → accepted (record { length = x .length; count = x .count; total = x .total; spot = toldOf o }) ≡ judgedAt house first b w
+  unfolding judgedAt
+  judged-accepted w o e = rw (t .verdict, t .length, t .count, t .total, e, house-spot (frameIn b) w)
+
+  pub entry-none : (j : ℕ) → (leb 1 j && leb j (x .count)) ≡ false → refused 26 0 ≡ entryAnswer house first b j
+  unfolding entryAnswer
+  entry-none j h = let g : (leb 1 j && leb j (countIn b)) ≡ false = rw (t .count) at h in rw (t .verdict, g)
+
+  pub entry-there : (j : ℕ) (e : Entry) → (leb 1 j && leb j (x .count)) ≡ true → e ≡ entryOf first (drop (16 + x .length + 16 * (j - 1)) b)
+      → accepted e ≡ entryAnswer house first b j
+  unfolding entryAnswer numbered first
+  entry-there j e h i = let g : (leb 1 j && leb j (countIn b)) ≡ true = rw (t .count) at h in rw (t .verdict, g, i, t .length)
+
+-- ---- what the words of a right header tell
+
+pub length-is : (b : List ℕ) (v : ℕ) → v ≡ wordAt b 3 → v ≡ lengthIn b
+unfolding lengthIn
+length-is b v e = e
+
+pub count-is : (b : List ℕ) (v : ℕ) → v ≡ wordAt b 5 → v ≡ countIn b
+unfolding countIn
+count-is b v e = e
+
+module _ (b : List ℕ) (len : ℕ) where
+  part-bytes : Bytes b → Bytes (take (16 + len - 16) (drop 16 b))
+  part-bytes y = below-take (16 + len - 16) (drop 16 b) 256 (omega arith) (below-drop 16 b 256 y)
+
+  pub part-accepted : Bytes b → (x : Overview) → accepted x ≡ readOf (take (16 + len - 16) (drop 16 b)) → Accepted house (take (16 + len - 16) (drop 16 b))
+  part-accepted y x e = record { bytes = part-bytes y; judged = judge-accepted (take (16 + len - 16) (drop 16 b)) x e }
+
+  pub told-frame : Bytes b → (x : Summary) → Told b x → len ≡ x .length → Accepted house (take (16 + len - 16) (drop 16 b))
+  told-frame y x t e =
+      record { bytes = part-bytes y; judged = ap (λ (f : List ℕ). house .judge f) (frame-part b len (e ∙ t .length)) ∙ t .judged }
+
+-- an entry number from 1 to the count
+pub numbers : (j n : ℕ) → (leb 1 j && leb j n) ≡ true → (1 ≤ j) × (j ≤ n)
+numbers j n e = (leb-true 1 j (and-left (leb 1 j) (leb j n) e), leb-true j n (and-right (leb 1 j) (leb j n) e))
+
+-- a part of a list of zeros
+pub zeros : (n i : ℕ) → _≡_ {A = ℕ} (getD (replicate n 0) i 0) 0
+zeros zero i = refl
+zeros (suc n) zero = refl
+zeros (suc n) (suc i) = zeros n i

@@ -1,0 +1,90 @@
+-- T39, T40. What an answer says on paper fixes the answer: each view is injective, so each promise of this crate has one answer.
+-- Assumes nothing.
+use Prim.Native.Nat.{ℕ}
+use mathlib.Core.Path.{_≡_, refl}
+use mathlib.Core.List.{List}
+use mathlib.Core.Option.{Option, none, some}
+use Rattle.format.specs.Answers.{Outcome, accepted, refused}
+use Rattle.format.specs.Spots as spots
+use Rattle.book.proofs.Unique.{one, undone}
+use Rattle.ledger.specs.Frames as frames
+use Rattle.ledger.specs.Formats as formats
+use Rattle.ledger.specs.Calls.{Summary, recordAnswer, entryAnswer}
+use Rattle.ledger.specs.Judged as judged
+use Rattle.ledger.specs.First.{first}
+use Rattle.ledger.specs.House.{house}
+use Rattle.plane.specs.declared.answers.SpotFound.{SpotFound}
+use Rattle.plane.specs.declared.answers.SpotFound.the-variants as found
+use Rattle.plane.specs.declared.answers.RecordFound.{RecordFound}
+use Rattle.plane.specs.declared.answers.RecordFound.the-variants as records
+use Rattle.plane.specs.declared.answers.Judged.{Judged}
+use Rattle.plane.specs.declared.answers.Judged.the-variants as judging
+use Rattle.plane.specs.declared.answers.EntryFound.{EntryFound}
+use Rattle.plane.specs.declared.answers.EntryFound.the-variants as entries
+use Rattle.plane.specs.Views.{viewSpot, viewRecord, viewJudged, viewEntry}
+
+-- T40: the way back from each answer on paper
+
+abbrev spotBack : Option spots.Spot → SpotFound
+spotBack none = found.Nothing
+spotBack (some p) = found.Spot (record { kind = p .kind; value = p .value; key = p .key })
+
+spot-back : (r : SpotFound) → spotBack (viewSpot r) ≡ r
+spot-back (found.Spot p) = refl
+spot-back found.Nothing = refl
+
+pub same-spot : (r q : SpotFound) → viewSpot r ≡ viewSpot q → r ≡ q
+same-spot = undone viewSpot spotBack spot-back
+
+abbrev recordBack : Outcome Summary → RecordFound
+recordBack (accepted x) = records.Record (record { length = x .length; count = x .count; total = x .total })
+recordBack (refused n p) = records.Refused (record { number = n; place = p })
+
+record-back : (r : RecordFound) → recordBack (viewRecord r) ≡ r
+record-back (records.Record x) = refl
+record-back (records.Refused x) = refl
+
+pub same-record : (r q : RecordFound) → viewRecord r ≡ viewRecord q → r ≡ q
+same-record = undone viewRecord recordBack record-back
+
+-- a spot as the book tells it
+abbrev standBack : Option frames.Spot → SpotFound
+standBack none = found.Nothing
+standBack (some p) = found.Spot (record { kind = p .kind; value = p .value; key = p .key })
+
+abbrev judgedBack : Outcome judged.Judged → Judged
+judgedBack (accepted x) = judging.Accepted (record { length = x .length; count = x .count; total = x .total }) (standBack (x .spot))
+judgedBack (refused n p) = judging.Refused (record { number = n; place = p })
+
+judged-back : (r : Judged) → judgedBack (viewJudged r) ≡ r
+judged-back (judging.Accepted x (found.Spot p)) = refl
+judged-back (judging.Accepted x found.Nothing) = refl
+judged-back (judging.Refused x) = refl
+
+pub same-judged : (r q : Judged) → viewJudged r ≡ viewJudged q → r ≡ q
+same-judged = undone viewJudged judgedBack judged-back
+
+abbrev entryBack : Outcome formats.Entry → EntryFound
+entryBack (accepted e) = entries.Entry (record { word = e .word; kind = e .kind; old = e .old; new = e .new; operator = e .operator; reason = e .reason })
+entryBack (refused n p) = entries.Refused (record { number = n; place = p })
+
+entry-back : (r : EntryFound) → entryBack (viewEntry r) ≡ r
+entry-back (entries.Entry e) = refl
+entry-back (entries.Refused x) = refl
+
+pub same-entry : (r q : EntryFound) → viewEntry r ≡ viewEntry q → r ≡ q
+same-entry = undone viewEntry entryBack entry-back
+
+-- T39: no second result, function by function; none of them lends memory to write
+
+pub spot-once : (f : List ℕ) (w : ℕ) (r q : SpotFound) → viewSpot r ≡ spots.spot f w → viewSpot q ≡ spots.spot f w → r ≡ q
+spot-once f w = one viewSpot same-spot (spots.spot f w)
+
+pub record-once : (b : List ℕ) (r q : RecordFound) → viewRecord r ≡ recordAnswer house first b → viewRecord q ≡ recordAnswer house first b → r ≡ q
+record-once b = one viewRecord same-record (recordAnswer house first b)
+
+pub judge-once : (b : List ℕ) (w : ℕ) (r q : Judged) → viewJudged r ≡ judged.judgedAt house first b w → viewJudged q ≡ judged.judgedAt house first b w → r ≡ q
+judge-once b w = one viewJudged same-judged (judged.judgedAt house first b w)
+
+pub entry-once : (b : List ℕ) (j : ℕ) (r q : EntryFound) → viewEntry r ≡ entryAnswer house first b j → viewEntry q ≡ entryAnswer house first b j → r ≡ q
+entry-once b j = one viewEntry same-entry (entryAnswer house first b j)

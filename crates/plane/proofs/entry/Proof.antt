@@ -1,0 +1,74 @@
+-- `plane::entry` meets its contract.
+-- Assumes nothing.
+use denote.Ref.{now}
+use Prim.Native.Nat.{_+_, _-_, _*_, _≤_}
+use mathlib.Core.Path.{ap, sym, _∙_}
+use lib.ListN.{length}
+use Rattle.plane.specs.Views.{summaryOf, viewRecord}
+use Rattle.plane.proofs.RecordLaws.{room, Told, told, numbers, entry-refused, entry-none, entry-there}
+use native.Mathlib.Omega.{arith}
+use borrow.Author.Needs.{needs}
+use Rattle.plane.proofs.entry.Statement.{statement}
+use Rattle.plane.proofs.entry.Tie as tie
+
+-- what an accepted record tells, and that the entry lies in the buffer
+tells : (c : tie.After-found2) → Told (now (c .before .before .before .before .args .buf)) (summaryOf (c .found2 .given .0 .0))
+tells c = told _ _ (sym (ap viewRecord (c .found2 .given .1)) ∙ c .before .before .«record» .ensures)
+
+inside : (c : tie.After-struct-known2)
+    → (1 ≤ c .before .before .before .before .before .before .before .before .args .j)
+    × (16 + c .before .before .before .before .found2 .given .0 .0 .length + 16 * (c .before .before .before .before .before .before .before .before .args .j - 1) ≤ length (now (c .before .before .before .before .before .before .before .before .args .buf)))
+inside c =
+    let f = c .before .before .before .before in
+    let t = tells f in
+    let n = numbers (f .before .before .before .before .args .j) (f .found2 .given .0 .0 .count) (c .before .if1 .taken) in
+    (n .0, omega (arith, room _ (t .header) .within, t .length, t .count, n .0, n .1))
+
+record-requires : tie.Need-record-requires
+record-requires c κs = search needs
+
+enum-known-found : tie.Need-enum-known-found
+enum-known-found c = search needs
+
+enum-known-found-2 : tie.Need-enum-known-found-2
+enum-known-found-2 c = search needs
+
+add-at : tie.Need-add-at
+add-at c = omega (arith, inside c .1)
+
+sub-at : tie.Need-sub-at
+sub-at c = inside c .0
+
+mul-at : tie.Need-mul-at
+mul-at c = omega (arith, inside c .0, inside c .1)
+
+add-at-2 : tie.Need-add-at-2
+add-at-2 c = omega (arith, inside c .1)
+
+entry-at-requires : tie.Need-entry-at-requires
+entry-at-requires c κs = inside c .1
+
+returns : tie.Need-returns
+returns c = entry-there _ _ (tells (c .before .before .before .before .before)) _ _ (c .before .before .if1 .taken) (c .entry-at .ensures)
+
+returns-2 : tie.Need-returns-2
+returns-2 c = entry-refused _ _ _ (sym (ap viewRecord (c .before .found .given .1)) ∙ c .before .before .before .«record» .ensures) _
+
+returns-3 : tie.Need-returns-3
+returns-3 c = entry-none _ _ (tells (c .before .before .before)) _ (c .if1 .left)
+
+pub entry-spec : {M : Type 1} → statement M
+entry-spec =
+    tie.close
+    (tie.spec
+    record-requires
+    enum-known-found
+    enum-known-found-2
+    add-at
+    sub-at
+    mul-at
+    add-at-2
+    entry-at-requires
+    returns
+    returns-2
+    returns-3)

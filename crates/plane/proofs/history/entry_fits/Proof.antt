@@ -1,0 +1,46 @@
+-- `plane::history::entry_fits` meets its contract.
+-- Assumes nothing.
+use denote.Ref.{now}
+use mathlib.Core.Path.{sym, _∙_}
+use Rattle.plane.proofs.UndoLaws.{unfit-there, fit-there}
+use borrow.Author.Needs.{needs}
+use Rattle.plane.proofs.history.entry_fits.Statement.{statement}
+use Rattle.plane.proofs.history.entry_fits.Tie as tie
+
+cast-at : tie.Need-cast-at
+cast-at c = search needs
+
+kind-at-requires : tie.Need-kind-at-requires
+kind-at-requires c κs = search needs
+
+returns : tie.Need-returns
+returns c = let s = c .before .before .before .before .before in unfit-there (now (s .args .map)) (now (s .args .f)) (s .pre) _ _ _ _ _ _ (sym (c .before .kind-at .ensures) ∙ c .if1 .taken)
+
+value-at-requires : tie.Need-value-at-requires
+value-at-requires c κs = search needs
+
+cast-same : tie.Need-cast-same
+cast-same c = search needs
+
+legal-requires : tie.Need-legal-requires
+legal-requires c κs = search needs
+
+signed-requires : tie.Need-signed-requires
+signed-requires c κs = search needs
+
+returns-2 : tie.Need-returns-2
+returns-2 c = let s = c .before .before .before .before .before .before .before .before .before .before .before in
+    fit-there (now (s .args .map)) (now (s .args .f)) (s .pre) _ _ _ _ _ _ _ _ (c .before .before .before .before .before .before .before .kind-at .ensures) (c .before .before .before .before .before .before .if1 .left) (c .before .before .before .before .before .value-at .ensures) _ _ (c .before .before .legal .ensures) (c .signed .ensures)
+
+pub entry-fits-spec : {M : Type 1} → statement M
+entry-fits-spec =
+    tie.close
+    (tie.spec
+    cast-at
+    kind-at-requires
+    returns
+    value-at-requires
+    cast-same
+    legal-requires
+    signed-requires
+    returns-2)

@@ -1,0 +1,19 @@
+-- `plane::history::legal` meets its contract.
+-- Assumes nothing.
+use native.Mathlib.Omega.{arith}
+use Rattle.plane.proofs.RecordLaws.{legal-sample, legal-bin}
+use borrow.Author.Needs.{needs}
+use Rattle.plane.proofs.history.legal.Statement.{statement}
+use Rattle.plane.proofs.history.legal.Tie as tie
+
+cast-result : tie.Need-cast-result
+cast-result c = search needs
+
+returns : tie.Need-returns
+returns c = legal-sample _ _ (c .if1 .taken)
+
+returns-2 : tie.Need-returns-2
+returns-2 c = legal-bin (c .before .args .kind) (c .before .args .value) (c .if1 .left) (omega arith)
+
+pub legal-spec : {M : Type 1} → statement M
+legal-spec = tie.close (tie.spec cast-result returns returns-2)

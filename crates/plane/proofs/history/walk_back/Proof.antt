@@ -1,0 +1,94 @@
+-- `plane::history::walk_back` meets its contract: what the entries left do to the frame at hand is what all of them do to the first.
+-- Assumes nothing.
+use Prim.Native.Nat.{_+_, _*_, _≤_}
+use mathlib.Core.Path.{_≡_, refl, sym, _∙_}
+use lib.ListN.{length}
+use borrow.Author.Needs.{needs}
+use native.Mathlib.Omega.{arith}
+use Rattle.ledger.specs.Records.{lengthIn, entriesTo, historyVerdict}
+use Rattle.ledger.specs.First.{first}
+use Rattle.ledger.specs.House.{house}
+use Rattle.plane.specs.Views.{asEntry}
+use Rattle.plane.specs.Undoing.{Undoing}
+use Rattle.plane.proofs.UndoLaws.{undoing-next, turn-back, turn-stop, turn-done}
+use Rattle.plane.proofs.history.walk_back.Statement.{statement}
+use Rattle.plane.proofs.history.walk_back.Tie as tie
+
+abbrev Inv-loop : tie.InvT-loop
+Inv-loop f₀ map b h n m₀ f m = Undoing map f × (m ≤ n) × (length f ≡ length f₀) × (h ≡ 16 + lengthIn b) × (h + 16 * n ≤ length b) × (historyVerdict house first f (entriesTo first b m) ≡ historyVerdict house first f₀ (entriesTo first b n))
+
+abbrev μ-loop : tie.MeasureT-loop
+μ-loop f₀ map b h n m₀ f m = m
+
+loop-holds : tie.Need-loop-holds Inv-loop μ-loop
+loop-holds c = let s = c .before .before .before in (s .pre .0, search needs, refl, s .pre .1, s .pre .2, refl)
+
+sub-at : tie.Need-sub-at Inv-loop μ-loop
+sub-at c = search needs
+
+mul-at : tie.Need-mul-at Inv-loop μ-loop
+mul-at c = search needs
+
+add-at : tie.Need-add-at Inv-loop μ-loop
+add-at c = search needs
+
+entry-at-requires : tie.Need-entry-at-requires Inv-loop μ-loop
+entry-at-requires c κs = search needs
+
+entry-fits-requires : tie.Need-entry-fits-requires Inv-loop μ-loop
+entry-fits-requires c κs = c .before .before .before .loop .inv .0
+
+undo-requires : tie.Need-undo-requires Inv-loop μ-loop
+undo-requires c κs = (c .before .before .before .before .before .before .loop .inv .0 .frame, sym (c .before .before .entry-fits .ensures) ∙ c .before .if1 .taken)
+
+sub-m : tie.Need-sub-m Inv-loop μ-loop
+sub-m c = search needs
+
+loop-less : tie.Need-loop-less Inv-loop μ-loop
+loop-less c = search needs
+
+loop-again : tie.Need-loop-again Inv-loop μ-loop
+loop-again c = let i = c .before .before .before .before .before .before .before .before .before .loop .inv in
+    let t = sym (c .before .before .before .before .before .entry-fits .ensures) ∙ c .before .before .before .before .if1 .taken in
+    let u = c .before .before .undo .ensures in
+    let e = c .before .before .before .before .before .before .before .entry-at .ensures in (
+      undoing-next _ (i .0 .frame) _ t _ _ (i .0) u,
+      search needs,
+      c .before .before .undo .kept .0 ∙ i .2,
+      i .3,
+      i .4,
+      turn-back _ _ _ (i .3) _ _ (c .before .before .before .before .before .before .before .before .loop-test .taken) e t _ u ∙ i .5,
+    )
+
+same-length : tie.Need-same-length Inv-loop μ-loop
+same-length c = c .before .before .before .before .before .loop .inv .2
+
+returns : tie.Need-returns Inv-loop μ-loop
+returns c = let i = c .before .before .before .before .before .loop .inv in turn-stop _ _ _ (i .3) _ _ (c .before .before .before .before .loop-test .taken) (c .before .before .before .entry-at .ensures) (sym (c .before .entry-fits .ensures) ∙ c .if1 .left) ∙ i .5
+
+same-length-2 : tie.Need-same-length-2 Inv-loop μ-loop
+same-length-2 c = c .before .loop .inv .2
+
+returns-2 : tie.Need-returns-2 Inv-loop μ-loop
+returns-2 c = turn-done _ _ _ (c .loop-test .left) ∙ c .before .loop .inv .5
+
+pub walk-back-spec : {M : Type 1} → statement M
+walk-back-spec =
+    tie.close
+    (tie.spec
+    Inv-loop
+    μ-loop
+    loop-holds
+    sub-at
+    mul-at
+    add-at
+    entry-at-requires
+    entry-fits-requires
+    undo-requires
+    sub-m
+    loop-less
+    loop-again
+    same-length
+    returns
+    same-length-2
+    returns-2)

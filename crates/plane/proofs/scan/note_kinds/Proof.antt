@@ -1,0 +1,85 @@
+-- `plane::scan::note_kinds` meets its contract: the words passed are noted, the others still blank.`
+-- Assumes nothing.
+use Prim.Native.Nat.{_-_}
+use mathlib.Core.Path.{_≡_, refl}
+use lib.ListN.{length, length-set}
+use native.Mathlib.Omega.{arith}
+use borrow.Author.Needs.{needs}
+use Rattle.plane.proofs.Scanning.{Noting, sized, note-start, note-next, note-end}
+use Rattle.plane.proofs.scan.note_kinds.Statement.{statement}
+use Rattle.plane.proofs.scan.note_kinds.Tie as tie
+
+abbrev Inv-loop : tie.InvT-loop
+Inv-loop f map₀ last at₀ map at = Noting f map last at × (length map ≡ length map₀)
+
+abbrev μ-loop : tie.MeasureT-loop
+μ-loop f map₀ last at₀ map at = last - at
+
+sub-last : tie.Need-sub-last Inv-loop μ-loop
+sub-last c = omega (arith, sized _ (c .before .before .pre .0) .some-words)
+
+loop-holds : tie.Need-loop-holds Inv-loop μ-loop
+loop-holds c = (note-start _ _ (c .before .before .pre .0) (c .before .before .pre .1) (c .before .before .pre .2), refl)
+
+word-requires : tie.Need-word-requires Inv-loop μ-loop
+word-requires c κs = search needs
+
+classify-requires : tie.Need-classify-requires Inv-loop μ-loop
+classify-requires c κs = search needs
+
+kind-of-requires : tie.Need-kind-of-requires Inv-loop μ-loop
+kind-of-requires c κs = search needs
+
+slice-write-map : tie.Need-slice-write-map Inv-loop μ-loop
+slice-write-map c = let g = c .before .before .before .before .loop .inv .0 in omega (arith, g .few, g .long)
+
+words-after-requires : tie.Need-words-after-requires Inv-loop μ-loop
+words-after-requires c κs = search needs
+
+cast-more : tie.Need-cast-more Inv-loop μ-loop
+cast-more c = search needs
+
+add-at : tie.Need-add-at Inv-loop μ-loop
+add-at c = omega (arith, c .before .before .before .before .before .loop .inv .0 .few)
+
+add-at-2 : tie.Need-add-at-2 Inv-loop μ-loop
+add-at-2 c = omega (arith, c .before .before .before .before .before .loop .inv .0 .few)
+
+loop-less : tie.Need-loop-less Inv-loop μ-loop
+loop-less c =
+    let w = c .before .before .before in
+    let m = note-next _ _ _ _ (w .before .before .loop .inv .0) (w .before .loop-test .taken) _ _ _ _ (w .word .ensures) (c .before .before .classify .ensures) (c .before .kind-of .ensures) (c .words-after .ensures) in
+    omega (arith, m .0)
+
+loop-again : tie.Need-loop-again Inv-loop μ-loop
+loop-again c =
+    let w = c .before .before .before in
+    let m = note-next _ _ _ _ (w .before .before .loop .inv .0) (w .before .loop-test .taken) _ _ _ _ (w .word .ensures) (c .before .before .classify .ensures) (c .before .kind-of .ensures) (c .words-after .ensures) in
+    (m .2, rw length-set (w .before .before .loop .inv .1))
+
+same-length : tie.Need-same-length Inv-loop μ-loop
+same-length c = c .before .loop .inv .1
+
+returns : tie.Need-returns Inv-loop μ-loop
+returns c = note-end _ _ _ _ (c .before .loop .inv .0) (c .loop-test .left)
+
+pub note-kinds-spec : {M : Type 1} → statement M
+note-kinds-spec =
+    tie.close
+    (tie.spec
+    Inv-loop
+    μ-loop
+    sub-last
+    loop-holds
+    word-requires
+    classify-requires
+    kind-of-requires
+    slice-write-map
+    words-after-requires
+    cast-more
+    add-at
+    add-at-2
+    loop-less
+    loop-again
+    same-length
+    returns)

@@ -1,0 +1,54 @@
+-- What the answers of this crate say in document 01.
+-- Assumes nothing.
+use Prim.Native.Nat.{ℕ}
+use mathlib.Core.List.{[]}
+use mathlib.Core.Option.{Option, none, some}
+use lib.Dec.{eqb}
+use Rattle.format.specs.Answers.{Outcome, accepted, refused, Done, need}
+use Rattle.format.specs.Spots as spots
+use Rattle.book.specs.Views.{refusal}
+use Rattle.ledger.specs.Formats as formats
+use Rattle.ledger.specs.Calls.{Summary}
+use Rattle.ledger.specs.Judged as judged
+use Rattle.ledger.specs.House.{toldOf}
+use Rattle.plane.specs.declared.answers.Spot.{Spot}
+use Rattle.plane.specs.declared.answers.SpotFound.{SpotFound}
+use Rattle.plane.specs.declared.answers.SpotFound.the-variants as found
+use Rattle.plane.specs.declared.answers.Record.{Record}
+use Rattle.plane.specs.declared.answers.RecordFound.{RecordFound}
+use Rattle.plane.specs.declared.answers.RecordFound.the-variants as records
+use Rattle.plane.specs.declared.answers.Judged.{Judged}
+use Rattle.plane.specs.declared.answers.Judged.the-variants as judging
+use Rattle.plane.specs.declared.answers.Entry.{Entry}
+use Rattle.plane.specs.declared.answers.EntryFound.{EntryFound}
+use Rattle.plane.specs.declared.answers.EntryFound.the-variants as entries
+
+abbrev pub viewSpot : SpotFound → Option spots.Spot
+viewSpot (found.Spot p) = some (record { kind = p .kind; value = p .value; key = p .key })
+viewSpot found.Nothing = none
+
+abbrev pub summaryAt : ℕ → ℕ → ℕ → Summary
+summaryAt length count total = record { length = length; count = count; total = total }
+
+abbrev pub summaryOf : Record → Summary
+summaryOf r = record { length = r .length; count = r .count; total = r .total }
+
+abbrev pub viewRecord : RecordFound → Outcome Summary
+viewRecord (records.Record r) = accepted (summaryOf r)
+viewRecord (records.Refused r) = refusal r
+
+abbrev pub viewJudged : Judged → Outcome judged.Judged
+viewJudged (judging.Accepted r p) = accepted (record { length = r .length; count = r .count; total = r .total; spot = toldOf (viewSpot p) })
+viewJudged (judging.Refused r) = refusal r
+
+-- document 01's entries hold nothing after the reason
+abbrev pub asEntry : Entry → formats.Entry
+asEntry e = record { word = e .word; kind = e .kind; old = e .old; new = e .new; operator = e .operator; reason = e .reason; extra = [] }
+
+abbrev pub viewEntry : EntryFound → Outcome formats.Entry
+viewEntry (entries.Entry e) = accepted (asEntry e)
+viewEntry (entries.Refused r) = refusal r
+
+-- the number of the newest entry that does not fit, or 0, as an answer
+abbrev pub unfit : ℕ → Done
+unfit n = need (eqb n 0) 21 n

@@ -1,0 +1,144 @@
+// An accepted frame scanned item by item, with no rules again: what stands at a word, and the kinds of all its words.
+ghost use mathlib.Core.Path.{_≡_};
+ghost use mathlib.Core.List.{_∷_, []};
+ghost use Prim.Native.Nat.{ℕ, _≤_, _<_};
+ghost use lib.ListN.{length, getD};
+ghost use Rattle.format.specs.Answers.{accepted};
+ghost use Rattle.format.specs.Spots as spots;
+ghost use Rattle.format.specs.Scans.{kindBy, valueAt, spotFrom, headerKey, underBy};
+ghost use Rattle.book.specs.Views.{view};
+ghost use Rattle.ledger.specs.Frames.{Accepted};
+ghost use Rattle.ledger.specs.House.{house};
+ghost use Rattle.plane.specs.Views.{viewSpot};
+ghost use Rattle.plane.specs.Undoing.{Kinds};
+use crate::answers::Spot;
+use crate::answers::SpotFound;
+use book::class::Class;
+use book::class::classify;
+use book::class::words_after;
+use book::items::Channel;
+use book::items::Sample;
+use book::words::long;
+use book::words::word;
+
+// The kind of an item of the class: 1 sample, 2 bin, and 0 for anything else.
+fn kind_of(class: Class) -> u8
+    ensures { λ r. ⌜ r ≡ kindBy (view class) ⌝ }
+{
+    match class {
+        Class::Sample => 1,
+        Class::Bin => 2,
+        Class::Channel => 0,
+        Class::Histogram => 0,
+        Class::HitCount => 0,
+        Class::LastCell => 0,
+        Class::TimeBin => 0,
+        Class::DataFrame => 0,
+        Class::MonitorFrame => 0,
+        Class::CommandFrame => 0,
+        Class::Text => 0,
+        Class::StartEvent => 0,
+        Class::EndEvent => 0,
+        Class::FrameEnd => 0,
+        Class::Unassigned => 0,
+    }
+}
+
+// The order key that a header's word gives; a Histogram's fields are cut as a Channel's.
+fn header_key(w: u16) -> u32
+    ensures { λ r. ⌜ r ≡ headerKey w ⌝ }
+{
+    let x = Channel::of_word(w);
+    let card = x.card as u32;
+    let chip = x.chip as u32;
+    let channel = x.channel as u32;
+    card * 2048 + chip * 128 + channel
+}
+
+// The key behind an item of the class: a header's own, which would be `header`, else the key before it.
+fn key_behind(class: Class, w: u16, header: u32, key: u32) -> u32
+    requires { ⌜ header ≡ headerKey w ⌝ }
+    ensures { λ r. ⌜ r ≡ underBy (view class) w key ⌝ }
+{
+    match class {
+        Class::Channel => header,
+        Class::Histogram => header,
+        Class::HitCount => key,
+        Class::Sample => key,
+        Class::Bin => key,
+        Class::LastCell => key,
+        Class::TimeBin => key,
+        Class::DataFrame => key,
+        Class::MonitorFrame => key,
+        Class::CommandFrame => key,
+        Class::Text => key,
+        Class::StartEvent => key,
+        Class::EndEvent => key,
+        Class::FrameEnd => key,
+        Class::Unassigned => key,
+    }
+}
+
+// The value of an item of the kind that begins at word w: a Sample's in its own word, a Bin's count in the two words after it.
+pub(crate) fn value_at(f: &[u8], kind: u8, w: usize) -> u32
+    requires { ⌜ w < 65536 ⌝ }
+    ensures { λ r. ⌜ r ≡ valueAt kind (now (f .entry)) w ⌝ }
+{
+    if kind == 1 {
+        return Sample::of_word(word(f, w)).value as u32;
+    }
+    long(f, w + 1)
+}
+
+// An item of the kind as a spot: anything but a Sample or Bin is nothing.
+fn spot_from(kind: u8, value: u32, key: u32) -> SpotFound
+    ensures { λ r. ⌜ viewSpot r ≡ spotFrom kind value key ⌝ }
+{
+    if kind == 0 {
+        return SpotFound::Nothing;
+    }
+    SpotFound::Spot(Spot {
+        kind: kind as u16,
+        value,
+        key,
+    })
+}
+
+// What stands at word w of an accepted frame.
+pub(crate) fn spot_in(f: &[u8], w: usize) -> SpotFound
+    requires { ⌜ Accepted house (now f) ⌝ }
+    ensures { λ r. ⌜ viewSpot r ≡ spots.spot (now (f .entry)) w ⌝ }
+{
+    let last = f.len() / 2 - 1;
+    let mut at: usize = 3;
+    let mut key: u32 = 0;
+    while at < last {
+        let head = word(f, at);
+        let class = classify(head);
+        if at == w {
+            let kind = kind_of(class);
+            let value = value_at(f, kind, at);
+            return spot_from(kind, value, key);
+        }
+        let header = header_key(head);
+        key = key_behind(class, head, header, key);
+        let more = words_after(head) as usize;
+        at = at + 1 + more;
+    }
+    SpotFound::Nothing
+}
+
+// Notes in a map of zeros, for each word of an accepted frame, the kind of the item that begins there.
+pub(crate) fn note_kinds(f: &[u8], map: &mut [u8])
+    requires { ⌜ Accepted house (now f) × (4096 ≤ length (now map)) × ((i : ℕ) → getD (now map) i 0 ≡ 0) ⌝ }
+    ensures { λ _. ⌜ Kinds (now (f .entry)) (now (map .exit)) ⌝ }
+{
+    let last = f.len() / 2 - 1;
+    let mut at: usize = 3;
+    while at < last {
+        let head = word(f, at);
+        map[at] = kind_of(classify(head));
+        let more = words_after(head) as usize;
+        at = at + 1 + more;
+    }
+}
