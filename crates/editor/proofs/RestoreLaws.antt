@@ -105,7 +105,7 @@ rewind-end b k n f r e = sym (restore-done house first f b k) ∙ rw e at (r .le
 
 -- ---- the second buffer
 module _ (b : List ℕ) (x : Summary) (k : ℕ) (out copied : List ℕ) (j : Known b x) (r : x .length ≤ length out)
-  (e : copied ≡ sets out 0 (take (16 + x .length - 16) (drop 16 b))) where
+    (e : copied ≡ sets out 0 (take (16 + x .length - 16) (drop 16 b))) where
   in-parts : copied ≡ frameIn b ++ drop (x .length) out
   in-parts =
       let p : take (16 + x .length - 16) (drop 16 b) ≡ frameIn b = rw (add-sub-cancel-left 16 (x .length), j .length) in

@@ -14,7 +14,6 @@ ghost use Rattle.editor.specs.Writes.{Known, Editable};
 use crate::answers::Done;
 use crate::answers::first_of;
 use crate::answers::test;
-
 use crate::stores::put_entry;
 use crate::stores::put_value;
 use crate::stores::put_words;

@@ -17,7 +17,6 @@ ghost use Rattle.editor.specs.Writes.{Known};
 use crate::answers::Done;
 use crate::answers::first_of;
 use crate::answers::test;
-
 use crate::stores::put_value;
 use book::refusal::Refusal;
 use book::words::copy;

@@ -8,7 +8,7 @@ ghost use Rattle.format.specs.Words.{bytes};
 ghost use Rattle.ledger.specs.Records.{entryBytes};
 ghost use Rattle.ledger.specs.First.{first};
 ghost use Rattle.ledger.specs.House.{house};
-ghost use Rattle.plane.specs.Views.{entryOf};
+ghost use Rattle.plane.specs.Views.{asEntry};
 ghost use Rattle.editor.specs.Writes.{Puttable};
 use book::items::Sample;
 use plane::answers::Entry;
@@ -55,7 +55,7 @@ pub(crate) fn put_value(frame: &mut [u8], kind: u16, w: usize, value: u32)
 // Stores an entry, at byte `at`.
 pub(crate) fn put_entry(buf: &mut [u8], at: usize, e: Entry)
     requires { ⌜ at + 16 ≤ length (now buf) ⌝ }
-    ensures { λ _. ⌜ now (buf .exit) ≡ sets (now (buf .entry)) at (entryBytes first (entryOf e)) ⌝ }
+    ensures { λ _. ⌜ now (buf .exit) ≡ sets (now (buf .entry)) at (entryBytes first (asEntry e)) ⌝ }
 {
     let old = e.old;
     let new = e.new;

@@ -19,7 +19,7 @@ enum-known-judged-2 : tie.Need-enum-known-judged-2
 enum-known-judged-2 c = search needs
 
 edit-item-requires : tie.Need-edit-item-requires
-edit-item-requires c κs = 
+edit-item-requires c κs =
     let j = c .before .before in
     judged-known _ _ _ _ (sym (ap viewJudged (j .judged2 .given .1)) ∙ j .before .before .judge .ensures)
 

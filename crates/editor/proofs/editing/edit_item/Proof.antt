@@ -23,13 +23,13 @@ test-requires : tie.Need-test-requires
 test-requires c κs = search needs
 
 returns : tie.Need-returns
-returns c = 
+returns c =
     let t = c .before in
     let start = t .before .before .before in
     edited-refused _ _ _ 22 0 (c .test .ensures) (no-target _ _ (start .pre .0) (start .args .c) (sym (ap (λ (s : SpotFound). toldOf (viewSpot s)) (t .enum-told .given .1)) ∙ start .pre .1))
 
 edit-tests-requires : tie.Need-edit-tests-requires
-edit-tests-requires c κs = 
+edit-tests-requires c κs =
     let s = c .before .before .before in
     let k = s .before .pre .0 in
     omega (arith, sum _ _ k, few _ _ k, short _ _ k (λ i. (s .slice-known .given i) .fits))
@@ -41,7 +41,7 @@ enum-told-2 : tie.Need-enum-told-2
 enum-told-2 c = search needs
 
 write-edit-requires : tie.Need-write-edit-requires
-write-edit-requires c κs = 
+write-edit-requires c κs =
     let t = c .before .before .before in
     let s = t .before .before in
     let start = s .before .before .before in
@@ -53,7 +53,7 @@ write-edit-requires c κs =
     }
 
 returns-2 : tie.Need-returns-2
-returns-2 c = 
+returns-2 c =
     let t = c .before .before .before in
     let s = t .before .before in
     let start = s .before .before .before in
@@ -64,7 +64,7 @@ same-length : tie.Need-same-length
 same-length c = search needs
 
 returns-3 : tie.Need-returns-3
-returns-3 c = 
+returns-3 c =
     let w = c .before .before in
     let t = w .before .before .before .before in
     let s = t .before .before in

@@ -36,7 +36,7 @@ first-of-requires-3 : tie.Need-first-of-requires-3
 first-of-requires-3 c κs = search needs
 
 returns : tie.Need-returns
-returns c = 
+returns c =
     let f1 = c .before .before in
     let t4 = f1 .before in
     let t3 = t4 .before .before in

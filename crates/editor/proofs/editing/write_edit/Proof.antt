@@ -24,12 +24,12 @@ part-put-value-start : tie.Need-part-put-value-start
 part-put-value-start c = search needs
 
 part-put-value-end : tie.Need-part-put-value-end
-part-put-value-end c = 
+part-put-value-end c =
     let k = c .before .before .pre .known in
     omega (arith, inside _ _ k, sum _ _ k)
 
 put-value-requires : tie.Need-put-value-requires
-put-value-requires c κs = 
+put-value-requires c κs =
     let s = c .before .before in
     puttable _ _ _ _ (s .before .pre) (λ i. (s .slice-known .given i) .fits)
 
@@ -40,12 +40,12 @@ cast-count : tie.Need-cast-count
 cast-count c = omega (arith, one-more _ _ _ _ (c .before .before .before .before .before .before .before .pre))
 
 add-total : tie.Need-add-total
-add-total c = 
+add-total c =
     let s = c .before .before .before .before .before .before .before in
     omega (arith, entry-room _ _ _ _ (s .before .pre))
 
 cast-total : tie.Need-cast-total
-cast-total c = 
+cast-total c =
     let s = c .before .before .before .before .before .before .before in
     let k = s .before .pre .known in
     omega (arith, sum _ _ k, few _ _ k, short _ _ k (λ i. (s .slice-known .given i) .fits))
@@ -54,28 +54,28 @@ slice-aggregate-put-words : tie.Need-slice-aggregate-put-words
 slice-aggregate-put-words c = search needs
 
 put-words-requires : tie.Need-put-words-requires
-put-words-requires c κs = 
+put-words-requires c κs =
     let p = c .before .before .before .before .before .before in
     let s = p .before .before .before in
     omega (arith, value-length _ _ _ _ (s .before .pre) (λ i. (s .slice-known .given i) .fits) _ (p .put-value .ensures), entry-room _ _ _ _ (s .before .pre), sum _ _ (s .before .pre .known))
 
 cast-t20 : tie.Need-cast-t20
-cast-t20 c = 
+cast-t20 c =
     let s = c .before .before .before .before .before .before .before .before .before .before .before .before .before in
     omega (arith, word-fits _ _ _ _ (s .before .pre) (λ i. (s .slice-known .given i) .fits))
 
 cast-t21 : tie.Need-cast-t21
-cast-t21 c = 
+cast-t21 c =
     let s = c .before .before .before .before .before .before .before .before .before .before .before .before .before .before in
     omega (arith, signer-fits _ _ _ _ (s .before .pre) .0)
 
 cast-t22 : tie.Need-cast-t22
-cast-t22 c = 
+cast-t22 c =
     let s = c .before .before .before .before .before .before .before .before .before .before .before .before .before .before .before in
     omega (arith, signer-fits _ _ _ _ (s .before .pre) .1)
 
 put-entry-requires : tie.Need-put-entry-requires
-put-entry-requires c κs = 
+put-entry-requires c κs =
     let w = c .before .before .before .before .before .before in
     let p = w .before .before .before .before .before .before .before in
     let s = p .before .before .before in
@@ -85,7 +85,7 @@ same-length : tie.Need-same-length
 same-length c = search needs
 
 returns : tie.Need-returns
-returns c = 
+returns c =
     let q = c .before .before in
     let w = q .before .before .before .before .before .before .before in
     let p = w .before .before .before .before .before .before .before in

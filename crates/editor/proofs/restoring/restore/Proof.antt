@@ -18,7 +18,7 @@ enum-known-judged-2 : tie.Need-enum-known-judged-2
 enum-known-judged-2 c = search needs
 
 restore-known-requires : tie.Need-restore-known-requires
-restore-known-requires c κs = 
+restore-known-requires c κs =
     let j = c .before .before in
     judged-known _ 0 _ _ (sym (ap viewJudged (j .judged2 .given .1)) ∙ j .before .before .judge .ensures) .0
 

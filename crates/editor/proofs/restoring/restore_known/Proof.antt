@@ -24,7 +24,7 @@ enum-told : tie.Need-enum-told
 enum-told c = search needs
 
 write-restored-requires : tie.Need-write-restored-requires
-write-restored-requires c κs = 
+write-restored-requires c κs =
     let f = c .before .before .before in
     let t = f .before in
     let start = t .before .before .before .before .before .before in
@@ -33,7 +33,7 @@ write-restored-requires c κs =
     (start .pre, r .0, r .1)
 
 returns : tie.Need-returns
-returns c = 
+returns c =
     let f = c .before .before .before in
     let t = f .before in
     let start = t .before .before .before .before .before .before in
@@ -43,7 +43,7 @@ same-length : tie.Need-same-length
 same-length c = search needs
 
 returns-2 : tie.Need-returns-2
-returns-2 c = 
+returns-2 c =
     let w = c .before .before in
     let f = w .before .before .before .before in
     let t = f .before in

@@ -21,7 +21,7 @@ add-history : tie.Need-add-history Inv-loop μ-loop
 add-history c = omega (arith, inside _ _ (c .before .before .before .pre .0), sum _ _ (c .before .before .before .pre .0))
 
 loop-holds : tie.Need-loop-holds Inv-loop μ-loop
-loop-holds c = 
+loop-holds c =
     let s = c .before in
     let p = s .before .before .pre in
     (p .1, omega (arith, inside _ _ (p .0), sum _ _ (p .0)), omega (arith, p .0 .length), refl, rewind-start _ _ _ _ (p .0) (λ i. (s .shared-slice-known .given i) .fits) (p .2))
@@ -45,7 +45,7 @@ part-undo-end : tie.Need-part-undo-end Inv-loop μ-loop
 part-undo-end c = omega arith
 
 undo-requires : tie.Need-undo-requires Inv-loop μ-loop
-undo-requires c κs = 
+undo-requires c κs =
     let l = c .before .before .before in
     (l .loop .inv .4 .frame, rewind-fits _ _ _ (l .loop .n - 1) _ (l .loop .inv .4) (omega arith) _ (omega arith))
 
@@ -53,7 +53,7 @@ loop-less : tie.Need-loop-less Inv-loop μ-loop
 loop-less c = omega arith
 
 loop-again : tie.Need-loop-again Inv-loop μ-loop
-loop-again c = 
+loop-again c =
     let u = c .before .before in
     let l = u .before .before .before .before in
     (omega arith, omega arith, l .loop .inv .2, u .undo .kept .0 ∙ l .loop .inv .3, rewind-step _ _ _ _ _ (l .loop .inv .4) (omega arith) _ (omega arith) _ (u .undo .ensures) (omega arith))

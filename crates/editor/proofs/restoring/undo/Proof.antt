@@ -19,7 +19,7 @@ long-requires : tie.Need-long-requires
 long-requires c κs = search needs
 
 put-value-requires : tie.Need-put-value-requires
-put-value-requires c κs = 
+put-value-requires c κs =
     let w = c .before .before .before in
     let start = w .before .before .before in
     entry-puttable _ (now (start .args .e)) _ _ _ (w .word .ensures) (c .before .before .word2 .ensures) (c .before .long .ensures) (start .pre .0) (start .pre .1)
@@ -28,7 +28,7 @@ same-length : tie.Need-same-length
 same-length c = search needs
 
 returns : tie.Need-returns
-returns c = 
+returns c =
     let p = c .before .before in
     let l = p .before .before in
     let w = l .before .before in

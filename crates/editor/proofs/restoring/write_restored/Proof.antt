@@ -20,7 +20,7 @@ part-copy-start : tie.Need-part-copy-start
 part-copy-start c = search needs
 
 part-copy-end : tie.Need-part-copy-end
-part-copy-end c = 
+part-copy-end c =
     let k = c .before .before .pre .0 in
     omega (arith, inside _ _ k, sum _ _ k)
 
@@ -31,13 +31,13 @@ slice-relend-prefix-rewind : tie.Need-slice-relend-prefix-rewind
 slice-relend-prefix-rewind c = search needs
 
 slice-aggregate-rewind : tie.Need-slice-aggregate-rewind
-slice-aggregate-rewind c = 
+slice-aggregate-rewind c =
     let p = c .before .before .before in
     let start = p .before .before .before .before .before in
     sym (length-take-le _ _ (copied-long _ _ (start .args .k) _ _ (start .pre .0) (start .pre .2) (p .copy .ensures)))
 
 rewind-requires : tie.Need-rewind-requires
-rewind-requires c κs = 
+rewind-requires c κs =
     let p = c .before .before .before in
     let start = p .before .before .before .before .before in
     (start .pre .0, start .pre .1, copied-frame _ _ (start .args .k) _ _ (start .pre .0) (start .pre .2) (p .copy .ensures))
@@ -46,7 +46,7 @@ same-length : tie.Need-same-length
 same-length c = search needs
 
 returns : tie.Need-returns
-returns c = 
+returns c =
     let w = c .before .before in
     let p = w .before .before .before .before in
     let s = p .before .before .before .before in

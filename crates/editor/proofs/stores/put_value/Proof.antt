@@ -25,7 +25,7 @@ slice-aggregate-put-words : tie.Need-slice-aggregate-put-words
 slice-aggregate-put-words c = search needs
 
 put-words-requires : tie.Need-put-words-requires
-put-words-requires c κs = 
+put-words-requires c κs =
     let t = c .before .before .before in
     omega (arith, sample-room _ _ _ _ (t .before .before .pre) (t .if1 .taken))
 
@@ -33,7 +33,7 @@ same-length : tie.Need-same-length
 same-length c = search needs
 
 returns : tie.Need-returns
-returns c = 
+returns c =
     let p = c .before .before in
     let t = p .before .before .before .before in
     let a = t .before .before .args in
@@ -55,7 +55,7 @@ slice-aggregate-put-words-2 : tie.Need-slice-aggregate-put-words-2
 slice-aggregate-put-words-2 c = search needs
 
 put-words-requires-2 : tie.Need-put-words-requires-2
-put-words-requires-2 c κs = 
+put-words-requires-2 c κs =
     let t = c .before .before in
     omega (arith, bin-room _ _ _ _ (t .before .before .pre) (t .if1 .left))
 
@@ -63,7 +63,7 @@ same-length-2 : tie.Need-same-length-2
 same-length-2 c = search needs
 
 returns-2 : tie.Need-returns-2
-returns-2 c = 
+returns-2 c =
     let p = c .before .before in
     let t = p .before .before .before in
     bin-put _ _ _ _ (t .before .before .pre) (t .if1 .left) _ (p .put-words2 .ensures)
