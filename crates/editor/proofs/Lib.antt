@@ -4,3 +4,6 @@ pub mod ValueLaws
 pub mod KnownLaws
 pub mod EditLaws
 pub mod RestoreLaws
+pub mod Unique
+pub mod Effects
+pub mod Demand3
