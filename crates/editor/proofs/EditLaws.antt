@@ -1,0 +1,146 @@
+-- An edit, as laws over plain lists: the tests at the item are what is left of all tests, the stores are what the rules say is written, and
+-- each way through the code keeps the promise.
+-- Assumes nothing.
+use Prim.Native.Nat.{ℕ, suc, _+_, _*_, _-_, _≤_, _<_}
+use mathlib.Core.Path.{_≡_, refl, sym, ap, subst, _∙_}
+use mathlib.Core.Bool.{Bool, true, not, _&&_, and-true}
+use mathlib.Core.List.{List, [], _∷_, _++_}
+use mathlib.Core.Option.{Option, none, some, Option·some-injective}
+use native.Mathlib.Nat.{add-sub-cancel-left}
+use native.Mathlib.Omega.{arith}
+use lib.ListN.{length, take, drop, length-drop}
+use lib.Seq.{sets, length-sets, length-take-le}
+use lib.Dec.{leb, ltb, eqb}
+use borrow.Rule.Slice.PartMut.{putMid}
+use borrow.Author.Tests.{lt-ltb, eq-eqb, ne-eqb}
+use Rattle.format.specs.Words.{Bytes, bytes}
+use Rattle.format.specs.Answers.{Done, accepted, refused, andThen, need, firstOf}
+use Rattle.format.specs.Spots.{legalValue}
+use Rattle.ledger.specs.Frames.{Spot, Settable}
+use Rattle.ledger.specs.Formats as formats
+use Rattle.ledger.specs.Records.{lengthIn, countIn, totalIn, frameIn, entryBytes, entriesIn, length-entries, signed, recordVerdict}
+use Rattle.ledger.specs.Calls.{Summary, kindOf, valueOf, entryFor, newValue, editTests, editAnswer, editWritten, editExit}
+use Rattle.ledger.specs.Chains.{Allowed}
+use Rattle.ledger.specs.First.{first}
+use Rattle.ledger.specs.House.{house}
+use Rattle.ledger.proofs.Editing.{edit-exactly, exit-written, exit-found}
+use Rattle.ledger.proofs.FirstLaws.{full-limit}
+use Rattle.ledger.proofs.House.{house-lawful}
+use Rattle.editor.specs.declared.editing.Correction.{Correction}
+use Rattle.editor.specs.Views.{also, asked, itemTests}
+use Rattle.editor.specs.Promises.{Edited}
+use Rattle.editor.specs.Writes.{Puttable, Known, Editable}
+use Rattle.editor.proofs.Storing.{part-whole}
+use Rattle.editor.proofs.KnownLaws.{frame-long, sum, inside, few, short, standing}
+
+-- ---- tests
+
+last : (a : Done) → andThen a (λ u. accepted tt) ≡ a
+last (accepted u) = refl
+last (refused n p) = refl
+
+-- the first of four answers, two at a time
+pub four : (a b c d : Done) → also a (also b (also c d)) ≡ firstOf (a ∷ b ∷ c ∷ d ∷ [])
+unfolding firstOf
+four (accepted u) (accepted v) (accepted w) d = sym (last d)
+four (accepted u) (accepted v) (refused n p) d = refl
+four (accepted u) (refused n p) c d = refl
+four (refused n p) b c d = refl
+
+-- the tests at the item, each with its number, in their order
+pub tests-answer : (c : Correction) (x : Summary) (s : Spot) (room : ℕ) (fresh sign : Bool) (value signer full end rest more all : Done)
+    → fresh ≡ legalValue (s .kind) (c .value) → value ≡ need (fresh && not (eqb (s .value) (c .value))) 23 0
+    → sign ≡ signed (c .operator) (c .reason) → signer ≡ need sign 24 0
+    → full ≡ need (ltb (x .count) 512) 25 0 → end ≡ need (leb (x .total + 16) room) 12 0
+    → rest ≡ also full end → more ≡ also signer rest → all ≡ also value more → all ≡ itemTests (asked c) x s room
+unfolding itemTests newValue house
+tests-answer c x s room fresh sign value signer full end rest more all l v g t u w r₁ r₂ r₃ =
+    rw (r₃, r₂, r₁, v, l, t, g, u, w) (four _ _ _ _)
+
+-- a bin's count has 32 bits, as the code's number has
+pub legal-wide : (kind v : ℕ) → (kind ≡ 1 → ⊥) → v < 4294967296 → (eqb kind 2 && leb 1 v) ≡ legalValue kind v
+unfolding legalValue
+legal-wide kind v n h = rw (ne-eqb kind 1 n, lt-ltb v 4294967296 h) (sym (and-true _))
+
+pub legal-sample : (kind v : ℕ) → kind ≡ 1 → leb v 4095 ≡ legalValue kind v
+unfolding legalValue
+legal-sample kind v e = rw (eq-eqb kind 1 e)
+
+-- of all tests of an edit, those at the item are left where the record is accepted and an item stands there
+module _ (b : List ℕ) (x : Summary) (k : Known b x) (c : Correction) where
+  limit-left : (e : formats.Entry) → first .limit (e ∷ entriesIn first b) ≡ ltb (x .count) 512
+  unfolding first
+  limit-left e = rw (length-entries first b (countIn b), ← k .count)
+
+  pub no-target : none ≡ house .spot (frameIn b) (c .word) → editAnswer house first b (asked c) ≡ refused 22 0
+  unfolding editAnswer editTests firstOf first
+  no-target e = rw (k .judged, ← e)
+
+  pub tests-left : (s : Spot) → some s ≡ house .spot (frameIn b) (c .word) → (r : Done) → r ≡ itemTests (asked c) x s (length b) → editAnswer house first b (asked c) ≡ r
+  unfolding itemTests editAnswer editTests firstOf first
+  tests-left s e r q = sym (q ∙ rw (k .judged, ← e, and-true (signed (c .operator) (c .reason)), limit-left (entryFor house (frameIn b) (asked c)), k .total))
+
+-- ---- the promise, kept where an edit is refused and where it is made
+module _ (b : List ℕ) (c : formats.Correction) where
+  pub edited-refused : (r : Done) (n p : ℕ) → r ≡ refused n p → editAnswer house first b c ≡ refused n p → Edited b c r b
+  edited-refused r n p e a = record { answered = e ∙ sym a; left = sym (exit-found house first b c n p a) }
+
+  pub edited-written : (l : List ℕ) → editAnswer house first b c ≡ accepted tt → l ≡ editWritten house first b c → Edited b c (accepted tt) l
+  edited-written l a w = record { answered = sym a; left = w ∙ sym (exit-written house first b c a) }
+
+  pub edited-unknown : (n p : ℕ) → recordVerdict house first b ≡ refused n p → Edited b c (refused n p) b
+  unfolding editAnswer editTests firstOf
+  edited-unknown n p e = edited-refused (refused n p) n p refl (rw e)
+
+-- ---- the stores of an edit that may be made
+module _ (b : List ℕ) (x : Summary) (c : Correction) (s : Spot) (e : Editable b x (asked c) s) where
+  allowed : Allowed house first b (asked c)
+  allowed = edit-exactly house first b (asked c) (e .known .judged) .0 (e .accepted)
+
+  same-spot : allowed .spot ≡ s
+  same-spot = Option·some-injective (allowed .spot) s (sym (allowed .stands) ∙ e .stands)
+
+  part : take (16 + x .length - 16) (drop 16 b) ≡ frameIn b
+  part = rw (add-sub-cancel-left 16 (x .length), e .known .length)
+
+  pub settable : Bytes b → Settable house (frameIn b) (c .word) (c .value) s
+  settable y = record {
+    frame = standing b x (e .known) y;
+    stands = e .stands;
+    legal = ap (λ (t : Spot). house .legal (t .kind) (c .value)) (sym same-spot) ∙ allowed .legal;
+  }
+
+  pub puttable : Bytes b → Puttable (take (16 + x .length - 16) (drop 16 b)) (s .kind) (c .word) (c .value)
+  puttable y = subst (λ (f : List ℕ). Puttable f (s .kind) (c .word) (c .value)) (sym part) (record { spot = s; settable = settable y; same = refl })
+
+  pub word-fits : Bytes b → c .word < 65536
+  word-fits y = house-lawful .index-fits (frameIn b) (c .word) s (standing b x (e .known) y) (e .stands)
+
+  pub signer-fits : (c .operator < 65536) × (c .reason < 65536)
+  signer-fits = let o = allowed .operator in let r = allowed .reason in (omega arith, omega arith)
+
+  pub one-more : x .count < 512
+  one-more = let n = e .known .count in let f = full-limit b (entryFor house (frameIn b) (asked c)) .0 (allowed .limit) in omega arith
+
+  pub entry-room : x .total + 16 ≤ length b
+  unfolding first
+  entry-room = let t = e .known .total in let r = allowed .room in omega arith
+
+  -- three stores: the value in the frame's part, two header words, one entry
+  module _ (y : Bytes b) (l₁ : List ℕ) (e₁ : l₁ ≡ house .put (take (16 + x .length - 16) (drop 16 b)) (c .word) (c .value)) where
+    value-stores : putMid 16 (16 + x .length - 16) b l₁ ≡ sets b 16 (house .put (frameIn b) (c .word) (c .value))
+    value-stores =
+        let k = e .known in
+        let g = house .put (frameIn b) (c .word) (c .value) in
+        let r : 16 + x .length ≤ length b = let i = inside b x k in let t = sum b x k in omega arith in
+        let l : length g ≡ 16 + x .length - 16 = house-lawful .put-length (frameIn b) (c .word) (c .value) s (settable y) ∙ frame-long b x k ∙ sym (add-sub-cancel-left 16 (x .length)) in
+        ap (putMid 16 (16 + x .length - 16) b) (e₁ ∙ ap (λ (f : List ℕ). house .put f (c .word) (c .value)) part) ∙ part-whole b 16 (16 + x .length) g (omega arith) r l
+
+    pub value-length : length (putMid 16 (16 + x .length - 16) b l₁) ≡ length b
+    value-length = ap length value-stores ∙ length-sets b 16 (house .put (frameIn b) (c .word) (c .value))
+
+    pub written : (l₂ l₃ : List ℕ) → l₂ ≡ sets (putMid 16 (16 + x .length - 16) b l₁) 10 (bytes ((x .count + 1) ∷ (x .total + 16) ∷ []))
+        → l₃ ≡ sets l₂ (x .total) (entryBytes first (record { word = c .word; kind = s .kind; old = s .value; new = c .value; operator = c .operator; reason = c .reason; extra = [] }))
+        → l₃ ≡ editWritten house first b (asked c)
+    unfolding editWritten bytes first
+    written l₂ l₃ e₂ e₃ = rw (e₃, e₂, value-stores, e .stands, e .known .count, e .known .total)

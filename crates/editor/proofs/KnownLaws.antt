@@ -1,0 +1,86 @@
+-- What one judging of a record tells: it is accepted, its header is right, its frame is an accepted frame that its entries fit.
+-- Assumes nothing.
+use Prim.Native.Nat.{ℕ, _+_, _*_, _≤_, _<_}
+use mathlib.Core.Path.{_≡_, refl, sym, ap, _∙_}
+use mathlib.Core.List.{List}
+use mathlib.Core.Option.{Option}
+use native.Mathlib.Omega.{arith}
+use lib.ListN.{length}
+use Rattle.format.specs.Words.{Bytes}
+use Rattle.format.specs.Answers.{Outcome, Done, accepted, refused, andThen}
+use Rattle.ledger.specs.Frames.{Spot, Accepted}
+use Rattle.ledger.specs.Records.{lengthIn, countIn, totalIn, frameIn, entriesIn, historyVerdict, recordVerdict}
+use Rattle.ledger.specs.Calls.{Summary}
+use Rattle.ledger.specs.Chains.{Header}
+use Rattle.ledger.specs.First.{first}
+use Rattle.ledger.specs.House.{house}
+use Rattle.ledger.specs.Judged.{Judged, judgedAt}
+use Rattle.ledger.proofs.Codecs.{bytes-part}
+use Rattle.ledger.proofs.Headers.{header-words, frame-length, few-entries}
+use Rattle.ledger.proofs.Judging.{verdict-parts}
+use Rattle.ledger.proofs.FirstLaws.{first-lawful}
+use Rattle.ledger.proofs.House.{house-lawful}
+use Rattle.editor.specs.Writes.{Known}
+
+-- ---- from the answer of judging
+abbrev here : List ℕ → ℕ → Judged
+here b w = record { length = lengthIn b; count = countIn b; total = totalIn first b; spot = house .spot (frameIn b) w }
+
+same-judged : (i j : Judged) → _≡_ {A = Outcome Judged} (accepted i) (accepted j) → i ≡ j
+same-judged i j e = cc
+
+pub judged-known : (b : List ℕ) (w : ℕ) (x : Summary) (o : Option Spot)
+    → accepted (record { length = x .length; count = x .count; total = x .total; spot = o }) ≡ judgedAt house first b w
+    → Known b x × (o ≡ house .spot (frameIn b) w)
+unfolding judgedAt
+judged-known b w x o e = go (recordVerdict house first b) refl e
+  where
+    go : (v : Done) → recordVerdict house first b ≡ v
+        → accepted (record { length = x .length; count = x .count; total = x .total; spot = o }) ≡ andThen v (λ u. accepted (here b w))
+        → Known b x × (o ≡ house .spot (frameIn b) w)
+    go (accepted u) q h =
+        let s = same-judged (record { length = x .length; count = x .count; total = x .total; spot = o }) (here b w) h in (
+          record {
+            judged = q;
+            length = ap (λ (j : Judged). j .length) s;
+            count = ap (λ (j : Judged). j .count) s;
+            total = ap (λ (j : Judged). j .total) s;
+          },
+          ap (λ (j : Judged). j .spot) s,
+        )
+    go (refused n p) q h = let z : _≡_ {A = ℕ} 0 1 = cc in absurd (omega arith)
+
+pub judged-refused : (b : List ℕ) (w n p : ℕ) → refused n p ≡ judgedAt house first b w → recordVerdict house first b ≡ refused n p
+unfolding judgedAt
+judged-refused b w n p e = go (recordVerdict house first b) e
+  where
+    go : (v : Done) → refused n p ≡ andThen v (λ u. accepted (here b w)) → v ≡ refused n p
+    go (accepted u) h = let z : _≡_ {A = ℕ} 0 1 = cc in absurd (omega arith)
+    go (refused m q) h = cc
+
+-- ---- what an accepted record is
+module _ (b : List ℕ) (x : Summary) (k : Known b x) where
+  pub head : Header first b
+  head = header-words first b (verdict-parts house first b (k .judged) .0)
+
+  pub fitting : historyVerdict house first (frameIn b) (entriesIn first b) ≡ accepted tt
+  fitting = verdict-parts house first b (k .judged) .2
+
+  pub standing : Bytes b → Accepted house (frameIn b)
+  standing y = record { bytes = bytes-part b 16 (lengthIn b) y; judged = verdict-parts house first b (k .judged) .1 }
+
+  pub frame-long : length (frameIn b) ≡ x .length
+  frame-long = frame-length first b head ∙ sym (k .length)
+
+  pub sum : x .total ≡ 16 + x .length + 16 * x .count
+  unfolding first
+  sum = let l = k .length in let n = k .count in let t = k .total in omega arith
+
+  pub inside : x .total ≤ length b
+  inside = let t = k .total in let r = head .room in omega arith
+
+  pub few : x .count ≤ 512
+  few = let n = k .count in let f = few-entries first first-lawful b head in omega arith
+
+  pub short : Bytes b → x .length ≤ 8192
+  short y = let l = frame-long in let s = house-lawful .short (frameIn b) (standing y) in omega arith

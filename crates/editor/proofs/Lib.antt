@@ -1,0 +1,9 @@
+pub mod Storing
+pub mod OpenLaws
+pub mod ValueLaws
+pub mod KnownLaws
+pub mod EditLaws
+pub mod RestoreLaws
+pub mod Unique
+pub mod Effects
+pub mod Demand3

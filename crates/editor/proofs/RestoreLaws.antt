@@ -1,0 +1,163 @@
+-- Restoring, as laws over plain lists: one entry undone, the loop from the newest entry back, and the promise kept on each way.
+-- Assumes nothing.
+use Prim.Native.Nat.{ℕ, suc, _+_, _*_, _-_, _≤_, _<_}
+use mathlib.Core.Path.{_≡_, refl, sym, ap, subst, _∙_}
+use mathlib.Core.Bool.{true}
+use mathlib.Core.List.{List, _++_}
+use native.Mathlib.Nat.{add-sub-cancel-left}
+use native.Mathlib.Omega.{arith}
+use lib.ListN.{length, take, drop, length-drop}
+use lib.Seq.{sets, sets-eq, length-sets, take-all, take-at, drop-at}
+use lib.Dec.{leb}
+use Rattle.format.specs.Words.{Bytes, wordAt, longAt}
+use Rattle.format.specs.Answers.{Done, accepted, refused, andThen, need, firstOf}
+use Rattle.ledger.specs.Frames.{Accepted, Settable}
+use Rattle.ledger.specs.Formats.{Entry}
+use Rattle.ledger.specs.Records.{lengthIn, countIn, frameIn, entryOf, numbered, entriesTo, entries-more, fits, before, historyVerdict, recordVerdict}
+use Rattle.ledger.specs.Calls.{Summary, undone, restored, restoreAnswer, restoreExit}
+use Rattle.ledger.specs.Chains.{Fits}
+use Rattle.ledger.specs.First.{first}
+use Rattle.ledger.specs.House.{house}
+use Rattle.ledger.proofs.Codecs.{numbered-suc}
+use Rattle.ledger.proofs.Judging.{fits-right, step-accepted}
+use Rattle.ledger.proofs.Walking.{restore-done, restore-back}
+use Rattle.ledger.proofs.Answering.{leaves-found, leaves-written}
+use Rattle.ledger.proofs.Restoring.{restore-parts, restored-long}
+use Rattle.ledger.proofs.House.{house-first, house-lawful}
+use Rattle.editor.specs.Views.{also}
+use Rattle.editor.specs.Promises.{Restored}
+use Rattle.editor.specs.Writes.{Puttable, Known}
+use Rattle.editor.proofs.KnownLaws.{standing, fitting, frame-long}
+
+-- ---- one entry: its own kind is the item's
+module _ (f : List ℕ) (e : Entry) (a : Accepted house f) (h : fits house first f e ≡ true) where
+  right : Fits house first f e
+  right = fits-right house first f e h
+
+  settable : Settable house f (e .word) (e .old) (right .spot)
+  settable = record {
+    frame = a;
+    stands = right .stands;
+    legal = ap (λ (k : ℕ). house .legal k (e .old)) (right .kind) ∙ right .old;
+  }
+
+  pub old-puttable : Puttable f (e .kind) (e .word) (e .old)
+  old-puttable = record { spot = right .spot; settable = settable; same = right .kind }
+
+  pub back-accepted : Accepted house (before house f e)
+  back-accepted = house-lawful .put-accepted f (e .word) (e .old) (right .spot) settable
+
+  pub back-long : length (before house f e) ≡ length f
+  back-long = house-lawful .put-length f (e .word) (e .old) (right .spot) settable
+
+module _ (f s : List ℕ) (w k o : ℕ) (ew : w ≡ wordAt s 0) (ek : k ≡ wordAt s 1) (eo : o ≡ longAt s 2) where
+  pub entry-puttable : Accepted house f → fits house first f (entryOf first s) ≡ true → Puttable f k w o
+  unfolding entryOf
+  entry-puttable a h = rw (ew, ek, eo) (old-puttable f (entryOf first s) a h)
+
+  pub entry-undone : (l : List ℕ) → l ≡ house .put f w o → l ≡ before house f (entryOf first s)
+  unfolding entryOf
+  entry-undone l e = rw (ew, eo) at e
+
+-- ---- from the newest entry back: n entries are left, and what undoing them down to k gives is the frame restored to k
+pub record Rewinding (b : List ℕ) (k n : ℕ) (f : List ℕ) : Type 0 where
+  pub frame : Accepted house f
+  pub fit : historyVerdict house first f (entriesTo first b n) ≡ accepted tt
+  pub left : undone house f (take (n - k) (entriesTo first b n)) ≡ restored house first b k
+
+pub rewind-start : (b : List ℕ) (x : Summary) (k : ℕ) (f : List ℕ) → Known b x → Bytes b → f ≡ frameIn b → Rewinding b k (x .count) f
+unfolding restored
+rewind-start b x k f j y e = record {
+  frame = subst (Accepted house) (sym e) (standing b x j y);
+  fit = rw (e, j .count) (fitting b x j);
+  left = rw (e, j .count);
+}
+
+-- a turn of the loop: of n entries the newest is taken off, and m are left. It stands at byte `at`
+module _ (b : List ℕ) (k n m : ℕ) (f : List ℕ) (r : Rewinding b k n f) (u : n ≡ suc m) (at : ℕ) (i : at ≡ 16 + lengthIn b + 16 * m) where
+  newest : numbered first b (suc m) ≡ entryOf first (take (length b - at) (drop at b))
+  unfolding first
+  newest =
+      numbered-suc first b m
+      ∙ ap (λ (j : ℕ). entryOf first (drop j b)) (sym i)
+      ∙ ap (entryOf first) (sym (take-all (length b - at) (drop at b) (rw (length-drop at b) (omega arith))))
+
+  turned : Rewinding b k (suc m) f
+  turned = subst (λ (j : ℕ). Rewinding b k j f) u r
+
+  step : (fits house first f (numbered first b (suc m)) ≡ true) × (historyVerdict house first (before house f (numbered first b (suc m))) (entriesTo first b m) ≡ accepted tt)
+  step = step-accepted house first f (numbered first b (suc m)) (entriesTo first b m) (ap (historyVerdict house first f) (sym (entries-more first b m)) ∙ turned .fit)
+
+  pub rewind-fits : fits house first f (entryOf first (take (length b - at) (drop at b))) ≡ true
+  rewind-fits = ap (fits house first f) (sym newest) ∙ step .0
+
+  pub rewind-step : (g : List ℕ) → g ≡ before house f (entryOf first (take (length b - at) (drop at b))) → k ≤ m → Rewinding b k m g
+  rewind-step g e l =
+      let g′ : g ≡ before house f (numbered first b (suc m)) = e ∙ ap (before house f) (sym newest) in
+      record {
+        frame = subst (Accepted house) (sym g′) (back-accepted f (numbered first b (suc m)) (r .frame) (step .0));
+        fit = ap (λ (h : List ℕ). historyVerdict house first h (entriesTo first b m)) g′ ∙ step .1;
+        left = ap (λ (h : List ℕ). undone house h (take (m - k) (entriesTo first b m))) g′ ∙ sym (restore-back house first f b m k l) ∙ turned .left;
+      }
+
+pub rewind-end : (b : List ℕ) (k n : ℕ) (f : List ℕ) → Rewinding b k n f → n ≡ k → f ≡ restored house first b k
+rewind-end b k n f r e = sym (restore-done house first f b k) ∙ rw e at (r .left)
+
+-- ---- the second buffer
+module _ (b : List ℕ) (x : Summary) (k : ℕ) (out copied : List ℕ) (j : Known b x) (r : x .length ≤ length out)
+    (e : copied ≡ sets out 0 (take (16 + x .length - 16) (drop 16 b))) where
+  in-parts : copied ≡ frameIn b ++ drop (x .length) out
+  in-parts =
+      let p : take (16 + x .length - 16) (drop 16 b) ≡ frameIn b = rw (add-sub-cancel-left 16 (x .length), j .length) in
+      let l : 0 + length (frameIn b) ≡ x .length = let h = frame-long b x j in omega arith in
+      e ∙ ap (sets out 0) p ∙ sets-eq (frameIn b) out 0 (omega arith) ∙ ap (λ (i : ℕ). frameIn b ++ drop i out) l
+
+  pub copied-frame : take (x .length) copied ≡ frameIn b
+  copied-frame = ap (take (x .length)) in-parts ∙ take-at (frameIn b) (drop (x .length) out) (x .length) (frame-long b x j)
+
+  pub copied-long : x .length ≤ length copied
+  copied-long = rw (e, length-sets out 0 (take (16 + x .length - 16) (drop 16 b))) r
+
+  pub rewound-whole : Bytes b → (l : List ℕ) → l ≡ restored house first b k → l ++ drop (x .length) copied ≡ sets out 0 (restored house first b k)
+  rewound-whole y l q =
+      let g = restored house first b k in
+      let d : drop (x .length) copied ≡ drop (x .length) out = ap (drop (x .length)) in-parts ∙ drop-at (frameIn b) (drop (x .length) out) (x .length) (frame-long b x j) in
+      let n : length g ≡ lengthIn b = restored-long house first house-first b y (j .judged) k in
+      let m : 0 + length g ≡ x .length = let h = j .length in omega arith in
+      ap (λ (f : List ℕ). f ++ drop (x .length) copied) q ∙ ap (λ (f : List ℕ). g ++ f) d
+      ∙ sym (sets-eq g out 0 (omega arith) ∙ ap (λ (i : ℕ). g ++ drop i out) m)
+
+-- ---- the promise
+last : (a : Done) → andThen a (λ u. accepted tt) ≡ a
+last (accepted u) = refl
+last (refused n p) = refl
+
+module _ (b : List ℕ) (k : ℕ) (out : List ℕ) where
+  -- of all tests of restoring, two are left where the record is accepted
+  pub restore-left : (x : Summary) → Known b x → (known room a : Done) → known ≡ need (leb k (x .count)) 26 0 → room ≡ need (leb (x .length) (length out)) 12 0
+      → a ≡ also known room → restoreAnswer house first b k out ≡ a
+  unfolding restoreAnswer firstOf
+  restore-left x j known room a e f g = sym (g ∙ rw (e, f, j .judged, j .count, j .length) (go (need (leb k (countIn b)) 26 0) (need (leb (lengthIn b) (length out)) 12 0)))
+    where
+      go : (p q : Done) → also p q ≡ andThen p (λ u. andThen q (λ v. accepted tt))
+      go (accepted u) q = sym (last q)
+      go (refused n p) q = refl
+
+  pub restored-refused : (n p : ℕ) → restoreAnswer house first b k out ≡ refused n p → Restored b k out (refused n p) out
+  unfolding restoreExit
+  restored-refused n p a = record { answered = sym a; left = sym (leaves-found (restoreAnswer house first b k out) out _ n p a) }
+
+  pub restored-written : (l : List ℕ) → restoreAnswer house first b k out ≡ accepted tt → l ≡ sets out 0 (restored house first b k) → Restored b k out (accepted tt) l
+  unfolding restoreExit
+  restored-written l a w = record { answered = sym a; left = w ∙ sym (leaves-written (restoreAnswer house first b k out) out _ tt a) }
+
+  pub restored-unknown : (n p : ℕ) → recordVerdict house first b ≡ refused n p → Restored b k out (refused n p) out
+  unfolding restoreAnswer firstOf
+  restored-unknown n p e = restored-refused n p (rw e)
+
+  pub restore-ready : (x : Summary) → Known b x → restoreAnswer house first b k out ≡ accepted tt → (k ≤ x .count) × (x .length ≤ length out)
+  restore-ready x j a =
+      let p = restore-parts house first b k out a in
+      let n = j .count in
+      let l = j .length in
+      (omega (arith, p .1), omega (arith, p .2))

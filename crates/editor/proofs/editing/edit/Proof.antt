@@ -1,0 +1,49 @@
+-- `editor::editing::edit` meets its contract.
+-- Assumes nothing.
+use denote.Ref.{now}
+use mathlib.Core.Path.{sym, ap, _∙_}
+use Rattle.plane.specs.Views.{viewJudged}
+use Rattle.editor.proofs.KnownLaws.{judged-known, judged-refused}
+use Rattle.editor.proofs.EditLaws.{edited-unknown}
+use borrow.Author.Needs.{needs}
+use Rattle.editor.proofs.editing.edit.Statement.{statement}
+use Rattle.editor.proofs.editing.edit.Tie as tie
+
+judge-requires : tie.Need-judge-requires
+judge-requires c κs = search needs
+
+enum-known-judged : tie.Need-enum-known-judged
+enum-known-judged c = search needs
+
+enum-known-judged-2 : tie.Need-enum-known-judged-2
+enum-known-judged-2 c = search needs
+
+edit-item-requires : tie.Need-edit-item-requires
+edit-item-requires c κs =
+    let j = c .before .before in
+    judged-known _ _ _ _ (sym (ap viewJudged (j .judged2 .given .1)) ∙ j .before .before .judge .ensures)
+
+same-length : tie.Need-same-length
+same-length c = search needs
+
+returns : tie.Need-returns
+returns c = edited-unknown _ _ _ _ (judged-refused _ _ _ _ (sym (ap viewJudged (c .before .judged .given .1)) ∙ c .before .before .before .judge .ensures))
+
+same-length-2 : tie.Need-same-length-2
+same-length-2 c = search needs
+
+returns-2 : tie.Need-returns-2
+returns-2 c = search needs
+
+pub edit-spec : {M : Type 1} → statement M
+edit-spec =
+    tie.close
+    (tie.spec
+    judge-requires
+    enum-known-judged
+    enum-known-judged-2
+    edit-item-requires
+    same-length
+    returns
+    same-length-2
+    returns-2)

@@ -1,0 +1,89 @@
+-- `editor::editing::edit_item` meets its contract.
+-- Assumes nothing.
+use denote.Ref.{now}
+use native.Mathlib.Omega.{arith}
+use mathlib.Core.Path.{_≡_, refl, sym, ap, _∙_}
+use Rattle.ledger.specs.House.{toldOf}
+use Rattle.plane.specs.Views.{viewSpot}
+use Rattle.plane.specs.declared.answers.SpotFound.{SpotFound}
+use Rattle.editor.specs.Views.{viewDone}
+use Rattle.editor.proofs.KnownLaws.{sum, few, short}
+use Rattle.editor.proofs.EditLaws.{no-target, tests-left, edited-refused, edited-written}
+use borrow.Author.Needs.{needs}
+use Rattle.editor.proofs.editing.edit_item.Statement.{statement}
+use Rattle.editor.proofs.editing.edit_item.Tie as tie
+
+enum-known-s : tie.Need-enum-known-s
+enum-known-s c = search needs
+
+enum-told : tie.Need-enum-told
+enum-told c = search needs
+
+test-requires : tie.Need-test-requires
+test-requires c κs = search needs
+
+returns : tie.Need-returns
+returns c =
+    let t = c .before in
+    let start = t .before .before .before in
+    edited-refused _ _ _ 22 0 (c .test .ensures) (no-target _ _ (start .pre .0) (start .args .c) (sym (ap (λ (s : SpotFound). toldOf (viewSpot s)) (t .enum-told .given .1)) ∙ start .pre .1))
+
+edit-tests-requires : tie.Need-edit-tests-requires
+edit-tests-requires c κs =
+    let s = c .before .before .before in
+    let k = s .before .pre .0 in
+    omega (arith, sum _ _ k, few _ _ k, short _ _ k (λ i. (s .slice-known .given i) .fits))
+
+enum-known-answer : tie.Need-enum-known-answer
+enum-known-answer c = search needs
+
+enum-told-2 : tie.Need-enum-told-2
+enum-told-2 c = search needs
+
+write-edit-requires : tie.Need-write-edit-requires
+write-edit-requires c κs =
+    let t = c .before .before .before in
+    let s = t .before .before in
+    let start = s .before .before .before in
+    let there = sym (ap (λ (s : SpotFound). toldOf (viewSpot s)) (s .s .given .1)) ∙ start .pre .1 in
+    record {
+      known = start .pre .0;
+      accepted = tests-left _ _ (start .pre .0) (start .args .c) _ there _ (sym (ap viewDone (c .before .enum-told2 .given .1)) ∙ t .edit-tests .ensures);
+      stands = sym there;
+    }
+
+returns-2 : tie.Need-returns-2
+returns-2 c =
+    let t = c .before .before .before in
+    let s = t .before .before in
+    let start = s .before .before .before in
+    let there = sym (ap (λ (s : SpotFound). toldOf (viewSpot s)) (s .s .given .1)) ∙ start .pre .1 in
+    edited-refused _ _ _ _ _ refl (tests-left _ _ (start .pre .0) (start .args .c) _ there _ (sym (ap viewDone (c .before .answer .given .1)) ∙ t .edit-tests .ensures))
+
+same-length : tie.Need-same-length
+same-length c = search needs
+
+returns-3 : tie.Need-returns-3
+returns-3 c =
+    let w = c .before .before in
+    let t = w .before .before .before .before in
+    let s = t .before .before in
+    let start = s .before .before .before in
+    let there = sym (ap (λ (s : SpotFound). toldOf (viewSpot s)) (s .s .given .1)) ∙ start .pre .1 in
+    edited-written _ _ _ (tests-left _ _ (start .pre .0) (start .args .c) _ there _ (sym (ap viewDone (w .before .before .enum-told2 .given .1)) ∙ t .edit-tests .ensures)) (w .write-edit .ensures)
+
+pub edit-item-spec : {M : Type 1} → statement M
+edit-item-spec =
+    tie.close
+    (tie.spec
+    enum-known-s
+    enum-told
+    test-requires
+    returns
+    edit-tests-requires
+    enum-known-answer
+    enum-told-2
+    write-edit-requires
+    returns-2
+    same-length
+    returns-3)

@@ -1,0 +1,4 @@
+pub mod Views
+pub mod Promises
+pub mod Writes
+pub mod Sequences

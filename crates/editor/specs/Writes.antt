@@ -1,0 +1,32 @@
+-- What holds where the private functions of this crate write: they are called only after all tests.
+-- Assumes nothing.
+use Prim.Native.Nat.{ℕ}
+use mathlib.Core.Path.{_≡_}
+use mathlib.Core.List.{List}
+use mathlib.Core.Option.{some}
+use Rattle.format.specs.Answers.{accepted}
+use Rattle.ledger.specs.Frames.{Spot, Settable}
+use Rattle.ledger.specs.Formats as formats
+use Rattle.ledger.specs.Records.{lengthIn, countIn, totalIn, frameIn, recordVerdict}
+use Rattle.ledger.specs.Calls.{Summary, editAnswer}
+use Rattle.ledger.specs.First.{first}
+use Rattle.ledger.specs.House.{house}
+
+-- an item of that kind stands at word w of an accepted frame, and it may hold the value
+pub record Puttable (f : List ℕ) (kind w value : ℕ) : Type 0 where
+  pub spot : Spot
+  pub settable : Settable house f w value spot
+  pub same : spot .kind ≡ kind
+
+-- what was judged of a record: it is accepted, and these are its lengths and its entry count
+pub record Known (b : List ℕ) (x : Summary) : Type 0 where
+  pub judged : recordVerdict house first b ≡ accepted tt
+  pub length : x .length ≡ lengthIn b
+  pub count : x .count ≡ countIn b
+  pub total : x .total ≡ totalIn first b
+
+-- an edit that was accepted, and the item that it changes
+pub record Editable (b : List ℕ) (x : Summary) (c : formats.Correction) (s : Spot) : Type 0 where
+  pub known : Known b x
+  pub accepted : editAnswer house first b c ≡ accepted tt
+  pub stands : house .spot (frameIn b) (c .word) ≡ some s

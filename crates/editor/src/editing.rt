@@ -1,0 +1,128 @@
+// An edit of a record: the value of one item is changed, and an entry of the history says so.
+ghost use mathlib.Core.Path.{_≡_};
+ghost use Prim.Native.Nat.{_<_};
+ghost use Rattle.format.specs.Spots.{legalValue};
+ghost use Rattle.ledger.specs.Records as records;
+ghost use Rattle.ledger.specs.Records.{frameIn};
+ghost use Rattle.ledger.specs.Calls.{editWritten};
+ghost use Rattle.ledger.specs.First.{first};
+ghost use Rattle.ledger.specs.House.{house, toldOf};
+ghost use Rattle.plane.specs.Views.{viewSpot, summaryOf};
+ghost use Rattle.editor.specs.Views.{viewDone, asked, spotOf, itemTests};
+ghost use Rattle.editor.specs.Promises.{Edited};
+ghost use Rattle.editor.specs.Writes.{Known, Editable};
+use crate::answers::Done;
+use crate::answers::first_of;
+use crate::answers::test;
+use crate::stores::put_entry;
+use crate::stores::put_value;
+use crate::stores::put_words;
+use book::items::Bin;
+use book::items::Sample;
+use book::refusal::Refusal;
+use plane::answers::Entry;
+use plane::answers::Judged;
+use plane::answers::Record;
+use plane::answers::Spot;
+use plane::answers::SpotFound;
+use plane::judge;
+
+// What an edit asks: the item by the index of its first word, its new value, and who corrects it for what reason. The numbers are wide
+// enough that every one out of range can be given, and is refused.
+pub struct Correction {
+    pub word: usize,
+    pub value: u32,
+    pub operator: u32,
+    pub reason: u32,
+}
+
+impl Correction {
+    pub const LAST_OPERATOR: u32 = 65535;
+}
+
+// Whether an item of the kind may hold the value.
+fn legal(kind: u16, value: u32) -> bool
+    ensures { λ r. ⌜ r ≡ legalValue kind value ⌝ }
+{
+    if kind == 1 {
+        return value <= Sample::LAST as u32;
+    }
+    (kind == 2) & (Bin::LEAST_COUNT <= value)
+}
+
+// Whether operator and reason are ones that may sign.
+fn signed(operator: u32, reason: u32) -> bool
+    ensures { λ r. ⌜ r ≡ records.signed operator reason ⌝ }
+{
+    (1 <= operator)
+        & (operator <= Correction::LAST_OPERATOR)
+        & (1 <= reason)
+        & (reason <= Entry::LAST_REASON as u32)
+}
+
+// The tests of an edit of an accepted record at the item asked for: 23, 24, 25, 12.
+fn edit_tests(c: Correction, x: Record, spot: Spot, room: usize) -> Done
+    requires { ⌜ x .total < 65536 ⌝ }
+    ensures { λ r. ⌜ viewDone r ≡ itemTests (asked c) (summaryOf x) (spotOf spot) room ⌝ }
+{
+    let fresh = legal(spot.kind, c.value) & (spot.value != c.value);
+    let value = test(fresh, Refusal::NEW_VALUE);
+    let signer = test(signed(c.operator, c.reason), Refusal::SIGNER);
+    let full = test(x.count < Record::MOST, Refusal::FULL);
+    let end = test(x.total + Entry::SIZE <= room, Refusal::ROOM);
+    first_of(value, first_of(signer, first_of(full, end)))
+}
+
+// An edit that may be made: the value, the two header words that change, and one entry.
+fn write_edit(buf: &mut [u8], c: Correction, x: Record, spot: Spot)
+    requires { ⌜ Editable (now buf) (summaryOf x) (asked c) (spotOf spot) ⌝ }
+    ensures { λ _. ⌜ now (buf .exit) ≡ editWritten house first (now (buf .entry)) (asked c) ⌝ }
+{
+    let start = Record::HEADER;
+    let end = start + x.length;
+    put_value(&mut buf[start..end], spot.kind, c.word, c.value);
+    let count = (x.count + 1) as u16;
+    let total = (x.total + Entry::SIZE) as u16;
+    put_words(buf, 10, &[count, total]);
+    let entry = Entry {
+        word: c.word as u16,
+        kind: spot.kind,
+        old: spot.value,
+        new: c.value,
+        operator: c.operator as u16,
+        reason: c.reason as u16,
+    };
+    put_entry(buf, x.total, entry);
+}
+
+// An edit of an accepted record, at what stands at the word asked for: anything but a Sample or Bin leaves at once with 22.
+fn edit_item(buf: &mut [u8], c: Correction, x: Record, s: SpotFound) -> Done
+    requires { ⌜ Known (now buf) (summaryOf x) × (toldOf (viewSpot s) ≡ house .spot (frameIn (now buf)) (c .word)) ⌝ }
+    ensures { λ r. ⌜ Edited (now (buf .entry)) (asked c) (viewDone r) (now (buf .exit)) ⌝ }
+{
+    let SpotFound::Spot(spot) = s else {
+        return test(false, Refusal::TARGET);
+    };
+    let answer = edit_tests(c, x, spot, buf.len());
+    match answer {
+        Done::Refused(r) => Done::Refused(r),
+        Done::Accepted => {
+            write_edit(buf, c, x, spot);
+            Done::Accepted
+        }
+    }
+}
+
+// Edits a record. Refuses as judging the record does, then by 22 where no Sample or Bin begins at the word, by 23 for a value that the item
+// may not hold or already has, by 24 for an operator or reason out of range, by 25 where 512 entries stand, and by 12 where the buffer has
+// no room for one entry more. Accepted, it has written the value, the two header words that change and one entry, and nothing else; refused,
+// the buffer is as found.
+pub fn edit(buf: &mut [u8], c: Correction) -> Done
+    ensures { λ r. ⌜ Edited (now (buf .entry)) (asked c) (viewDone r) (now (buf .exit)) ⌝ }
+{
+    let judged = judge(buf, c.word);
+    match judged {
+        Judged::Refused(r) => Done::Refused(r),
+        Judged::Accepted(x, s) => edit_item(buf, c, x, s),
+    }
+}

@@ -1,0 +1,96 @@
+// The frame of a record as it stood after an earlier edit.
+ghost use mathlib.Core.Path.{_≡_};
+ghost use mathlib.Core.Bool.{true};
+ghost use Prim.Native.Nat.{_≤_};
+ghost use lib.ListN.{length};
+ghost use lib.Seq.{sets};
+ghost use Rattle.ledger.specs.Frames.{Accepted};
+ghost use Rattle.ledger.specs.Records as records;
+ghost use Rattle.ledger.specs.Records.{entryOf, fits, frameIn};
+ghost use Rattle.ledger.specs.Calls.{restored};
+ghost use Rattle.ledger.specs.First.{first};
+ghost use Rattle.ledger.specs.House.{house};
+ghost use Rattle.plane.specs.Views.{summaryOf};
+ghost use Rattle.editor.specs.Views.{viewDone};
+ghost use Rattle.editor.specs.Promises.{Restored};
+ghost use Rattle.editor.specs.Writes.{Known};
+use crate::answers::Done;
+use crate::answers::first_of;
+use crate::answers::test;
+use crate::stores::put_value;
+use book::refusal::Refusal;
+use book::words::copy;
+use book::words::long;
+use book::words::word;
+use plane::answers::Entry;
+use plane::answers::Judged;
+use plane::answers::Record;
+use plane::judge;
+
+// Undoes the entry that e begins with, in the frame that it fits: its old value is put back. The entry's own kind says where the value
+// stands, so the frame is not walked again.
+fn undo(frame: &mut [u8], e: &[u8])
+    requires { ⌜ Accepted house (now frame) × (fits house first (now frame) (entryOf first (now e)) ≡ true) ⌝ }
+    ensures { λ _. ⌜ now (frame .exit) ≡ records.before house (now (frame .entry)) (entryOf first (now (e .entry))) ⌝ }
+{
+    let w = word(e, 0) as usize;
+    let kind = word(e, 1);
+    let old = long(e, 2);
+    put_value(frame, kind, w, old);
+}
+
+// Undoes the entries of an accepted record, from the newest down to number k + 1, in a copy of its frame.
+fn rewind(frame: &mut [u8], buf: &[u8], x: Record, k: usize)
+    requires { ⌜ Known (now buf) (summaryOf x) × (k ≤ x .count) × (now frame ≡ frameIn (now buf)) ⌝ }
+    ensures { λ _. ⌜ now (frame .exit) ≡ restored house first (now (buf .entry)) k ⌝ }
+{
+    let history = Record::HEADER + x.length;
+    let mut n = x.count;
+    while k < n {
+        n -= 1;
+        let at = history + Entry::SIZE * n;
+        undo(frame, &buf[at..]);
+    }
+}
+
+// The frame as it stood after the first k edits, to the start of the second buffer.
+fn write_restored(buf: &[u8], x: Record, k: usize, out: &mut [u8])
+    requires { ⌜ Known (now buf) (summaryOf x) × (k ≤ x .count) × (x .length ≤ length (now out)) ⌝ }
+    ensures { λ _. ⌜ now (out .exit) ≡ sets (now (out .entry)) 0 (restored house first (now (buf .entry)) k) ⌝ }
+{
+    let start = Record::HEADER;
+    let n = x.length;
+    let end = start + n;
+    copy(&buf[start..end], out);
+    rewind(&mut out[..n], buf, x, k);
+}
+
+// Restoring an accepted record: 26, 12.
+fn restore_known(buf: &[u8], x: Record, k: usize, out: &mut [u8]) -> Done
+    requires { ⌜ Known (now buf) (summaryOf x) ⌝ }
+    ensures { λ r. ⌜ Restored (now (buf .entry)) k (now (out .entry)) (viewDone r) (now (out .exit)) ⌝ }
+{
+    let known = test(k <= x.count, Refusal::NO_ENTRY);
+    let room = test(x.length <= out.len(), Refusal::ROOM);
+    let answer = first_of(known, room);
+    match answer {
+        Done::Refused(r) => Done::Refused(r),
+        Done::Accepted => {
+            write_restored(buf, x, k, out);
+            Done::Accepted
+        }
+    }
+}
+
+// Restores the frame of a record as it stood after its first k edits, k = 0 as it was recorded. Refuses as judging the record does, then by
+// 26 where k is above the entry count, and by 12 where the second buffer is under the frame's length. Accepted, it has written the frame to
+// the start of the second buffer and nothing beyond; refused, that buffer is as found. The record is only read.
+pub fn restore(buf: &[u8], k: usize, out: &mut [u8]) -> Done
+    ensures { λ r. ⌜ Restored (now (buf .entry)) k (now (out .entry)) (viewDone r) (now (out .exit)) ⌝ }
+{
+    let judged = judge(buf, 0);
+    match judged {
+        Judged::Refused(r) => Done::Refused(r),
+        Judged::Accepted(x, _) => restore_known(buf, x, k, out),
+    }
+}
