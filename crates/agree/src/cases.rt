@@ -127,6 +127,17 @@ impl Case {
             11 => self.within(256, Case::WORD, 0, 0, 0, false, false),
             12 => self.within(0, 0, 0, 0, 0, true, false),
             13 => self.within(u64::MAX, 0, 0, 0, 0, true, false),
+            14 => self.within(0, 0, 0, 0, 0, true, true),
+            15 => self.within(
+                Case::LONG,
+                Case::LONG,
+                Case::LONG,
+                Case::LONG,
+                0,
+                true,
+                false,
+            ),
+            16 => self.within(u64::MAX, 0, 0, 0, 0, true, true),
             _ => false,
         }
     }

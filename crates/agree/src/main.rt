@@ -1,11 +1,13 @@
 // The proved library's side of the comparison with an independent second program (document 01, "Figures to agree with"): reads cases from
 // standard input and writes one line for each. README.md says what a case and its line look like, and how an op is added.
 //
-// The ops that are there: 0 classify, 1 read, 2 item, 3 text, 4 event, 5 samples, 6 counts, 7 begin, 8 add, 9 add text, 10 close, 11 follow, 12 record, 13 entry. Any other is a bad case.
+// The ops that are there: 0 classify, 1 read, 2 item, 3 text, 4 event, 5 samples, 6 counts, 7 begin, 8 add, 9 add text, 10 close, 11 follow, 12 record, 13 entry, 14 open, 15 edit,
+// 16 restore. Any other is a bad case.
 mod cases;
 mod lines;
 mod ops;
 mod ops_book;
+mod ops_editor;
 mod ops_follower;
 mod ops_frame;
 mod ops_questions;

@@ -1,6 +1,7 @@
 // The list of ops. Each writes its line, without the line feed, at the start of `line` and gives its length.
 use crate::cases::Case;
 use crate::ops_book;
+use crate::ops_editor;
 use crate::ops_follower;
 use crate::ops_frame;
 use crate::ops_questions;
@@ -28,6 +29,9 @@ pub fn answer(case: Case, p: &mut [u8], q: &mut [u8], line: &mut [u8]) -> usize 
         11 => ops_follower::follow(case.a0, case.a1, line),
         12 => ops_record::record(p, line),
         13 => ops_record::entry(p, case.a0, line),
+        14 => ops_editor::open(p, q, line),
+        15 => ops_editor::edit(p, case.a0, case.a1, case.a2, case.a3, line),
+        16 => ops_editor::restore(p, q, case.a0, line),
         _ => 0,
     }
 }
