@@ -28,7 +28,7 @@ enum-known-reading-2 : tie.Need-enum-known-reading-2
 enum-known-reading-2 c = search needs
 
 returns : tie.Need-returns
-returns c = counts-short _ _ _ _ _ _ (read-in (c .before)) (c .if1 .taken)
+returns c = counts-short _ _ _ _ _ _ (read-in (c .before)) (omega arith)
 
 sub-end : tie.Need-sub-end
 sub-end c = omega (arith, long-enough _ _ _ (read-in (c .before)))
@@ -43,7 +43,7 @@ part-counts-in-end : tie.Need-part-counts-in-end
 part-counts-in-end c = search needs
 
 counts-in-requires : tie.Need-counts-in-requires
-counts-in-requires c κs = let t = c .before .before .before in (items-stand _ (bytes-in t) _ _ (read-in t) .0, c .before .before .if1 .left)
+counts-in-requires c κs = let t = c .before .before .before in (items-stand _ (bytes-in t) _ _ (read-in t) .0, omega arith)
 
 returns-2 : tie.Need-returns-2
 returns-2 c = counts-stopped _ _ _ _ _ _ (read-refused _ _ _ (sym (ap viewReading (c .before .reading .given .1)) ∙ c .before .before .before .read .ensures))
@@ -52,7 +52,7 @@ same-length : tie.Need-same-length
 same-length c = search needs
 
 returns-3 : tie.Need-returns-3
-returns-3 c = let t = c .before .before .before .before .before .before in counts-answered _ _ _ _ _ _ (read-in t) (bytes-in t) (c .before .before .before .before .before .if1 .left) _ _ (c .before .before .counts-in .ensures)
+returns-3 c = let t = c .before .before .before .before .before .before in counts-answered _ _ _ _ _ _ (read-in t) (bytes-in t) (omega arith) _ _ (c .before .before .counts-in .ensures)
 
 pub counts-spec : {M : Type 1} → statement M
 counts-spec =

@@ -29,13 +29,13 @@ loop-less : tie.Need-loop-less Inv-loop μ-loop
 loop-less c = search needs
 
 loop-again : tie.Need-loop-again Inv-loop μ-loop
-loop-again c = clearing-next 512 0xFFFF _ _ _ (c .before .loop .inv) (c .loop-test .taken)
+loop-again c = clearing-next 512 0xFFFF _ _ _ (c .before .loop .inv) (omega arith)
 
 same-length : tie.Need-same-length Inv-loop μ-loop
 same-length c = search needs
 
 returns : tie.Need-returns Inv-loop μ-loop
-returns c = clearing-end 512 0xFFFF _ _ _ (c .before .loop .inv) (c .loop-test .left)
+returns c = clearing-end 512 0xFFFF _ _ _ (c .before .loop .inv) (omega arith)
 
 pub clear-samples-spec : {M : Type 1} → statement M
 clear-samples-spec =

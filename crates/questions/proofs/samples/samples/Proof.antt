@@ -28,7 +28,7 @@ enum-known-reading-2 : tie.Need-enum-known-reading-2
 enum-known-reading-2 c = search needs
 
 returns : tie.Need-returns
-returns c = samples-short _ _ _ _ _ _ _ (read-in (c .before)) (c .if1 .taken)
+returns c = samples-short _ _ _ _ _ _ _ (read-in (c .before)) (omega arith)
 
 sub-end : tie.Need-sub-end
 sub-end c = omega (arith, long-enough _ _ _ (read-in (c .before)))
@@ -43,7 +43,7 @@ part-samples-in-end : tie.Need-part-samples-in-end
 part-samples-in-end c = search needs
 
 samples-in-requires : tie.Need-samples-in-requires
-samples-in-requires c κs = let t = c .before .before .before in (items-stand _ (bytes-in t) _ _ (read-in t) .0, c .before .before .if1 .left)
+samples-in-requires c κs = let t = c .before .before .before in (items-stand _ (bytes-in t) _ _ (read-in t) .0, omega arith)
 
 returns-2 : tie.Need-returns-2
 returns-2 c = samples-stopped _ _ _ _ _ _ _ (read-refused _ _ _ (sym (ap viewReading (c .before .reading .given .1)) ∙ c .before .before .before .read .ensures))
@@ -52,7 +52,7 @@ same-length : tie.Need-same-length
 same-length c = search needs
 
 returns-3 : tie.Need-returns-3
-returns-3 c = let t = c .before .before .before .before .before .before in samples-answered _ _ _ _ _ _ _ (read-in t) (bytes-in t) (c .before .before .before .before .before .if1 .left) _ _ (c .before .before .samples-in .ensures)
+returns-3 c = let t = c .before .before .before .before .before .before in samples-answered _ _ _ _ _ _ _ (read-in t) (bytes-in t) (omega arith) _ _ (c .before .before .samples-in .ensures)
 
 pub samples-spec : {M : Type 1} → statement M
 samples-spec =
