@@ -46,7 +46,15 @@ fn samples_into(
 }
 
 // Op 5: samples of event a0, chip a1, channel a2 of the frame p into a3 words, each a4 before.
-pub(crate) fn samples(p: &[u8], a0: u64, a1: u64, a2: u64, a3: u64, a4: u64, line: &mut [u8]) -> usize {
+pub(crate) fn samples(
+    p: &[u8],
+    a0: u64,
+    a1: u64,
+    a2: u64,
+    a3: u64,
+    a4: u64,
+    line: &mut [u8],
+) -> usize {
     let n = a3 as usize;
     if 600 < n {
         return 0;

@@ -162,7 +162,15 @@ fn wide(
 }
 
 // Op 8: adds an item of class a1 with the fields a2, a3, a4 to p of length a0.
-pub(crate) fn add(p: &mut [u8], a0: u64, a1: u64, a2: u64, a3: u64, a4: u64, line: &mut [u8]) -> usize {
+pub(crate) fn add(
+    p: &mut [u8],
+    a0: u64,
+    a1: u64,
+    a2: u64,
+    a3: u64,
+    a4: u64,
+    line: &mut [u8],
+) -> usize {
     if (a1 == 5) | (a1 == 12) | (a1 == 13) {
         return wide(p, a0, a1, a2, a3, a4, line);
     }
