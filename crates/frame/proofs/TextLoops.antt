@@ -1,9 +1,9 @@
 -- The loops over a text's bytes: what is left to test is as the whole.
 -- Assumes nothing.
-use Prim.Native.Nat.{ℕ, suc, _+_, _-_, _≤_, _<_}
+use Prim.Native.Nat.{ℕ, zero, suc, _+_, _-_, _≤_, _<_}
 use mathlib.Core.Path.{_≡_, refl, sym, ap, _∙_}
 use mathlib.Core.List.{List, [], _∷_}
-use mathlib.Core.Bool.{Bool, true, false, _&&_}
+use mathlib.Core.Bool.{Bool, true, false, not, _&&_}
 use native.Mathlib.Nat.{sub-zero}
 use native.Mathlib.Numerals.{add-one}
 use native.Mathlib.Omega.{arith}
@@ -14,26 +14,34 @@ use borrow.Author.Tests.{le-leb, eq-eqb, ne-eqb, lt-leb}
 use Rattle.format.specs.Words.{nonZero, allZero}
 use Rattle.format.specs.Items.{closed}
 
+-- what a test of a byte says in the definition's words
+letter : (x : ℕ) → not (eqb x 0) ≡ leb 1 x
+letter zero = refl
+letter (suc x) =
+    let n : suc x ≡ 0 → ⊥ = λ e. omega arith in
+    ap not (ne-eqb (suc x) 0 n) ∙ sym (le-leb 1 (suc x) (omega arith))
+
+and-assoc : (a b c : Bool) → a && b && c ≡ a && (b && c)
+and-assoc true b c = refl
+and-assoc false b c = refl
+
+and-true : (a : Bool) → a && true ≡ a
+and-true true = refl
+and-true false = refl
+
 module _ (s : List ℕ) (i : ℕ) where
   head : i < length s → drop i s ≡ getD s i 0 ∷ drop (i + 1) s
   head h = drop-cons s i 0 h ∙ ap (λ (n : ℕ). getD s i 0 ∷ drop n s) (sym (add-one i))
 
-  pub more : i < length s → (getD s i 0 ≡ 0 → ⊥) → nonZero (drop i s) ≡ nonZero s → nonZero (drop (i + 1) s) ≡ nonZero s
+  pub more : (good : Bool) → i < length s → good && nonZero (drop i s) ≡ nonZero s → good && not (eqb (getD s i 0) 0) && nonZero (drop (i + 1) s) ≡ nonZero s
   unfolding nonZero
-  more h n e =
-      let p : 1 ≤ getD s i 0 = omega arith in
-      let g : nonZero (getD s i 0 ∷ drop (i + 1) s) ≡ nonZero (drop (i + 1) s) = rw (le-leb 1 (getD s i 0) p) in
-      sym g ∙ ap nonZero (sym (head h)) ∙ e
+  more good h e =
+      let g : nonZero (getD s i 0 ∷ drop (i + 1) s) ≡ not (eqb (getD s i 0) 0) && nonZero (drop (i + 1) s) = ap (λ (t : Bool). t && nonZero (drop (i + 1) s)) (sym (letter (getD s i 0))) in
+      and-assoc good _ _ ∙ ap (λ (t : Bool). good && t) (sym g ∙ ap nonZero (sym (head h))) ∙ e
 
-  pub found : i < length s → getD s i 0 ≡ 0 → nonZero (drop i s) ≡ nonZero s → false ≡ nonZero s
+  pub none : (good : Bool) → length s ≤ i → good && nonZero (drop i s) ≡ nonZero s → good ≡ nonZero s
   unfolding nonZero
-  found h z e =
-      let g : nonZero (getD s i 0 ∷ drop (i + 1) s) ≡ false = rw z in
-      sym g ∙ ap nonZero (sym (head h)) ∙ e
-
-  pub none : length s ≤ i → nonZero (drop i s) ≡ nonZero s → true ≡ nonZero s
-  unfolding nonZero
-  none h e = ap nonZero (sym (drop-of-length-le s {i = i} h)) ∙ e
+  none good h e = sym (and-true good) ∙ ap (λ (l : List ℕ). good && nonZero l) (sym (drop-of-length-le s {i = i} h)) ∙ e
 
   pub more-zero : i < length s → getD s i 0 ≡ 0 → allZero (drop i s) ≡ allZero s → allZero (drop (i + 1) s) ≡ allZero s
   unfolding allZero

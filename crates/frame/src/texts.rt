@@ -5,18 +5,17 @@ ghost use lib.ListN.{length};
 ghost use Rattle.format.specs.Words.{nonZero, allZero};
 ghost use Rattle.format.specs.Items.{closed};
 
-// No byte is zero.
+// No byte is zero. There is no early exit, so that the compiler takes many bytes at once.
 pub fn no_zero(s: &[u8]) -> bool
     ensures { λ r. ⌜ r ≡ nonZero (now (s .entry)) ⌝ }
 {
+    let mut good = true;
     let mut i: usize = 0;
     while i < s.len() {
-        if s[i] == 0 {
-            return false;
-        }
+        good = good & (s[i] != 0);
         i += 1;
     }
-    true
+    good
 }
 
 // Every byte is zero.
