@@ -183,10 +183,12 @@ impl HitCount {
     pub fn valid(self, card: u16) -> bool
         ensures { λ r. ⌜ r ≡ inRange card (hitsItem self) ⌝ }
     {
-        (self.card == card)
-            & (self.card <= HitCount::LAST_CARD)
-            & (self.chip <= HitCount::LAST_CHIP)
-            & (self.count <= HitCount::MOST)
+        if self.card == card {
+            return (self.card <= HitCount::LAST_CARD)
+                & (self.chip <= HitCount::LAST_CHIP)
+                & (self.count <= HitCount::MOST);
+        }
+        false
     }
 }
 
