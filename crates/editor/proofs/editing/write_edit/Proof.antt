@@ -9,7 +9,7 @@ use Rattle.plane.specs.Views.{summaryOf}
 use Rattle.editor.specs.Views.{asked, spotOf}
 use Rattle.editor.specs.Writes.{Editable}
 use Rattle.editor.proofs.KnownLaws.{sum, inside, few, short}
-use Rattle.editor.proofs.EditLaws.{puttable, word-fits, signer-fits, one-more, entry-room, written}
+use Rattle.editor.proofs.EditLaws.{word-fits, signer-fits, one-more, entry-room, written}
 use borrow.Author.Needs.{needs}
 use Rattle.editor.proofs.editing.write_edit.Statement.{statement}
 use Rattle.editor.proofs.editing.write_edit.Tie as tie
@@ -29,9 +29,7 @@ part-put-value-end c =
     omega (arith, inside _ _ k, sum _ _ k)
 
 put-value-requires : tie.Need-put-value-requires
-put-value-requires c κs =
-    let s = c .before .before in
-    puttable _ _ _ _ (s .before .pre) (λ i. (s .slice-known .given i) .fits)
+put-value-requires c κs = search needs
 
 add-count : tie.Need-add-count
 add-count c = search needs
@@ -49,6 +47,9 @@ cast-total c =
     let s = c .before .before .before .before .before .before .before in
     let k = s .before .pre .known in
     omega (arith, sum _ _ k, few _ _ k, short _ _ k (λ i. (s .slice-known .given i) .fits))
+
+mul-put-words : tie.Need-mul-put-words
+mul-put-words c = search needs
 
 slice-aggregate-put-words : tie.Need-slice-aggregate-put-words
 slice-aggregate-put-words c = search needs
@@ -105,6 +106,7 @@ write-edit-spec =
     cast-count
     add-total
     cast-total
+    mul-put-words
     slice-aggregate-put-words
     put-words-requires
     cast-t20
