@@ -25,7 +25,7 @@ use Rattle.ledger.specs.House.{house}
 use Rattle.ledger.proofs.Editing.{edit-exactly, exit-written, exit-found}
 use Rattle.ledger.proofs.FirstLaws.{full-limit}
 use Rattle.ledger.proofs.House.{house-lawful}
-use Rattle.plane.specs.Undoing.{stored}
+use Rattle.plane.specs.Stored.{stored}
 use Rattle.plane.proofs.UndoLaws.{stored-put}
 use Rattle.editor.specs.declared.editing.Correction.{Correction}
 use Rattle.editor.specs.Views.{also, asked, itemTests}

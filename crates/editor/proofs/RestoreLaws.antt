@@ -23,7 +23,7 @@ use Rattle.ledger.proofs.Walking.{restore-done, restore-back}
 use Rattle.ledger.proofs.Answering.{leaves-found, leaves-written}
 use Rattle.ledger.proofs.Restoring.{restore-parts, restored-long}
 use Rattle.ledger.proofs.House.{house-first}
-use Rattle.plane.specs.Undoing.{stored}
+use Rattle.plane.specs.Stored.{stored}
 use Rattle.plane.proofs.UndoLaws.{stored-before, before-accepted}
 use Rattle.editor.specs.Views.{also}
 use Rattle.editor.specs.Promises.{Restored}

@@ -12,7 +12,7 @@ use lib.Dec.{eqb}
 use Rattle.format.specs.Words.{pick, bytes}
 use Rattle.format.specs.Spots.{legalValue, valueWord, valueWords}
 use Rattle.format.proofs.Stability.{legal-sample}
-use Rattle.plane.specs.Undoing.{stored}
+use Rattle.plane.specs.Stored.{stored}
 
 -- ---- a word
 

@@ -32,7 +32,8 @@ use Rattle.ledger.proofs.Stores.{sets-whole}
 use Rattle.ledger.proofs.Walking.{judge-none, judge-back, judge-stop}
 use Rattle.ledger.proofs.House.{own, stands-there, kind-is, house-lawful}
 use Rattle.plane.specs.Views.{unfit}
-use Rattle.plane.specs.Undoing.{Kinds, Undoing, stored}
+use Rattle.plane.specs.Stored.{stored}
+use Rattle.plane.specs.Undoing.{Kinds, Undoing}
 
 -- ---- the map tells the kinds, as the book does
 

@@ -8,7 +8,8 @@ ghost use Rattle.ledger.specs.Records.{lengthIn, entryOf, entriesTo, fits, hist
 ghost use Rattle.ledger.specs.First.{first};
 ghost use Rattle.ledger.specs.House.{house};
 ghost use Rattle.plane.specs.Views.{asEntry, unfit};
-ghost use Rattle.plane.specs.Undoing.{Undoing, stored};
+ghost use Rattle.plane.specs.Stored.{stored};
+ghost use Rattle.plane.specs.Undoing.{Undoing};
 use crate::answers::Entry;
 use crate::answers::Record;
 use crate::answers::Spot;
@@ -41,7 +42,7 @@ fn kind_at(map: &[u8], w: usize) -> u8
     if w < map.len() {
         return map[w];
     }
-    0
+    Spot::NONE
 }
 
 // Operator 1 to 65,535, reason 1 to 5.

@@ -7,7 +7,7 @@ ghost use lib.ListN.{length};
 ghost use lib.Seq.{sets};
 ghost use Rattle.format.specs.Words.{bytes};
 ghost use Rattle.format.specs.Spots.{legalValue};
-ghost use Rattle.plane.specs.Undoing.{stored};
+ghost use Rattle.plane.specs.Stored.{stored};
 use crate::answers::Spot;
 use book::items::Bin;
 use book::items::Sample;
