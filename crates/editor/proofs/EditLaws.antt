@@ -1,9 +1,9 @@
 -- An edit, as laws over plain lists: the tests at the item are what is left of all tests, the stores are what the rules say is written, and
 -- each way through the code keeps the promise.
 -- Assumes nothing.
-use Prim.Native.Nat.{ℕ, _+_, _-_, _≤_, _<_}
+use Prim.Native.Nat.{ℕ, _+_, _*_, _-_, _≤_, _<_}
 use mathlib.Core.Path.{_≡_, refl, sym, ap, _∙_}
-use mathlib.Core.Bool.{Bool, not, _&&_, and-true}
+use mathlib.Core.Bool.{Bool, true, false, not, _&&_, and-true}
 use mathlib.Core.List.{List, [], _∷_}
 use mathlib.Core.Option.{none, some, Option·some-injective}
 use native.Mathlib.Nat.{add-sub-cancel-left}
@@ -11,10 +11,10 @@ use native.Mathlib.Omega.{arith}
 use lib.ListN.{length, take, drop}
 use lib.Seq.{sets, length-sets}
 use lib.Dec.{leb, ltb, eqb}
-use borrow.Rule.Slice.PartMut.{putMid}
-use Rattle.format.specs.Words.{Bytes, bytes}
+use borrow.Rule.Slice.PartMut.{putMid, same-len-mid}
+use Rattle.format.specs.Words.{pick, Bytes, bytes}
 use Rattle.format.specs.Answers.{Done, accepted, refused, need, firstOf}
-use Rattle.format.specs.Spots.{legalValue}
+use Rattle.format.specs.Spots.{legalValue, valueWord, valueWords}
 use Rattle.ledger.specs.Frames.{Spot, Settable}
 use Rattle.ledger.specs.Formats as formats
 use Rattle.ledger.specs.Records.{countIn, frameIn, entryBytes, entriesIn, length-entries, signed, recordVerdict}
@@ -74,6 +74,14 @@ module _ (b : List ℕ) (c : formats.Correction) where
   edited-unknown n p e = edited-refused (refused n p) n p refl (rw e)
 
 -- ---- the stores of an edit that may be made
+length-stored : (f : List ℕ) (kind w v : ℕ) → length (stored f kind w v) ≡ length f
+unfolding stored
+length-stored f kind w v = go (legalValue kind v)
+  where
+    go : (t : Bool) → length (pick t (sets f (2 * valueWord kind w) (bytes (valueWords kind v))) f) ≡ length f
+    go true = length-sets f (2 * valueWord kind w) (bytes (valueWords kind v))
+    go false = refl
+
 module _ (b : List ℕ) (x : Summary) (c : Correction) (s : Spot) (e : Editable b x (asked c) s) where
   allowed : Allowed house first b (asked c)
   allowed = edit-exactly house first b (asked c) (e .known .judged) .0 (e .accepted)
@@ -104,6 +112,11 @@ module _ (b : List ℕ) (x : Summary) (c : Correction) (s : Spot) (e : Editable 
   unfolding first
   entry-room = let t = e .known .total in let r = allowed .room in omega arith
 
+  -- the part with a value stored, whichever it is, is as long as it was, and so is the whole
+  pub value-length : (l₁ : List ℕ) (kind w v : ℕ) → l₁ ≡ stored (take (16 + x .length - 16) (drop 16 b)) kind w v
+      → length (putMid 16 (16 + x .length - 16) b l₁) ≡ length b
+  value-length l₁ kind w v q = same-len-mid 16 (16 + x .length - 16) b l₁ (ap length q ∙ length-stored (take (16 + x .length - 16) (drop 16 b)) kind w v)
+
   -- three stores: the value in the frame's part, two header words, one entry
   module _ (y : Bytes b) (l₁ : List ℕ) (e₁ : l₁ ≡ stored (take (16 + x .length - 16) (drop 16 b)) (s .kind) (c .word) (c .value)) where
     value-stores : putMid 16 (16 + x .length - 16) b l₁ ≡ sets b 16 (house .put (frameIn b) (c .word) (c .value))
@@ -113,9 +126,6 @@ module _ (b : List ℕ) (x : Summary) (c : Correction) (s : Spot) (e : Editable 
         let r : 16 + x .length ≤ length b = let i = inside b x k in let t = sum b x k in omega arith in
         let l : length g ≡ 16 + x .length - 16 = house-lawful .put-length (frameIn b) (c .word) (c .value) s (settable y) ∙ frame-long b x k ∙ sym (add-sub-cancel-left 16 (x .length)) in
         ap (putMid 16 (16 + x .length - 16) b) (e₁ ∙ ap (λ (f : List ℕ). stored f (s .kind) (c .word) (c .value)) part ∙ stored-put (frameIn b) (c .word) (c .value) s (settable y)) ∙ part-whole b 16 (16 + x .length) g (omega arith) r l
-
-    pub value-length : length (putMid 16 (16 + x .length - 16) b l₁) ≡ length b
-    value-length = ap length value-stores ∙ length-sets b 16 (house .put (frameIn b) (c .word) (c .value))
 
     pub written : (l₂ l₃ : List ℕ) → l₂ ≡ sets (putMid 16 (16 + x .length - 16) b l₁) 10 (bytes ((x .count + 1) ∷ (x .total + 16) ∷ []))
         → l₃ ≡ sets l₂ (x .total) (entryBytes first (record { word = c .word; kind = s .kind; old = s .value; new = c .value; operator = c .operator; reason = c .reason; extra = [] }))

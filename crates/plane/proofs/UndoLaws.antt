@@ -9,7 +9,7 @@ use mathlib.Core.Bool.{Bool, true, false, not, _&&_}
 use mathlib.Core.Option.{Option, none, some}
 use native.Mathlib.Omega.{arith}
 use lib.Dec.{eqb}
-use lib.ListN.{length, getD, drop}
+use lib.ListN.{length, getD, take, drop}
 use lib.Seq.{sets}
 use borrow.Author.Tests.{eqb-true, eqb-false, ne-eqb}
 use Rattle.format.specs.Words.{bytes}
@@ -34,6 +34,7 @@ use Rattle.ledger.proofs.House.{own, stands-there, kind-is, house-lawful}
 use Rattle.plane.specs.Views.{unfit}
 use Rattle.plane.specs.Stored.{stored}
 use Rattle.plane.specs.Undoing.{Kinds, Undoing}
+use Rattle.plane.proofs.RecordLaws.{entry-from}
 
 -- ---- the map tells the kinds, as the book does
 
@@ -115,23 +116,23 @@ module _ (f : List ℕ) (a : Accepted house f) (e : Entry) (h : fits house first
 
 -- ---- the loop from the newest entry back
 
-numbered-at : (b : List ℕ) (h p : ℕ) → h ≡ 16 + lengthIn b → entryOf first (drop (h + 16 * (suc p - 1)) b) ≡ numbered first b (suc p)
+numbered-at : (b : List ℕ) (h p at : ℕ) → h ≡ 16 + lengthIn b → at ≡ h + 16 * (suc p - 1) → entryOf first (drop at b) ≡ numbered first b (suc p)
 unfolding numbered first
-numbered-at b h p e = rw e
+numbered-at b h p at e q = rw (q, e)
 
 module _ (f b : List ℕ) (h : ℕ) (k : h ≡ 16 + lengthIn b) (e : Entry) where
-  pub turn-back : (m : ℕ) → 0 < m → e ≡ entryOf first (drop (h + 16 * (m - 1)) b) → fits house first f e ≡ true → (g : List ℕ) → g ≡ before house f e
+  pub turn-back : (m at : ℕ) → 0 < m → e ≡ entryOf first (take (length b - at) (drop at b)) → at ≤ length b → at ≡ h + 16 * (m - 1) → fits house first f e ≡ true → (g : List ℕ) → g ≡ before house f e
       → historyVerdict house first g (entriesTo first b (m - 1)) ≡ historyVerdict house first f (entriesTo first b m)
-  turn-back zero l i t g q = absurd (omega arith)
-  turn-back (suc p) l i t g q =
+  turn-back zero at l i v w t g q = absurd (omega arith)
+  turn-back (suc p) at l i v w t g q =
       let n : suc p - 1 ≡ p = omega arith in
-      let j : e ≡ numbered first b (suc p) = i ∙ numbered-at b h p k in
+      let j : e ≡ numbered first b (suc p) = entry-from b at e i v ∙ numbered-at b h p at k w in
       rw (n, q, j) (sym (judge-back house first f b p (rw j at t)))
 
-  pub turn-stop : (m : ℕ) → 0 < m → e ≡ entryOf first (drop (h + 16 * (m - 1)) b) → fits house first f e ≡ false → unfit m ≡ historyVerdict house first f (entriesTo first b m)
-  turn-stop zero l i t = absurd (omega arith)
-  turn-stop (suc p) l i t =
-      let j : e ≡ numbered first b (suc p) = i ∙ numbered-at b h p k in
+  pub turn-stop : (m at : ℕ) → 0 < m → e ≡ entryOf first (take (length b - at) (drop at b)) → at ≤ length b → at ≡ h + 16 * (m - 1) → fits house first f e ≡ false → unfit m ≡ historyVerdict house first f (entriesTo first b m)
+  turn-stop zero at l i v w t = absurd (omega arith)
+  turn-stop (suc p) at l i v w t =
+      let j : e ≡ numbered first b (suc p) = entry-from b at e i v ∙ numbered-at b h p at k w in
       rw (ne-eqb (suc p) 0 (λ z. omega arith)) (sym (judge-stop house first f b p (rw j at t)))
 
 pub turn-done : (f b : List ℕ) (m : ℕ) → m ≤ 0 → unfit 0 ≡ historyVerdict house first f (entriesTo first b m)

@@ -1,15 +1,8 @@
 -- `editor::editing::write_edit` meets its contract.
 -- Assumes nothing.
-use Rattle.editor.proofs.EditLaws.{value-length}
-use denote.Ref.{now}
 use native.Mathlib.Omega.{arith}
-use mathlib.Core.Path.{refl}
-use Rattle.format.specs.Words.{Bytes}
-use Rattle.plane.specs.Views.{summaryOf}
-use Rattle.editor.specs.Views.{asked, spotOf}
-use Rattle.editor.specs.Writes.{Editable}
 use Rattle.editor.proofs.KnownLaws.{sum, inside, few, short}
-use Rattle.editor.proofs.EditLaws.{word-fits, signer-fits, one-more, entry-room, written}
+use Rattle.editor.proofs.EditLaws.{value-length, word-fits, signer-fits, one-more, entry-room, written}
 use borrow.Author.Needs.{needs}
 use Rattle.editor.proofs.editing.write_edit.Statement.{statement}
 use Rattle.editor.proofs.editing.write_edit.Tie as tie
@@ -58,7 +51,7 @@ put-words-requires : tie.Need-put-words-requires
 put-words-requires c κs =
     let p = c .before .before .before .before .before .before in
     let s = p .before .before .before in
-    omega (arith, value-length _ _ _ _ (s .before .pre) (λ i. (s .slice-known .given i) .fits) _ (p .put-value .ensures), entry-room _ _ _ _ (s .before .pre), sum _ _ (s .before .pre .known))
+    omega (arith, value-length _ _ _ _ (s .before .pre) _ _ _ _ (p .put-value .ensures), entry-room _ _ _ _ (s .before .pre), sum _ _ (s .before .pre .known))
 
 cast-t20 : tie.Need-cast-t20
 cast-t20 c =
@@ -80,7 +73,7 @@ put-entry-requires c κs =
     let w = c .before .before .before .before .before .before in
     let p = w .before .before .before .before .before .before .before in
     let s = p .before .before .before in
-    omega (arith, w .put-words .kept .0, value-length _ _ _ _ (s .before .pre) (λ i. (s .slice-known .given i) .fits) _ (p .put-value .ensures), entry-room _ _ _ _ (s .before .pre))
+    omega (arith, w .put-words .kept .0, value-length _ _ _ _ (s .before .pre) _ _ _ _ (p .put-value .ensures), entry-room _ _ _ _ (s .before .pre))
 
 same-length : tie.Need-same-length
 same-length c = search needs

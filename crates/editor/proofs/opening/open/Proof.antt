@@ -2,7 +2,7 @@
 -- Assumes nothing.
 use denote.Ref.{now}
 use native.Mathlib.Omega.{arith}
-use mathlib.Core.Path.{_≡_, sym, ap, subst, _∙_}
+use mathlib.Core.Path.{sym, ap, subst, _∙_}
 use Rattle.format.specs.Answers as answers
 use Rattle.frame.specs.Views.{viewReading}
 use Rattle.editor.specs.Promises.{Opened}

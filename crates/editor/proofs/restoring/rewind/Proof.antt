@@ -1,10 +1,9 @@
 -- `editor::restoring::rewind` meets its contract.
 -- Assumes nothing.
-use denote.Ref.{now}
 use native.Mathlib.Omega.{arith}
 use borrow.Author.Needs.{needs}
 use Prim.Native.Nat.{_+_, _*_, _-_, _≤_}
-use mathlib.Core.Path.{_≡_, refl, ap, sym, _∙_}
+use mathlib.Core.Path.{_≡_, refl, _∙_}
 use lib.ListN.{length}
 use Rattle.ledger.specs.Records.{lengthIn}
 use Rattle.editor.proofs.RestoreLaws.{Rewinding, rewind-start, rewind-step, rewind-end}

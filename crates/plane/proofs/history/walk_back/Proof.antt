@@ -1,6 +1,5 @@
 -- `plane::history::walk_back` meets its contract: what the entries left do to the frame at hand is what all of them do to the first.
 -- Assumes nothing.
-use denote.Ref.{now}
 use Prim.Native.Nat.{_+_, _*_, _≤_}
 use mathlib.Core.Path.{_≡_, refl, sym, _∙_}
 use lib.ListN.{length}
@@ -10,7 +9,6 @@ use Rattle.ledger.specs.Records.{lengthIn, entriesTo, historyVerdict}
 use Rattle.ledger.specs.First.{first}
 use Rattle.ledger.specs.House.{house}
 use Rattle.plane.specs.Undoing.{Undoing}
-use Rattle.plane.proofs.RecordLaws.{entry-from}
 use Rattle.plane.proofs.UndoLaws.{stored-before, undoing-next, turn-back, turn-stop, turn-done}
 use Rattle.plane.proofs.history.walk_back.Statement.{statement}
 use Rattle.plane.proofs.history.walk_back.Tie as tie
@@ -64,7 +62,6 @@ loop-again c =
     let r = f .before .before in
     let l = r .before .before .before .loop in
     let i = l .inv in
-    let b = now (r .before .before .before .before .before .before .before .args .b) in
     let t = sym (f .entry-fits .ensures) ∙ u .before .before .if1 .taken in
     let g = u .undo .ensures ∙ stored-before _ (i .0 .frame) _ t in (
       undoing-next _ (i .0 .frame) _ t _ _ (i .0) g,
@@ -72,7 +69,7 @@ loop-again c =
       u .undo .kept .0 ∙ i .2,
       i .3,
       i .4,
-      turn-back _ _ _ (i .3) _ (l .m) (omega arith) (entry-from b _ _ (r .entry-of .ensures) (omega arith)) t _ g ∙ i .5,
+      turn-back _ _ _ (i .3) _ (l .m) _ (omega arith) (r .entry-of .ensures) (omega arith) (omega arith) t _ g ∙ i .5,
     )
 
 same-length : tie.Need-same-length Inv-loop μ-loop
@@ -83,8 +80,7 @@ returns c =
     let r = c .before .before .before in
     let l = r .before .before .before .loop in
     let i = l .inv in
-    let b = now (r .before .before .before .before .before .before .before .args .b) in
-    turn-stop _ _ _ (i .3) _ (l .m) (omega arith) (entry-from b _ _ (r .entry-of .ensures) (omega arith)) (sym (c .before .entry-fits .ensures) ∙ c .if1 .left) ∙ i .5
+    turn-stop _ _ _ (i .3) _ (l .m) _ (omega arith) (r .entry-of .ensures) (omega arith) (omega arith) (sym (c .before .entry-fits .ensures) ∙ c .if1 .left) ∙ i .5
 
 same-length-2 : tie.Need-same-length-2 Inv-loop μ-loop
 same-length-2 c = c .before .loop .inv .2
