@@ -30,6 +30,7 @@ fn all() -> Vec<Case> {
         corpus_writer::add_text_cases(),
         corpus_writer::close_cases(),
         follow_cases(),
+        corpus_record::figure_cases(),
         corpus_record::judge_cases(),
         corpus_record::entry_cases(),
         corpus_record::open_cases(),
@@ -255,7 +256,7 @@ mod tests {
         assert_eq!(tally.missing(), Vec::<String>::new());
         assert_eq!(tally.cases(), all().len() as u64);
         assert!(answers(&bytes).all(|line| line != crate::answer::BAD_CASE));
-        assert!((300..=1500).contains(&tally.cases()), "{}", tally.cases());
+        assert!((300..=1600).contains(&tally.cases()), "{}", tally.cases());
         assert!(bytes.len() < 1_500_000, "{}", bytes.len());
     }
 

@@ -3,6 +3,7 @@
 use crate::cases::*;
 use crate::corpus::*;
 use crate::damage::put_word;
+use crate::item::to_bytes;
 use crate::known::*;
 use crate::make_record::lay_out;
 use crate::record::{Entry, Target};
@@ -140,6 +141,33 @@ fn some_faulty() -> Vec<Vec<u8>> {
     faulty.chain(records_of_refused(1)).collect()
 }
 
+/// Document 01's cases 10 and 11 on the bytes that it prints, in a buffer with
+/// room for two entries: case 3 as a record, judged, edited, judged again, its
+/// entry, both frames restored, and the four further edits.
+pub fn figure_cases() -> Vec<Case> {
+    let entry = [0x0B, 0, 1, 0, 0xFA, 0, 0, 0, 0x04, 0x01, 0, 0, 9, 0, 2, 0];
+    let fresh = [to_bytes(&[1, 1, 0x10, 0x22, 0x32, 0, 0x32, 0]), third()].concat();
+    let mut frame = third();
+    put_word(&mut frame, 11, 0x3104);
+    let edited = [to_bytes(&[1, 1, 0x10, 0x22, 0x32, 1, 0x42, 0]), frame, entry.to_vec()].concat();
+    let (before, after) = (extended(&fresh, 32), extended(&edited, 16));
+    let edit = |record: &[u8], index, value| Case::new(EDIT, &[index, value, 9, 2]).p(record);
+    let restore = |k| Case::new(RESTORE, &[k]).p(&after).q(&extended(&[], 36));
+    vec![
+        Case::new(OPEN, &[]).p(&extended(&[], before.len())).q(&third()),
+        Case::new(RECORD, &[]).p(&before),
+        edit(&before, 11, 260),
+        Case::new(RECORD, &[]).p(&after),
+        Case::new(ENTRY, &[1]).p(&after),
+        restore(0),
+        restore(1),
+        edit(&after, 11, 260),
+        edit(&after, 10, 260),
+        edit(&after, 12, 4095),
+        edit(&after, 12, 4096),
+    ]
+}
+
 pub fn judge_cases() -> Vec<Case> {
     let mut records = good_records();
     records.extend(good_records().iter().map(|record| extended(record, 17)));
@@ -186,15 +214,8 @@ pub fn edit_cases() -> Vec<Case> {
     let mut cases = Vec::new();
     let ask = |record: &[u8], a: [u64; 4]| Case::new(EDIT, &a).p(record);
     let fresh = extended(&lay_out(&third(), &[]), 16);
-    // Cases 10 and 11 of document 01, then every word of both frames.
-    let mut tenth = ask(&fresh, [11, 260, 9, 2]);
-    cases.push(tenth.clone());
-    crate::answer::answer(&mut tenth);
-    let edited = extended(&tenth.p, 16);
-    for a in [[11, 260, 9, 2], [10, 260, 9, 2], [12, 4095, 9, 2], [12, 4096, 9, 2], [11, 250, 1, 1]]
-    {
-        cases.push(ask(&edited, a));
-    }
+    // A value put back, then every word of both frames.
+    cases.push(ask(&extended(&many_edits(1), 16), [11, 250, 1, 1]));
     let bins = extended(&lay_out(&seventh(), &[]), 16);
     cases.extend(
         (0..=18).chain([0xFFFF, 0x1_000B, 0xFFFF_FFFF]).map(|at| ask(&fresh, [at, 1, 9, 2])),

@@ -159,6 +159,23 @@ fn figure_11_edits_again() {
     assert_eq!(record::restore(&buffer, 3, &mut out), Err(refused(26, 0)));
 }
 
+/// The fixed corpus asks cases 10 and 11, and the answers are the document's.
+#[test]
+fn figures_10_and_11_are_in_the_corpus() {
+    let mut cases = crate::corpus_record::figure_cases();
+    let lines: Vec<String> = cases.iter_mut().map(crate::answer::answer).collect();
+    let answers: Vec<&str> = lines.iter().map(|line| line.split(" |").next().unwrap()).collect();
+    let record = ["ok", "ok 34 0 50", "ok", "ok 34 1 66", "ok 11 1 250 260 9 2"];
+    let edits = ["refused 23 at 0", "refused 22 at 0", "ok", "refused 23 at 0"];
+    assert_eq!(answers, [&record[..], &["ok", "ok"], &edits].concat());
+    // What the calls left: opened, edited, and both frames.
+    assert_eq!(cases[0].p[..16], to_bytes(&[1, 1, 0x10, 0x22, 0x32, 0, 0x32, 0]));
+    assert_eq!(cases[0].p[16..0x32], to_bytes(&THIRD));
+    assert_eq!(cases[2].p[..0x42], edited_bytes());
+    assert_eq!(cases[5].q[..34], to_bytes(&THIRD));
+    assert_eq!(cases[6].q[..34], changed(&THIRD, 11, 0x3104));
+}
+
 #[test]
 fn figure_12_is_followed() {
     let (lost, after) = follow(Follower::Expects(255), 0x00FF).unwrap();

@@ -1,51 +1,41 @@
 -- An edit, as laws over plain lists: the tests at the item are what is left of all tests, the stores are what the rules say is written, and
 -- each way through the code keeps the promise.
 -- Assumes nothing.
-use Prim.Native.Nat.{ℕ, suc, _+_, _*_, _-_, _≤_, _<_}
-use mathlib.Core.Path.{_≡_, refl, sym, ap, subst, _∙_}
-use mathlib.Core.Bool.{Bool, true, not, _&&_, and-true}
-use mathlib.Core.List.{List, [], _∷_, _++_}
-use mathlib.Core.Option.{Option, none, some, Option·some-injective}
+use Prim.Native.Nat.{ℕ, _+_, _*_, _-_, _≤_, _<_}
+use mathlib.Core.Path.{_≡_, refl, sym, ap, _∙_}
+use mathlib.Core.Bool.{Bool, true, false, not, _&&_, and-true}
+use mathlib.Core.List.{List, [], _∷_}
+use mathlib.Core.Option.{none, some, Option·some-injective}
 use native.Mathlib.Nat.{add-sub-cancel-left}
 use native.Mathlib.Omega.{arith}
-use lib.ListN.{length, take, drop, length-drop}
-use lib.Seq.{sets, length-sets, length-take-le}
+use lib.ListN.{length, take, drop}
+use lib.Seq.{sets, length-sets}
 use lib.Dec.{leb, ltb, eqb}
-use borrow.Rule.Slice.PartMut.{putMid}
-use borrow.Author.Tests.{lt-ltb, eq-eqb, ne-eqb}
-use Rattle.format.specs.Words.{Bytes, bytes}
-use Rattle.format.specs.Answers.{Done, accepted, refused, andThen, need, firstOf}
-use Rattle.format.specs.Spots.{legalValue}
+use borrow.Rule.Slice.PartMut.{putMid, same-len-mid}
+use Rattle.format.specs.Words.{pick, Bytes, bytes}
+use Rattle.format.specs.Answers.{Done, accepted, refused, need, firstOf}
+use Rattle.format.specs.Spots.{legalValue, valueWord, valueWords}
 use Rattle.ledger.specs.Frames.{Spot, Settable}
 use Rattle.ledger.specs.Formats as formats
-use Rattle.ledger.specs.Records.{lengthIn, countIn, totalIn, frameIn, entryBytes, entriesIn, length-entries, signed, recordVerdict}
-use Rattle.ledger.specs.Calls.{Summary, kindOf, valueOf, entryFor, newValue, editTests, editAnswer, editWritten, editExit}
+use Rattle.ledger.specs.Records.{countIn, frameIn, entryBytes, entriesIn, length-entries, signed, recordVerdict}
+use Rattle.ledger.specs.Calls.{Summary, entryFor, newValue, editTests, editAnswer, editWritten}
 use Rattle.ledger.specs.Chains.{Allowed}
 use Rattle.ledger.specs.First.{first}
 use Rattle.ledger.specs.House.{house}
 use Rattle.ledger.proofs.Editing.{edit-exactly, exit-written, exit-found}
 use Rattle.ledger.proofs.FirstLaws.{full-limit}
 use Rattle.ledger.proofs.House.{house-lawful}
+use Rattle.plane.specs.Stored.{stored}
+use Rattle.plane.proofs.UndoLaws.{stored-put}
 use Rattle.editor.specs.declared.editing.Correction.{Correction}
 use Rattle.editor.specs.Views.{also, asked, itemTests}
 use Rattle.editor.specs.Promises.{Edited}
-use Rattle.editor.specs.Writes.{Puttable, Known, Editable}
+use Rattle.editor.specs.Writes.{Known, Editable}
+use Rattle.editor.proofs.Orders.{ordered}
 use Rattle.editor.proofs.Storing.{part-whole}
-use Rattle.editor.proofs.KnownLaws.{frame-long, sum, inside, few, short, standing}
+use Rattle.editor.proofs.KnownLaws.{frame-long, sum, inside, standing}
 
 -- ---- tests
-
-last : (a : Done) → andThen a (λ u. accepted tt) ≡ a
-last (accepted u) = refl
-last (refused n p) = refl
-
--- the first of four answers, two at a time
-pub four : (a b c d : Done) → also a (also b (also c d)) ≡ firstOf (a ∷ b ∷ c ∷ d ∷ [])
-unfolding firstOf
-four (accepted u) (accepted v) (accepted w) d = sym (last d)
-four (accepted u) (accepted v) (refused n p) d = refl
-four (accepted u) (refused n p) c d = refl
-four (refused n p) b c d = refl
 
 -- the tests at the item, each with its number, in their order
 pub tests-answer : (c : Correction) (x : Summary) (s : Spot) (room : ℕ) (fresh sign : Bool) (value signer full end rest more all : Done)
@@ -55,16 +45,7 @@ pub tests-answer : (c : Correction) (x : Summary) (s : Spot) (room : ℕ) (fresh
     → rest ≡ also full end → more ≡ also signer rest → all ≡ also value more → all ≡ itemTests (asked c) x s room
 unfolding itemTests newValue house
 tests-answer c x s room fresh sign value signer full end rest more all l v g t u w r₁ r₂ r₃ =
-    rw (r₃, r₂, r₁, v, l, t, g, u, w) (four _ _ _ _)
-
--- a bin's count has 32 bits, as the code's number has
-pub legal-wide : (kind v : ℕ) → (kind ≡ 1 → ⊥) → v < 4294967296 → (eqb kind 2 && leb 1 v) ≡ legalValue kind v
-unfolding legalValue
-legal-wide kind v n h = rw (ne-eqb kind 1 n, lt-ltb v 4294967296 h) (sym (and-true _))
-
-pub legal-sample : (kind v : ℕ) → kind ≡ 1 → leb v 4095 ≡ legalValue kind v
-unfolding legalValue
-legal-sample kind v e = rw (eq-eqb kind 1 e)
+    rw (r₃, r₂, r₁, v, l, t, g, u, w) (ordered (_ ∷ _ ∷ _ ∷ _ ∷ []))
 
 -- of all tests of an edit, those at the item are left where the record is accepted and an item stands there
 module _ (b : List ℕ) (x : Summary) (k : Known b x) (c : Correction) where
@@ -93,6 +74,14 @@ module _ (b : List ℕ) (c : formats.Correction) where
   edited-unknown n p e = edited-refused (refused n p) n p refl (rw e)
 
 -- ---- the stores of an edit that may be made
+length-stored : (f : List ℕ) (kind w v : ℕ) → length (stored f kind w v) ≡ length f
+unfolding stored
+length-stored f kind w v = go (legalValue kind v)
+  where
+    go : (t : Bool) → length (pick t (sets f (2 * valueWord kind w) (bytes (valueWords kind v))) f) ≡ length f
+    go true = length-sets f (2 * valueWord kind w) (bytes (valueWords kind v))
+    go false = refl
+
 module _ (b : List ℕ) (x : Summary) (c : Correction) (s : Spot) (e : Editable b x (asked c) s) where
   allowed : Allowed house first b (asked c)
   allowed = edit-exactly house first b (asked c) (e .known .judged) .0 (e .accepted)
@@ -110,9 +99,6 @@ module _ (b : List ℕ) (x : Summary) (c : Correction) (s : Spot) (e : Editable 
     legal = ap (λ (t : Spot). house .legal (t .kind) (c .value)) (sym same-spot) ∙ allowed .legal;
   }
 
-  pub puttable : Bytes b → Puttable (take (16 + x .length - 16) (drop 16 b)) (s .kind) (c .word) (c .value)
-  puttable y = subst (λ (f : List ℕ). Puttable f (s .kind) (c .word) (c .value)) (sym part) (record { spot = s; settable = settable y; same = refl })
-
   pub word-fits : Bytes b → c .word < 65536
   word-fits y = house-lawful .index-fits (frameIn b) (c .word) s (standing b x (e .known) y) (e .stands)
 
@@ -126,18 +112,20 @@ module _ (b : List ℕ) (x : Summary) (c : Correction) (s : Spot) (e : Editable 
   unfolding first
   entry-room = let t = e .known .total in let r = allowed .room in omega arith
 
+  -- the part with a value stored, whichever it is, is as long as it was, and so is the whole
+  pub value-length : (l₁ : List ℕ) (kind w v : ℕ) → l₁ ≡ stored (take (16 + x .length - 16) (drop 16 b)) kind w v
+      → length (putMid 16 (16 + x .length - 16) b l₁) ≡ length b
+  value-length l₁ kind w v q = same-len-mid 16 (16 + x .length - 16) b l₁ (ap length q ∙ length-stored (take (16 + x .length - 16) (drop 16 b)) kind w v)
+
   -- three stores: the value in the frame's part, two header words, one entry
-  module _ (y : Bytes b) (l₁ : List ℕ) (e₁ : l₁ ≡ house .put (take (16 + x .length - 16) (drop 16 b)) (c .word) (c .value)) where
+  module _ (y : Bytes b) (l₁ : List ℕ) (e₁ : l₁ ≡ stored (take (16 + x .length - 16) (drop 16 b)) (s .kind) (c .word) (c .value)) where
     value-stores : putMid 16 (16 + x .length - 16) b l₁ ≡ sets b 16 (house .put (frameIn b) (c .word) (c .value))
     value-stores =
         let k = e .known in
         let g = house .put (frameIn b) (c .word) (c .value) in
         let r : 16 + x .length ≤ length b = let i = inside b x k in let t = sum b x k in omega arith in
         let l : length g ≡ 16 + x .length - 16 = house-lawful .put-length (frameIn b) (c .word) (c .value) s (settable y) ∙ frame-long b x k ∙ sym (add-sub-cancel-left 16 (x .length)) in
-        ap (putMid 16 (16 + x .length - 16) b) (e₁ ∙ ap (λ (f : List ℕ). house .put f (c .word) (c .value)) part) ∙ part-whole b 16 (16 + x .length) g (omega arith) r l
-
-    pub value-length : length (putMid 16 (16 + x .length - 16) b l₁) ≡ length b
-    value-length = ap length value-stores ∙ length-sets b 16 (house .put (frameIn b) (c .word) (c .value))
+        ap (putMid 16 (16 + x .length - 16) b) (e₁ ∙ ap (λ (f : List ℕ). stored f (s .kind) (c .word) (c .value)) part ∙ stored-put (frameIn b) (c .word) (c .value) s (settable y)) ∙ part-whole b 16 (16 + x .length) g (omega arith) r l
 
     pub written : (l₂ l₃ : List ℕ) → l₂ ≡ sets (putMid 16 (16 + x .length - 16) b l₁) 10 (bytes ((x .count + 1) ∷ (x .total + 16) ∷ []))
         → l₃ ≡ sets l₂ (x .total) (entryBytes first (record { word = c .word; kind = s .kind; old = s .value; new = c .value; operator = c .operator; reason = c .reason; extra = [] }))

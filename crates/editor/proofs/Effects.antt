@@ -1,6 +1,7 @@
 -- T33 to T35 of the three calls, read off their promises: refused, the lent buffer is as found; accepted, nothing but the bytes named is
--- written; and the numbers that each can refuse by. The limits (T36) are constants of the crates below, `Sample`, `Bin`, `Record`, `Entry`,
--- and of `Correction`; the rules' numerals are written apart from them, and the proofs of `legal`, `signed` and `edit_tests` tie the two.
+-- written; and the numbers that each can refuse by. The limits (T36) are constants of the crates below, `Sample`, `Bin`, `Spot`,
+-- `Record` and `Entry`; the rules' numerals are written apart from them, and the proofs of plane's `legal` and `signed`, of `put_header` and of
+-- `edit_tests` tie the two.
 -- Assumes nothing.
 use Prim.Native.Nat.{ℕ, _+_, _≤_, _<_}
 use mathlib.Core.Path.{_≡_, refl, sym, ap, _∙_}

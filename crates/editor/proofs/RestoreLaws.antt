@@ -1,63 +1,35 @@
 -- Restoring, as laws over plain lists: one entry undone, the loop from the newest entry back, and the promise kept on each way.
 -- Assumes nothing.
-use Prim.Native.Nat.{ℕ, suc, _+_, _*_, _-_, _≤_, _<_}
-use mathlib.Core.Path.{_≡_, refl, sym, ap, subst, _∙_}
+use Prim.Native.Nat.{ℕ, suc, _+_, _*_, _-_, _≤_}
+use mathlib.Core.Path.{_≡_, sym, ap, subst, _∙_}
 use mathlib.Core.Bool.{true}
-use mathlib.Core.List.{List, _++_}
+use mathlib.Core.List.{List, [], _∷_, _++_}
 use native.Mathlib.Nat.{add-sub-cancel-left}
 use native.Mathlib.Omega.{arith}
 use lib.ListN.{length, take, drop, length-drop}
 use lib.Seq.{sets, sets-eq, length-sets, take-all, take-at, drop-at}
 use lib.Dec.{leb}
-use Rattle.format.specs.Words.{Bytes, wordAt, longAt}
-use Rattle.format.specs.Answers.{Done, accepted, refused, andThen, need, firstOf}
-use Rattle.ledger.specs.Frames.{Accepted, Settable}
+use Rattle.format.specs.Words.{Bytes}
+use Rattle.format.specs.Answers.{Done, accepted, refused, need, firstOf}
+use Rattle.ledger.specs.Frames.{Accepted}
 use Rattle.ledger.specs.Formats.{Entry}
 use Rattle.ledger.specs.Records.{lengthIn, countIn, frameIn, entryOf, numbered, entriesTo, entries-more, fits, before, historyVerdict, recordVerdict}
 use Rattle.ledger.specs.Calls.{Summary, undone, restored, restoreAnswer, restoreExit}
-use Rattle.ledger.specs.Chains.{Fits}
 use Rattle.ledger.specs.First.{first}
 use Rattle.ledger.specs.House.{house}
 use Rattle.ledger.proofs.Codecs.{numbered-suc}
-use Rattle.ledger.proofs.Judging.{fits-right, step-accepted}
+use Rattle.ledger.proofs.Judging.{step-accepted}
 use Rattle.ledger.proofs.Walking.{restore-done, restore-back}
 use Rattle.ledger.proofs.Answering.{leaves-found, leaves-written}
 use Rattle.ledger.proofs.Restoring.{restore-parts, restored-long}
-use Rattle.ledger.proofs.House.{house-first, house-lawful}
+use Rattle.ledger.proofs.House.{house-first}
+use Rattle.plane.specs.Stored.{stored}
+use Rattle.plane.proofs.UndoLaws.{stored-before, before-accepted}
 use Rattle.editor.specs.Views.{also}
 use Rattle.editor.specs.Promises.{Restored}
-use Rattle.editor.specs.Writes.{Puttable, Known}
+use Rattle.editor.specs.Writes.{Known}
+use Rattle.editor.proofs.Orders.{ordered}
 use Rattle.editor.proofs.KnownLaws.{standing, fitting, frame-long}
-
--- ---- one entry: its own kind is the item's
-module _ (f : List ℕ) (e : Entry) (a : Accepted house f) (h : fits house first f e ≡ true) where
-  right : Fits house first f e
-  right = fits-right house first f e h
-
-  settable : Settable house f (e .word) (e .old) (right .spot)
-  settable = record {
-    frame = a;
-    stands = right .stands;
-    legal = ap (λ (k : ℕ). house .legal k (e .old)) (right .kind) ∙ right .old;
-  }
-
-  pub old-puttable : Puttable f (e .kind) (e .word) (e .old)
-  old-puttable = record { spot = right .spot; settable = settable; same = right .kind }
-
-  pub back-accepted : Accepted house (before house f e)
-  back-accepted = house-lawful .put-accepted f (e .word) (e .old) (right .spot) settable
-
-  pub back-long : length (before house f e) ≡ length f
-  back-long = house-lawful .put-length f (e .word) (e .old) (right .spot) settable
-
-module _ (f s : List ℕ) (w k o : ℕ) (ew : w ≡ wordAt s 0) (ek : k ≡ wordAt s 1) (eo : o ≡ longAt s 2) where
-  pub entry-puttable : Accepted house f → fits house first f (entryOf first s) ≡ true → Puttable f k w o
-  unfolding entryOf
-  entry-puttable a h = rw (ew, ek, eo) (old-puttable f (entryOf first s) a h)
-
-  pub entry-undone : (l : List ℕ) → l ≡ house .put f w o → l ≡ before house f (entryOf first s)
-  unfolding entryOf
-  entry-undone l e = rw (ew, eo) at e
 
 -- ---- from the newest entry back: n entries are left, and what undoing them down to k gives is the frame restored to k
 pub record Rewinding (b : List ℕ) (k n : ℕ) (f : List ℕ) : Type 0 where
@@ -88,14 +60,13 @@ module _ (b : List ℕ) (k n m : ℕ) (f : List ℕ) (r : Rewinding b k n f) (u 
   step : (fits house first f (numbered first b (suc m)) ≡ true) × (historyVerdict house first (before house f (numbered first b (suc m))) (entriesTo first b m) ≡ accepted tt)
   step = step-accepted house first f (numbered first b (suc m)) (entriesTo first b m) (ap (historyVerdict house first f) (sym (entries-more first b m)) ∙ turned .fit)
 
-  pub rewind-fits : fits house first f (entryOf first (take (length b - at) (drop at b))) ≡ true
-  rewind-fits = ap (fits house first f) (sym newest) ∙ step .0
-
-  pub rewind-step : (g : List ℕ) → g ≡ before house f (entryOf first (take (length b - at) (drop at b))) → k ≤ m → Rewinding b k m g
-  rewind-step g e l =
-      let g′ : g ≡ before house f (numbered first b (suc m)) = e ∙ ap (before house f) (sym newest) in
+  pub rewind-step : (e : Entry) → e ≡ entryOf first (take (length b - at) (drop at b)) → (g : List ℕ) → g ≡ stored f (e .kind) (e .word) (e .old) → k ≤ m → Rewinding b k m g
+  rewind-step e q g d l =
+      let e′ : e ≡ numbered first b (suc m) = q ∙ sym newest in
+      let g′ : g ≡ before house f (numbered first b (suc m)) =
+      d ∙ ap (λ (i : Entry). stored f (i .kind) (i .word) (i .old)) e′ ∙ stored-before f (r .frame) (numbered first b (suc m)) (step .0) in
       record {
-        frame = subst (Accepted house) (sym g′) (back-accepted f (numbered first b (suc m)) (r .frame) (step .0));
+        frame = before-accepted f (r .frame) (numbered first b (suc m)) (step .0) g g′;
         fit = ap (λ (h : List ℕ). historyVerdict house first h (entriesTo first b m)) g′ ∙ step .1;
         left = ap (λ (h : List ℕ). undone house h (take (m - k) (entriesTo first b m))) g′ ∙ sym (restore-back house first f b m k l) ∙ turned .left;
       }
@@ -128,20 +99,12 @@ module _ (b : List ℕ) (x : Summary) (k : ℕ) (out copied : List ℕ) (j : Kno
       ∙ sym (sets-eq g out 0 (omega arith) ∙ ap (λ (i : ℕ). g ++ drop i out) m)
 
 -- ---- the promise
-last : (a : Done) → andThen a (λ u. accepted tt) ≡ a
-last (accepted u) = refl
-last (refused n p) = refl
-
 module _ (b : List ℕ) (k : ℕ) (out : List ℕ) where
   -- of all tests of restoring, two are left where the record is accepted
   pub restore-left : (x : Summary) → Known b x → (known room a : Done) → known ≡ need (leb k (x .count)) 26 0 → room ≡ need (leb (x .length) (length out)) 12 0
       → a ≡ also known room → restoreAnswer house first b k out ≡ a
   unfolding restoreAnswer firstOf
-  restore-left x j known room a e f g = sym (g ∙ rw (e, f, j .judged, j .count, j .length) (go (need (leb k (countIn b)) 26 0) (need (leb (lengthIn b) (length out)) 12 0)))
-    where
-      go : (p q : Done) → also p q ≡ andThen p (λ u. andThen q (λ v. accepted tt))
-      go (accepted u) q = sym (last q)
-      go (refused n p) q = refl
+  restore-left x j known room a e f g = sym (g ∙ rw (e, f, j .judged, j .count, j .length) (ordered (need (leb k (countIn b)) 26 0 ∷ need (leb (lengthIn b) (length out)) 12 0 ∷ [])))
 
   pub restored-refused : (n p : ℕ) → restoreAnswer house first b k out ≡ refused n p → Restored b k out (refused n p) out
   unfolding restoreExit

@@ -1,7 +1,7 @@
 -- Words stored one after the other: what is left to store, stored, gives what all of them stored give.
 -- Assumes nothing.
 use Prim.Native.Nat.{ℕ, suc, _+_, _*_, _-_, _/_, _%_, _≤_, _<_}
-use mathlib.Core.Path.{_≡_, refl, sym, ap, _∙_}
+use mathlib.Core.Path.{_≡_, sym, ap, _∙_}
 use mathlib.Core.List.{List, [], _∷_}
 use native.Mathlib.Omega.{arith}
 use native.Mathlib.Numerals.{add-one}
@@ -14,21 +14,25 @@ use Rattle.ledger.specs.Records.{entryBytes}
 use Rattle.ledger.specs.First.{first}
 use Rattle.ledger.proofs.Stores.{sets-whole, part-stores}
 
-module _ (at : ℕ) (ws : List ℕ) where
-  pub words-start : (buf : List ℕ) → sets buf (at + 2 * 0) (bytes (drop 0 ws)) ≡ sets buf at (bytes ws)
-  words-start buf = let z : at + 2 * 0 ≡ at = omega arith in rw z
+-- from word i on, the words ws are left to store in buf, and that makes `all`
+pub record Left (at : ℕ) (ws buf : List ℕ) (i : ℕ) (all : List ℕ) : Type 0 where
+  pub stores : sets buf (at + 2 * i) (bytes (drop i ws)) ≡ all
 
-  pub words-next : (buf all : List ℕ) (i : ℕ) → i < length ws → sets buf (at + 2 * i) (bytes (drop i ws)) ≡ all
-      → sets (sets buf (at + 2 * i) (bytes (getD ws i 0 ∷ []))) (at + 2 * (i + 1)) (bytes (drop (i + 1) ws)) ≡ all
-  unfolding bytes
-  words-next buf all i h e =
-      let d : drop i ws ≡ getD ws i 0 ∷ drop (i + 1) ws = drop-cons ws i 0 h ∙ ap (λ (n : ℕ). getD ws i 0 ∷ drop n ws) (sym (add-one i)) in
-      let z : at + 2 * (i + 1) ≡ suc (suc (at + 2 * i)) = omega arith in
-      rw z (ap (λ (l : List ℕ). sets buf (at + 2 * i) (bytes l)) (sym d) ∙ e)
+module _ (at : ℕ) (ws buf : List ℕ) (i : ℕ) where
+  pub words-start : i ≡ 0 → Left at ws buf i (sets buf at (bytes ws))
+  words-start e = let z : at + 2 * 0 ≡ at = omega arith in record { stores = rw (e, z) }
 
-  pub words-end : (buf all : List ℕ) (i : ℕ) → length ws ≤ i → sets buf (at + 2 * i) (bytes (drop i ws)) ≡ all → buf ≡ all
-  unfolding bytes
-  words-end buf all i h e = ap (λ (l : List ℕ). sets buf (at + 2 * i) (bytes l)) (sym (drop-of-length-le ws {i = i} h)) ∙ e
+  module _ (all : List ℕ) (l : Left at ws buf i all) where
+    pub words-next : i < length ws → (b : List ℕ) → b ≡ sets buf (at + 2 * i) (bytes (getD ws i 0 ∷ [])) → Left at ws b (i + 1) all
+    unfolding bytes
+    words-next h b e =
+        let d : drop i ws ≡ getD ws i 0 ∷ drop (i + 1) ws = drop-cons ws i 0 h ∙ ap (λ (n : ℕ). getD ws i 0 ∷ drop n ws) (sym (add-one i)) in
+        let z : at + 2 * (i + 1) ≡ suc (suc (at + 2 * i)) = omega arith in
+        record { stores = rw (e, z) (ap (λ (r : List ℕ). sets buf (at + 2 * i) (bytes r)) (sym d) ∙ l .stores) }
+
+    pub words-end : length ws ≤ i → buf ≡ all
+    unfolding bytes
+    words-end h = ap (λ (r : List ℕ). sets buf (at + 2 * i) (bytes r)) (sym (drop-of-length-le ws {i = i} h)) ∙ l .stores
 
 -- the eight words of an entry
 pub entry-stores : (b l : List ℕ) (at : ℕ) (e : Entry)

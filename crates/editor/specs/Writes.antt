@@ -5,18 +5,12 @@ use mathlib.Core.Path.{_≡_}
 use mathlib.Core.List.{List}
 use mathlib.Core.Option.{some}
 use Rattle.format.specs.Answers.{accepted}
-use Rattle.ledger.specs.Frames.{Spot, Settable}
+use Rattle.ledger.specs.Frames.{Spot}
 use Rattle.ledger.specs.Formats as formats
 use Rattle.ledger.specs.Records.{lengthIn, countIn, totalIn, frameIn, recordVerdict}
 use Rattle.ledger.specs.Calls.{Summary, editAnswer}
 use Rattle.ledger.specs.First.{first}
 use Rattle.ledger.specs.House.{house}
-
--- an item of that kind stands at word w of an accepted frame, and it may hold the value
-pub record Puttable (f : List ℕ) (kind w value : ℕ) : Type 0 where
-  pub spot : Spot
-  pub settable : Settable house f w value spot
-  pub same : spot .kind ≡ kind
 
 -- what was judged of a record: it is accepted, and these are its lengths and its entry count
 pub record Known (b : List ℕ) (x : Summary) : Type 0 where

@@ -1,8 +1,6 @@
 // An edit of a record: the value of one item is changed, and an entry of the history says so.
 ghost use mathlib.Core.Path.{_≡_};
 ghost use Prim.Native.Nat.{_<_};
-ghost use Rattle.format.specs.Spots.{legalValue};
-ghost use Rattle.ledger.specs.Records as records;
 ghost use Rattle.ledger.specs.Records.{frameIn};
 ghost use Rattle.ledger.specs.Calls.{editWritten};
 ghost use Rattle.ledger.specs.First.{first};
@@ -15,17 +13,17 @@ use crate::answers::Done;
 use crate::answers::first_of;
 use crate::answers::test;
 use crate::stores::put_entry;
-use crate::stores::put_value;
 use crate::stores::put_words;
-use book::items::Bin;
-use book::items::Sample;
 use book::refusal::Refusal;
 use plane::answers::Entry;
 use plane::answers::Judged;
 use plane::answers::Record;
 use plane::answers::Spot;
 use plane::answers::SpotFound;
+use plane::history::signed;
 use plane::judge;
+use plane::values::legal;
+use plane::values::put_value;
 
 // What an edit asks: the item by the index of its first word, its new value, and who corrects it for what reason. The numbers are wide
 // enough that every one out of range can be given, and is refused.
@@ -34,30 +32,6 @@ pub struct Correction {
     pub value: u32,
     pub operator: u32,
     pub reason: u32,
-}
-
-impl Correction {
-    pub const LAST_OPERATOR: u32 = 65535;
-}
-
-// Whether an item of the kind may hold the value.
-fn legal(kind: u16, value: u32) -> bool
-    ensures { λ r. ⌜ r ≡ legalValue kind value ⌝ }
-{
-    if kind == 1 {
-        return value <= Sample::LAST as u32;
-    }
-    (kind == 2) & (Bin::LEAST_COUNT <= value)
-}
-
-// Whether operator and reason are ones that may sign.
-fn signed(operator: u32, reason: u32) -> bool
-    ensures { λ r. ⌜ r ≡ records.signed operator reason ⌝ }
-{
-    (1 <= operator)
-        & (operator <= Correction::LAST_OPERATOR)
-        & (1 <= reason)
-        & (reason <= Entry::LAST_REASON as u32)
 }
 
 // The tests of an edit of an accepted record at the item asked for: 23, 24, 25, 12.
@@ -83,7 +57,7 @@ fn write_edit(buf: &mut [u8], c: Correction, x: Record, spot: Spot)
     put_value(&mut buf[start..end], spot.kind, c.word, c.value);
     let count = (x.count + 1) as u16;
     let total = (x.total + Entry::SIZE) as u16;
-    put_words(buf, 10, &[count, total]);
+    put_words(buf, 2 * Record::COUNT_WORD, &[count, total]);
     let entry = Entry {
         word: c.word as u16,
         kind: spot.kind,

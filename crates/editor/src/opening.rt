@@ -15,14 +15,29 @@ use book::refusal::Refusal;
 use book::words::copy;
 use frame::reading::Reading;
 use frame::reading::read;
+use plane::answers::Record;
 
 // The header of a record that has no entries, of a frame of `n` bytes.
 fn put_header(buf: &mut [u8], n: usize)
     requires { ⌜ (16 ≤ length (now buf)) × (n ≤ 8192) ⌝ }
     ensures { λ _. ⌜ now (buf .exit) ≡ sets (now (buf .entry)) 0 (header first n 0) ⌝ }
 {
+    let start = Record::HEADER as u16;
     let w = n as u16;
-    put_words(buf, 0, &[1, 1, 16, w, 16 + w, 0, 16 + w, 0]);
+    put_words(
+        buf,
+        0,
+        &[
+            Record::VERSION,
+            Record::FRAMES,
+            start,
+            w,
+            start + w,
+            0,
+            start + w,
+            0,
+        ],
+    );
 }
 
 // The record of an accepted frame: header and frame.
@@ -30,9 +45,10 @@ fn write_open(buf: &mut [u8], frame: &[u8])
     requires { ⌜ (16 + length (now frame) ≤ length (now buf)) × (length (now frame) ≤ 8192) ⌝ }
     ensures { λ _. ⌜ now (buf .exit) ≡ sets (now (buf .entry)) 0 (header first (length (now (frame .entry))) 0 ++ now (frame .entry)) ⌝ }
 {
-    let end = 16 + frame.len();
+    let start = Record::HEADER;
+    let end = start + frame.len();
     put_header(buf, frame.len());
-    copy(frame, &mut buf[16..end]);
+    copy(frame, &mut buf[start..end]);
 }
 
 // Opens a record of the frame, with no history, at the start of the buffer. Refuses as reading the frame does, then by 12 where the buffer
@@ -44,7 +60,7 @@ pub fn open(buf: &mut [u8], frame: &[u8]) -> Done
     match reading {
         Reading::Refused(r) => Done::Refused(r),
         Reading::Accepted(_) => {
-            if 16 + frame.len() <= buf.len() {
+            if Record::HEADER + frame.len() <= buf.len() {
                 write_open(buf, frame);
                 Done::Accepted
             } else {

@@ -1,12 +1,9 @@
 // The frame of a record as it stood after an earlier edit.
 ghost use mathlib.Core.Path.{_≡_};
-ghost use mathlib.Core.Bool.{true};
 ghost use Prim.Native.Nat.{_≤_};
 ghost use lib.ListN.{length};
 ghost use lib.Seq.{sets};
-ghost use Rattle.ledger.specs.Frames.{Accepted};
-ghost use Rattle.ledger.specs.Records as records;
-ghost use Rattle.ledger.specs.Records.{entryOf, fits, frameIn};
+ghost use Rattle.ledger.specs.Records.{frameIn};
 ghost use Rattle.ledger.specs.Calls.{restored};
 ghost use Rattle.ledger.specs.First.{first};
 ghost use Rattle.ledger.specs.House.{house};
@@ -17,27 +14,14 @@ ghost use Rattle.editor.specs.Writes.{Known};
 use crate::answers::Done;
 use crate::answers::first_of;
 use crate::answers::test;
-use crate::stores::put_value;
 use book::refusal::Refusal;
 use book::words::copy;
-use book::words::long;
-use book::words::word;
 use plane::answers::Entry;
 use plane::answers::Judged;
 use plane::answers::Record;
+use plane::history::entry_of;
+use plane::history::undo;
 use plane::judge;
-
-// Undoes the entry that e begins with, in the frame that it fits: its old value is put back. The entry's own kind says where the value
-// stands, so the frame is not walked again.
-fn undo(frame: &mut [u8], e: &[u8])
-    requires { ⌜ Accepted house (now frame) × (fits house first (now frame) (entryOf first (now e)) ≡ true) ⌝ }
-    ensures { λ _. ⌜ now (frame .exit) ≡ records.before house (now (frame .entry)) (entryOf first (now (e .entry))) ⌝ }
-{
-    let w = word(e, 0) as usize;
-    let kind = word(e, 1);
-    let old = long(e, 2);
-    put_value(frame, kind, w, old);
-}
 
 // Undoes the entries of an accepted record, from the newest down to number k + 1, in a copy of its frame.
 fn rewind(frame: &mut [u8], buf: &[u8], x: Record, k: usize)
@@ -49,7 +33,7 @@ fn rewind(frame: &mut [u8], buf: &[u8], x: Record, k: usize)
     while k < n {
         n -= 1;
         let at = history + Entry::SIZE * n;
-        undo(frame, &buf[at..]);
+        undo(frame, entry_of(&buf[at..]));
     }
 }
 

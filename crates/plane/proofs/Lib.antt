@@ -1,4 +1,5 @@
 pub mod Scanning
+pub mod Storing
 pub mod UndoLaws
 pub mod RecordLaws
 pub mod Unique

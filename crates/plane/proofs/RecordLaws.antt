@@ -1,18 +1,18 @@
 -- From the header, the frame's verdict and the history to what the questions on a record answer.
 -- Assumes nothing.
 use Prim.Native.Nat.{ℕ, zero, suc, _+_, _-_, _*_, _<_, _≤_}
-use mathlib.Core.Path.{_≡_, refl, sym, ap, ap₂, subst, _∙_}
-use mathlib.Core.List.{List, [], _∷_}
-use mathlib.Core.Bool.{Bool, true, false, not, _&&_}
-use mathlib.Core.Option.{Option, none, some}
+use mathlib.Core.Path.{_≡_, refl, sym, ap, ap₂, _∙_}
+use mathlib.Core.List.{List, []}
+use mathlib.Core.Bool.{Bool, true, false, _&&_}
+use mathlib.Core.Option.{Option, none}
 use native.Mathlib.Nat.{add-sub-cancel-left}
 use native.Mathlib.Omega.{arith}
-use lib.Dec.{eqb, leb, ltb}
+use lib.Dec.{eqb, leb}
 use lib.ListN.{length, getD, take, drop, length-drop, replicate}
 use lib.Seq.{take-all, length-take-le}
-use borrow.Author.Tests.{leb-true, eqb-true, eqb-false, eq-eqb, ne-eqb, le-leb, lt-leb, lt-ltb}
-use Rattle.format.specs.Words.{pick, Bytes, wordAt, longAt}
-use Rattle.format.specs.Answers.{Outcome, accepted, refused, Done, andThen, need, firstOf}
+use borrow.Author.Tests.{leb-true, eq-eqb, ne-eqb, lt-ltb}
+use Rattle.format.specs.Words.{Bytes, wordAt, longAt}
+use Rattle.format.specs.Answers.{Outcome, accepted, refused, Done, andThen, firstOf}
 use Rattle.format.specs.Frames.{Frame, verdict}
 use Rattle.format.specs.Steps.{Overview, overview, readOf}
 use Rattle.format.specs.Questions.{done}
@@ -24,10 +24,9 @@ use Rattle.format.proofs.PutLaws.{spot-refused}
 use Rattle.ledger.specs.Tests.{all}
 use Rattle.ledger.specs.Frames.{Accepted}
 use Rattle.ledger.specs.Formats.{Entry}
-use Rattle.ledger.specs.Records.{lengthIn, countIn, totalIn, frameIn, entryOf, numbered, entriesTo, length-entries, headerRight, signed, historyVerdict, recordVerdict}
+use Rattle.ledger.specs.Records.{lengthIn, countIn, totalIn, frameIn, entryOf, numbered, entriesTo, length-entries, headerRight, historyVerdict, recordVerdict}
 use Rattle.ledger.specs.Calls.{Summary, recordAnswer, entryAnswer}
-use Rattle.ledger.specs.Judged.{Judged, judgedAt}
-use Rattle.ledger.specs.Chains.{Header}
+use Rattle.ledger.specs.Judged.{judgedAt}
 use Rattle.ledger.specs.First.{first}
 use Rattle.ledger.specs.House.{toldOf, house, house-judge, house-spot}
 use Rattle.ledger.proofs.Headers.{header-words}
@@ -55,15 +54,15 @@ pub header-tests : (b : List ℕ) (a c d len e n t z : ℕ) → a ≡ wordAt b 0
 unfolding headerRight all first lengthIn countIn
 header-tests b a c d len e n t z ea ec ed el ee en et ez = rw (ea, ec, ed, el, ee, en, et, ez, length-entries first b (wordAt b 5))
 
--- the entry that begins at byte `at` of a buffer, read from the part that begins there
-pub entry-read : (b : List ℕ) (at : ℕ) → at ≤ length b → (w k old new o r : ℕ) → w ≡ wordAt (take (length b - at) (drop at b)) 0 → k ≡ wordAt (take (length b - at) (drop at b)) 1
-    → old ≡ longAt (take (length b - at) (drop at b)) 2 → new ≡ longAt (take (length b - at) (drop at b)) 4 → o ≡ wordAt (take (length b - at) (drop at b)) 6
-    → r ≡ wordAt (take (length b - at) (drop at b)) 7
-    → record { word = w; kind = k; old = old; new = new; operator = o; reason = r; extra = [] } ≡ entryOf first (drop at b)
+-- an entry, read from the slice that it begins
+pub entry-read : (s : List ℕ) (w k old new o r : ℕ) → w ≡ wordAt s 0 → k ≡ wordAt s 1 → old ≡ longAt s 2 → new ≡ longAt s 4 → o ≡ wordAt s 6 → r ≡ wordAt s 7
+    → record { word = w; kind = k; old = old; new = new; operator = o; reason = r; extra = [] } ≡ entryOf first s
 unfolding entryOf first
-entry-read b at h w k old new o r ew ek eo en ep er =
-    let d : take (length b - at) (drop at b) ≡ drop at b = take-all (length b - at) (drop at b) (rw (length-drop at b) (omega arith)) in
-    rw (ew, ek, eo, en, ep, er, d)
+entry-read s w k old new o r ew ek eo en ep er = rw (ew, ek, eo, en, ep, er)
+
+-- and from the part of a buffer that begins at byte `at`
+pub entry-from : (b : List ℕ) (at : ℕ) (e : Entry) → e ≡ entryOf first (take (length b - at) (drop at b)) → at ≤ length b → e ≡ entryOf first (drop at b)
+entry-from b at e i h = i ∙ ap (entryOf first) (take-all (length b - at) (drop at b) (rw (length-drop at b) (omega arith)))
 
 -- ---- the frame's verdict
 

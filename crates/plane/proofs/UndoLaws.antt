@@ -1,31 +1,26 @@
 -- Entries undone on a copy of the frame: an entry is tested against the map and the bytes alone, and undoing one that fits leaves a frame that
 -- the map still tells the kinds of.
 -- Assumes nothing.
-use Prim.Native.Nat.{ℕ, zero, suc, _+_, _-_, _*_, _/_, _%_, _<_, _≤_}
-use mathlib.Core.Path.{_≡_, refl, sym, ap, ap₂, subst, _∙_}
-use mathlib.Core.List.{List, [], _∷_}
-use mathlib.Core.Logic.{_⊎_, inl, inr, ⊎-elim}
+use Prim.Native.Nat.{ℕ, zero, suc, _+_, _-_, _*_, _<_, _≤_}
+use mathlib.Core.Path.{_≡_, refl, sym, ap, subst, _∙_}
+use mathlib.Core.List.{List, []}
+use mathlib.Core.Logic.{_⊎_, ⊎-elim}
 use mathlib.Core.Bool.{Bool, true, false, not, _&&_}
 use mathlib.Core.Option.{Option, none, some}
 use native.Mathlib.Omega.{arith}
-use native.Mathlib.Numerals.{add-one}
 use lib.Dec.{eqb}
-use lib.ListN.{length, getD, drop, length-append}
+use lib.ListN.{length, getD, take, drop}
 use lib.Seq.{sets}
-use borrow.Author.Tests.{eqb-true, eqb-false, eq-eqb, ne-eqb}
-use Rattle.format.specs.Words.{pick, Bytes, bytes, longWords}
-use Rattle.format.specs.Answers.{accepted, refused, Done, need}
-use Rattle.format.specs.Items.{Item, wordsOf}
-use Rattle.format.specs.Frames.{Frame, lastOf}
-use Rattle.format.specs.Spots.{spot, valueWord, valueWords, put, legalValue}
+use borrow.Author.Tests.{eqb-true, eqb-false, ne-eqb}
+use Rattle.format.specs.Words.{bytes}
+use Rattle.format.specs.Answers.{Done}
+use Rattle.format.specs.Spots.{spot, put, legalValue}
 use Rattle.format.specs.Spots as spots
 use Rattle.format.specs.Scans.{valueAt, kindFound}
-use Rattle.format.proofs.SpotLaws.{Valued, valued}
-use Rattle.format.proofs.Stability.{legal-kind, legal-sample, value-small}
-use Rattle.format.proofs.PutLaws.{Stands, stands, put-stores}
-use Rattle.format.proofs.ScanLaws.{next-there, value-read}
+use Rattle.format.proofs.PutLaws.{stands, put-stores}
+use Rattle.format.proofs.ScanLaws.{value-read}
 use Rattle.ledger.specs.Tests.{all}
-use Rattle.ledger.specs.Frames.{Spot, revalued, Accepted, Settable}
+use Rattle.ledger.specs.Frames.{Spot, Accepted, Settable}
 use Rattle.ledger.specs.Formats.{Entry}
 use Rattle.ledger.specs.Records.{lengthIn, entryOf, numbered, entriesTo, signed, atSpot, before, fitsItem, fits, historyVerdict}
 use Rattle.ledger.specs.Calls.{kindOf}
@@ -37,7 +32,9 @@ use Rattle.ledger.proofs.Stores.{sets-whole}
 use Rattle.ledger.proofs.Walking.{judge-none, judge-back, judge-stop}
 use Rattle.ledger.proofs.House.{own, stands-there, kind-is, house-lawful}
 use Rattle.plane.specs.Views.{unfit}
+use Rattle.plane.specs.Stored.{stored}
 use Rattle.plane.specs.Undoing.{Kinds, Undoing}
+use Rattle.plane.proofs.RecordLaws.{entry-from}
 
 -- ---- the map tells the kinds, as the book does
 
@@ -84,56 +81,21 @@ module _ (map f : List ℕ) (g : Undoing map f) (w k old new o r : ℕ) where
 
 -- ---- undoing
 
-abbrev put-there : (f : List ℕ) (w k old : ℕ) → List ℕ
-put-there f w k old = sets f (2 * valueWord k w) (bytes (valueWords k old))
-
--- the value's words lie before the last word
-value-room : (f : List ℕ) → Bytes f → (w : ℕ) (p : spots.Spot) → spot f w ≡ some p → (v : ℕ) → valueWord (p .kind) w + length (valueWords (p .kind) v) ≤ lastOf f
-value-room f y w p e v =
-    let h = stands f w p e in
-    let is = h .is in
-    let n = next-there f y (h .frame) (h .accepted) (is .before) (is .item) (is .after) (is .items) w (is .index) in
-    let k = valued _ (is .item) p (is .spot) in
-    let wide = n .wide in
-    let within = n .within in
-    let starts = k .starts w in
-    let words : length (wordsOf (is .item)) ≡ length (k .lead) + length (valueWords (p .kind) (p .value)) =
-    ap (λ (x : Item). length (wordsOf x)) (sym (k .own)) ∙ ap length (k .words (p .value)) ∙ length-append (k .lead) (valueWords (p .kind) (p .value)) in
-    let long = k .as-long v (p .value) in
-    omega arith
-
--- what undoing an entry stores
-pub record Puts (f : List ℕ) (w k old : ℕ) (before : List ℕ) : Type 0 where
-  pub kinds : (k ≡ 1) ⊎ (k ≡ 2)
-  pub legal : legalValue k old ≡ true
-  pub stores : put-there f w k old ≡ before
-  pub room : valueWord k w + length (valueWords k old) ≤ lastOf f
+-- a legal value stored in an item that stands there is the value put
+pub stored-put : (f : List ℕ) (w v : ℕ) (s : Spot) → Settable house f w v s → stored f (s .kind) w v ≡ house .put f w v
+unfolding stored house
+stored-put f w v s h = rw (h .legal) (sym (put-stores f w v (own s) (stands-there f w s (h .stands))))
 
 module _ (f : List ℕ) (a : Accepted house f) (e : Entry) (h : fits house first f e ≡ true) where
   fitting : Fits house first f e
   fitting = fits-right house first f e h
 
-  standing : spot f (e .word) ≡ some (own (fitting .spot))
-  standing = stands-there f (e .word) (fitting .spot) (fitting .stands)
-
   settable : Settable house f (e .word) (e .old) (fitting .spot)
   settable = record { frame = a; stands = fitting .stands; legal = ap (λ (k : ℕ). house .legal k (e .old)) (fitting .kind) ∙ fitting .old }
 
-  legal-old : legalValue (e .kind) (e .old) ≡ true
-  unfolding house
-  legal-old = fitting .old
-
-  put-is : put-there f (e .word) (e .kind) (e .old) ≡ before house f e
-  unfolding house
-  put-is = sym (put-stores f (e .word) (e .old) (own (fitting .spot)) standing ∙ ap (λ (k : ℕ). put-there f (e .word) k (e .old)) (fitting .kind))
-
-  pub puts : Puts f (e .word) (e .kind) (e .old) (before house f e)
-  puts = record {
-    kinds = legal-kind (e .kind) (e .old) legal-old;
-    legal = legal-old;
-    stores = put-is;
-    room = subst (λ (k : ℕ). valueWord k (e .word) + length (valueWords k (e .old)) ≤ lastOf f) (fitting .kind) (value-room f (a .bytes) (e .word) (own (fitting .spot)) standing (e .old));
-  }
+  -- undoing an entry that fits gives the frame before it
+  pub stored-before : stored f (e .kind) (e .word) (e .old) ≡ before house f e
+  stored-before = ap (λ (k : ℕ). stored f k (e .word) (e .old)) (sym (fitting .kind)) ∙ stored-put f (e .word) (e .old) (fitting .spot) settable
 
   -- T25 behind the map: kinds are as they were
   kinds-kept : (u : ℕ) → kindFound (spot (before house f e) u) ≡ kindFound (spot f u)
@@ -145,62 +107,32 @@ module _ (f : List ℕ) (a : Accepted house f) (e : Entry) (h : fits house first
           rw i (ap kindOf (house-lawful .put-there f (e .word) (e .old) (fitting .spot) settable) ∙ ap kindOf (sym (fitting .stands)))
       go false q = ap kindOf (house-lawful .put-elsewhere f (e .word) (e .old) (fitting .spot) u settable (eqb-false u (e .word) q))
 
+  pub before-accepted : (g : List ℕ) → g ≡ before house f e → Accepted house g
+  before-accepted g i = subst (Accepted house) (sym i) (house-lawful .put-accepted f (e .word) (e .old) (fitting .spot) settable)
+
   pub undoing-next : (map g : List ℕ) → Undoing map f → g ≡ before house f e → Undoing map g
   undoing-next map g u i =
-      subst (Undoing map) (sym i)
-      (record { frame = house-lawful .put-accepted f (e .word) (e .old) (fitting .spot) settable; kinds = λ w. u .kinds w ∙ sym (kinds-kept w) })
-
-  pub length-before : length (before house f e) ≡ length f
-  length-before = house-lawful .put-length f (e .word) (e .old) (fitting .spot) settable
-
--- a Sample's word, and the two words of a Bin's count
-module _ (f : List ℕ) (w k old : ℕ) (g : List ℕ) (p : Puts f w k old g) where
-  at-one : k ≡ 1 → Puts f w 1 old g
-  at-one e = subst (λ (i : ℕ). Puts f w i old g) e p
-
-  at-two : (k ≡ 1 → ⊥) → Puts f w 2 old g
-  at-two n = ⊎-elim (λ e. absurd (n e)) (λ e. subst (λ (i : ℕ). Puts f w i old g) e p) (p .kinds)
-
-  pub sample-small : k ≡ 1 → old ≤ 4095
-  sample-small e = legal-sample old .0 (at-one e .legal)
-
-  pub sample-room : k ≡ 1 → 2 * w + 1 < length f
-  sample-room e = let r : w + 1 ≤ lastOf f = at-one e .room in omega arith
-
-  pub sample-put : k ≡ 1 → (v : ℕ) (l : List ℕ) → v ≡ 0x3000 + old % 4096 → l ≡ sets f (2 * w) (bytes (v ∷ [])) → l ≡ g
-  sample-put e v l q s =
-      let h = sample-small e in
-      let m : v ≡ 0x3000 + old = q ∙ omega arith in
-      s ∙ ap (λ (x : ℕ). sets f (2 * w) (bytes (x ∷ []))) m ∙ at-one e .stores
-
-  pub bin-room : (k ≡ 1 → ⊥) → 2 * (w + 2) + 1 < length f
-  bin-room n = let r : w + 1 + 2 ≤ lastOf f = at-two n .room in omega arith
-
-  pub bin-put : (k ≡ 1 → ⊥) → (l m : List ℕ) → l ≡ sets f (2 * (w + 1)) (bytes ((old % 65536) ∷ [])) → m ≡ sets l (2 * (w + 2)) (bytes ((old / 65536) ∷ [])) → m ≡ g
-  unfolding bytes
-  bin-put n l m s t =
-      let i : 2 * (w + 2) ≡ suc (suc (2 * (w + 1))) = omega arith in
-      rw (t, s, i) (at-two n .stores)
+      record { frame = before-accepted g i; kinds = λ w. u .kinds w ∙ sym (ap (λ (f : List ℕ). kindFound (spot f w)) i ∙ kinds-kept w) }
 
 -- ---- the loop from the newest entry back
 
-numbered-at : (b : List ℕ) (h p : ℕ) → h ≡ 16 + lengthIn b → entryOf first (drop (h + 16 * (suc p - 1)) b) ≡ numbered first b (suc p)
+numbered-at : (b : List ℕ) (h p at : ℕ) → h ≡ 16 + lengthIn b → at ≡ h + 16 * (suc p - 1) → entryOf first (drop at b) ≡ numbered first b (suc p)
 unfolding numbered first
-numbered-at b h p e = rw e
+numbered-at b h p at e q = rw (q, e)
 
 module _ (f b : List ℕ) (h : ℕ) (k : h ≡ 16 + lengthIn b) (e : Entry) where
-  pub turn-back : (m : ℕ) → 0 < m → e ≡ entryOf first (drop (h + 16 * (m - 1)) b) → fits house first f e ≡ true → (g : List ℕ) → g ≡ before house f e
+  pub turn-back : (m at : ℕ) → 0 < m → e ≡ entryOf first (take (length b - at) (drop at b)) → at ≤ length b → at ≡ h + 16 * (m - 1) → fits house first f e ≡ true → (g : List ℕ) → g ≡ before house f e
       → historyVerdict house first g (entriesTo first b (m - 1)) ≡ historyVerdict house first f (entriesTo first b m)
-  turn-back zero l i t g q = absurd (omega arith)
-  turn-back (suc p) l i t g q =
+  turn-back zero at l i v w t g q = absurd (omega arith)
+  turn-back (suc p) at l i v w t g q =
       let n : suc p - 1 ≡ p = omega arith in
-      let j : e ≡ numbered first b (suc p) = i ∙ numbered-at b h p k in
+      let j : e ≡ numbered first b (suc p) = entry-from b at e i v ∙ numbered-at b h p at k w in
       rw (n, q, j) (sym (judge-back house first f b p (rw j at t)))
 
-  pub turn-stop : (m : ℕ) → 0 < m → e ≡ entryOf first (drop (h + 16 * (m - 1)) b) → fits house first f e ≡ false → unfit m ≡ historyVerdict house first f (entriesTo first b m)
-  turn-stop zero l i t = absurd (omega arith)
-  turn-stop (suc p) l i t =
-      let j : e ≡ numbered first b (suc p) = i ∙ numbered-at b h p k in
+  pub turn-stop : (m at : ℕ) → 0 < m → e ≡ entryOf first (take (length b - at) (drop at b)) → at ≤ length b → at ≡ h + 16 * (m - 1) → fits house first f e ≡ false → unfit m ≡ historyVerdict house first f (entriesTo first b m)
+  turn-stop zero at l i v w t = absurd (omega arith)
+  turn-stop (suc p) at l i v w t =
+      let j : e ≡ numbered first b (suc p) = entry-from b at e i v ∙ numbered-at b h p at k w in
       rw (ne-eqb (suc p) 0 (λ z. omega arith)) (sym (judge-stop house first f b p (rw j at t)))
 
 pub turn-done : (f b : List ℕ) (m : ℕ) → m ≤ 0 → unfit 0 ≡ historyVerdict house first f (entriesTo first b m)

@@ -2,13 +2,16 @@
 -- Assumes nothing.
 use Prim.Native.Nat.{ℕ}
 use mathlib.Core.Path.{_≡_, refl}
-use mathlib.Core.List.{List}
+use mathlib.Core.List.{List, [], _∷_}
+use lib.Seq.{sets}
+use Rattle.format.specs.Words.{bytes}
 use mathlib.Core.Option.{Option, none, some}
 use Rattle.format.specs.Answers.{Outcome, accepted, refused}
 use Rattle.format.specs.Spots as spots
-use Rattle.book.proofs.Unique.{one, undone}
+use Rattle.book.proofs.Unique.{one, undone, equal-once}
 use Rattle.ledger.specs.Frames as frames
 use Rattle.ledger.specs.Formats as formats
+use Rattle.ledger.specs.Records.{entryOf}
 use Rattle.ledger.specs.Calls.{Summary, recordAnswer, entryAnswer}
 use Rattle.ledger.specs.Judged as judged
 use Rattle.ledger.specs.First.{first}
@@ -19,9 +22,11 @@ use Rattle.plane.specs.declared.answers.RecordFound.{RecordFound}
 use Rattle.plane.specs.declared.answers.RecordFound.the-variants as records
 use Rattle.plane.specs.declared.answers.Judged.{Judged}
 use Rattle.plane.specs.declared.answers.Judged.the-variants as judging
+use Rattle.plane.specs.declared.answers.Entry.{Entry}
 use Rattle.plane.specs.declared.answers.EntryFound.{EntryFound}
 use Rattle.plane.specs.declared.answers.EntryFound.the-variants as entries
-use Rattle.plane.specs.Views.{viewSpot, viewRecord, viewJudged, viewEntry}
+use Rattle.plane.specs.Views.{viewSpot, viewRecord, viewJudged, asEntry, viewEntry}
+use Rattle.plane.specs.Stored.{stored}
 
 -- T40: the way back from each answer on paper
 
@@ -75,7 +80,13 @@ entry-back (entries.Refused x) = refl
 pub same-entry : (r q : EntryFound) → viewEntry r ≡ viewEntry q → r ≡ q
 same-entry = undone viewEntry entryBack entry-back
 
--- T39: no second result, function by function; none of them lends memory to write
+abbrev plainBack : formats.Entry → Entry
+plainBack e = record { word = e .word; kind = e .kind; old = e .old; new = e .new; operator = e .operator; reason = e .reason }
+
+pub same-plain : (r q : Entry) → asEntry r ≡ asEntry q → r ≡ q
+same-plain = undone asEntry plainBack (λ e. refl)
+
+-- T39: no second result, function by function. Those of record, judge, entry and spot lend no memory to write
 
 pub spot-once : (f : List ℕ) (w : ℕ) (r q : SpotFound) → viewSpot r ≡ spots.spot f w → viewSpot q ≡ spots.spot f w → r ≡ q
 spot-once f w = one viewSpot same-spot (spots.spot f w)
@@ -88,3 +99,14 @@ judge-once b w = one viewJudged same-judged (judged.judgedAt house first b w)
 
 pub entry-once : (b : List ℕ) (j : ℕ) (r q : EntryFound) → viewEntry r ≡ entryAnswer house first b j → viewEntry q ≡ entryAnswer house first b j → r ≡ q
 entry-once b j = one viewEntry same-entry (entryAnswer house first b j)
+
+pub entry-of-once : (s : List ℕ) (r q : Entry) → asEntry r ≡ entryOf first s → asEntry q ≡ entryOf first s → r ≡ q
+entry-of-once s = one asEntry same-plain (entryOf first s)
+
+-- The promises of `legal` and `signed` are equations of the answer, those of `put_word`, `put_value` and `undo` of the list that they leave,
+-- whole
+pub put-word-once : (f : List ℕ) (at w : ℕ) (r q : List ℕ) → r ≡ sets f at (bytes (w ∷ [])) → q ≡ sets f at (bytes (w ∷ [])) → r ≡ q
+put-word-once f at w = equal-once (sets f at (bytes (w ∷ [])))
+
+pub put-value-once : (f : List ℕ) (kind w v : ℕ) (r q : List ℕ) → r ≡ stored f kind w v → q ≡ stored f kind w v → r ≡ q
+put-value-once f kind w v = equal-once (stored f kind w v)

@@ -8,6 +8,15 @@ pub struct Spot {
     pub key: u32,
 }
 
+impl Spot {
+    // The kinds, and what is noted where no Sample or Bin begins.
+    pub const SAMPLE: u8 = 1;
+
+    pub const BIN: u8 = 2;
+
+    pub const NONE: u8 = 0;
+}
+
 // What stands at a word of a frame: a Sample or Bin that begins there, or nothing that may be corrected.
 pub enum SpotFound {
     Spot(Spot),
@@ -22,11 +31,34 @@ pub struct Record {
 }
 
 impl Record {
+    pub const VERSION: u16 = 1;
+
+    // How many frames a record has.
+    pub const FRAMES: u16 = 1;
+
     // The bytes of the header; the frame stands right behind it.
     pub const HEADER: usize = 16;
 
     // The most entries that may stand.
     pub const MOST: usize = 512;
+
+    // The header's words, by their index.
+    pub const VERSION_WORD: usize = 0;
+
+    pub const FRAMES_WORD: usize = 1;
+
+    pub const OFFSET_WORD: usize = 2;
+
+    pub const LENGTH_WORD: usize = 3;
+
+    pub const HISTORY_WORD: usize = 4;
+
+    pub const COUNT_WORD: usize = 5;
+
+    pub const TOTAL_WORD: usize = 6;
+
+    // Always 0.
+    pub const LAST_WORD: usize = 7;
 }
 
 pub enum RecordFound {
@@ -54,7 +86,10 @@ impl Entry {
     // The bytes of an entry.
     pub const SIZE: usize = 16;
 
-    pub const LAST_REASON: u16 = 5;
+    // Who may sign, and the reasons there are: from 1 on.
+    pub const LAST_OPERATOR: u32 = 65535;
+
+    pub const LAST_REASON: u32 = 5;
 }
 
 pub enum EntryFound {

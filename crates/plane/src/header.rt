@@ -11,17 +11,17 @@ use book::words::word;
 pub(crate) fn header_right(b: &[u8]) -> bool
     ensures { λ r. ⌜ r ≡ headerRight first (now (b .entry)) ⌝ }
 {
-    let length = word(b, 3) as usize;
-    let count = word(b, 5) as usize;
+    let length = word(b, Record::LENGTH_WORD) as usize;
+    let count = word(b, Record::COUNT_WORD) as usize;
     let history = Record::HEADER + length;
     let total = history + Entry::SIZE * count;
     (Record::HEADER <= b.len())
-        & (word(b, 0) == 1)
-        & (word(b, 1) == 1)
-        & (word(b, 2) as usize == Record::HEADER)
-        & (word(b, 4) as usize == history)
-        & (word(b, 6) as usize == total)
-        & (word(b, 7) == 0)
+        & (word(b, Record::VERSION_WORD) == Record::VERSION)
+        & (word(b, Record::FRAMES_WORD) == Record::FRAMES)
+        & (word(b, Record::OFFSET_WORD) as usize == Record::HEADER)
+        & (word(b, Record::HISTORY_WORD) as usize == history)
+        & (word(b, Record::TOTAL_WORD) as usize == total)
+        & (word(b, Record::LAST_WORD) == 0)
         & (total <= b.len())
         & (count <= Record::MOST)
 }

@@ -1,35 +1,30 @@
 // The history of a record: its entries, tested and undone from the newest back on a copy of the frame.
 ghost use mathlib.Core.Path.{_≡_};
-ghost use mathlib.Core.Bool.{true};
-ghost use mathlib.Core.List.{_∷_, []};
-ghost use Prim.Native.Nat.{ℕ, _+_, _*_, _≤_, _<_};
-ghost use lib.ListN.{length, drop, getD};
-ghost use lib.Seq.{sets};
-ghost use Rattle.format.specs.Words.{bytes};
-ghost use Rattle.format.specs.Spots.{legalValue};
+ghost use Prim.Native.Nat.{ℕ, _+_, _*_, _≤_};
+ghost use lib.ListN.{length, getD};
 ghost use Rattle.ledger.specs.Frames.{Accepted};
 ghost use Rattle.ledger.specs.Records as records;
-ghost use Rattle.ledger.specs.Records.{lengthIn, entryOf, entriesTo, fits, before, historyVerdict};
+ghost use Rattle.ledger.specs.Records.{lengthIn, entryOf, entriesTo, fits, historyVerdict};
 ghost use Rattle.ledger.specs.First.{first};
 ghost use Rattle.ledger.specs.House.{house};
 ghost use Rattle.plane.specs.Views.{asEntry, unfit};
+ghost use Rattle.plane.specs.Stored.{stored};
 ghost use Rattle.plane.specs.Undoing.{Undoing};
 use crate::answers::Entry;
 use crate::answers::Record;
+use crate::answers::Spot;
 use crate::scan::note_kinds;
 use crate::scan::value_at;
-use book::items::Bin;
-use book::items::Sample;
+use crate::values::legal;
+use crate::values::put_value;
 use book::words::copy;
 use book::words::long;
 use book::words::word;
 
-// The entry that begins at byte `at`.
-pub(crate) fn entry_at(b: &[u8], at: usize) -> Entry
-    requires { ⌜ at ≤ length (now b) ⌝ }
-    ensures { λ r. ⌜ asEntry r ≡ entryOf first (drop at (now (b .entry))) ⌝ }
+// The entry that a slice begins with; what is past its end is 0.
+pub fn entry_of(s: &[u8]) -> Entry
+    ensures { λ r. ⌜ asEntry r ≡ entryOf first (now (s .entry)) ⌝ }
 {
-    let s = &b[at..];
     Entry {
         word: word(s, 0),
         kind: word(s, 1),
@@ -47,24 +42,17 @@ fn kind_at(map: &[u8], w: usize) -> u8
     if w < map.len() {
         return map[w];
     }
-    0
-}
-
-// An item of the kind may hold the value: a sample of at most 4,095, a bin's count of at least 1.
-fn legal(kind: u16, value: u32) -> bool
-    ensures { λ r. ⌜ r ≡ legalValue kind value ⌝ }
-{
-    if kind == 1 {
-        return value <= Sample::LAST as u32;
-    }
-    (kind == 2) & (Bin::LEAST_COUNT <= value)
+    Spot::NONE
 }
 
 // Operator 1 to 65,535, reason 1 to 5.
-fn signed(operator: u16, reason: u16) -> bool
+pub fn signed(operator: u32, reason: u32) -> bool
     ensures { λ r. ⌜ r ≡ records.signed operator reason ⌝ }
 {
-    (1 <= operator) & (operator <= 65535) & (1 <= reason) & (reason <= Entry::LAST_REASON)
+    (1 <= operator)
+        & (operator <= Entry::LAST_OPERATOR)
+        & (1 <= reason)
+        & (reason <= Entry::LAST_REASON)
 }
 
 // Whether an entry fits a frame whose kinds are in the map: anything but a Sample or Bin there leaves at once.
@@ -74,37 +62,20 @@ fn entry_fits(f: &[u8], map: &[u8], e: Entry) -> bool
 {
     let at = e.word as usize;
     let kind = kind_at(map, at);
-    if kind == 0 {
+    if kind == Spot::NONE {
         return false;
     }
     let value = value_at(f, kind, at);
     let same = kind as u16 == e.kind;
-    same & (value == e.new) & legal(e.kind, e.old) & (e.old != e.new) & signed(e.operator, e.reason)
+    let named = signed(e.operator as u32, e.reason as u32);
+    same & (value == e.new) & legal(e.kind, e.old) & (e.old != e.new) & named
 }
 
-// Stores a word at index i.
-fn put_word(f: &mut [u8], i: usize, v: u16)
-    requires { ⌜ 2 * i + 1 < length (now f) ⌝ }
-    ensures { λ _. ⌜ now (f .exit) ≡ sets (now (f .entry)) (2 * i) (bytes (v ∷ [])) ⌝ }
+// Takes the old value of an entry as standing: an entry that fits says by its own kind where the value is, so the frame is not walked.
+pub fn undo(f: &mut [u8], e: Entry)
+    ensures { λ _. ⌜ now (f .exit) ≡ stored (now (f .entry)) (e .kind) (e .word) (e .old) ⌝ }
 {
-    f[2 * i] = (v % 256) as u8;
-    f[2 * i + 1] = (v / 256) as u8;
-}
-
-// Takes the old value of an entry that fits as standing.
-fn undo(f: &mut [u8], e: Entry)
-    requires { ⌜ Accepted house (now f) × (fits house first (now f) (asEntry e) ≡ true) ⌝ }
-    ensures { λ _. ⌜ now (f .exit) ≡ before house (now (f .entry)) (asEntry e) ⌝ }
-{
-    let at = e.word as usize;
-    let old = e.old;
-    if e.kind == 1 {
-        let x = Sample { value: old as u16 };
-        put_word(f, at, x.word());
-    } else {
-        put_word(f, at + 1, (old % 65536) as u16);
-        put_word(f, at + 2, (old / 65536) as u16);
-    }
+    put_value(f, e.kind, e.word as usize, e.old);
 }
 
 // The number of the newest entry that does not fit, or 0: the entries from number n down, undone in f.
@@ -115,7 +86,7 @@ fn walk_back(f: &mut [u8], map: &[u8], b: &[u8], h: usize, n: usize) -> usize
     let mut m = n;
     while 0 < m {
         let at = h + Entry::SIZE * (m - 1);
-        let e = entry_at(b, at);
+        let e = entry_of(&b[at..]);
         if entry_fits(f, map, e) {
             undo(f, e);
             m -= 1;

@@ -14,6 +14,7 @@ pub mod answers;
 pub mod header;
 pub mod history;
 pub mod scan;
+pub mod values;
 
 use answers::Entry;
 use answers::EntryFound;
@@ -26,7 +27,7 @@ use book::words::word;
 use frame::reading::Reading;
 use frame::reading::read;
 use header::header_right;
-use history::entry_at;
+use history::entry_of;
 use history::history;
 use scan::spot_in;
 
@@ -65,10 +66,11 @@ pub fn record(buf: &[u8]) -> RecordFound
     ensures { λ r. ⌜ viewRecord r ≡ recordAnswer house first (now (buf .entry)) ⌝ }
 {
     if header_right(buf) {
-        let length = word(buf, 3) as usize;
-        let count = word(buf, 5) as usize;
-        let end = Record::HEADER + length;
-        let part = &buf[16..end];
+        let length = word(buf, Record::LENGTH_WORD) as usize;
+        let count = word(buf, Record::COUNT_WORD) as usize;
+        let start = Record::HEADER;
+        let end = start + length;
+        let part = &buf[start..end];
         let reading = read(part);
         match reading {
             Reading::Refused(r) => RecordFound::Refused(r),
@@ -93,8 +95,9 @@ pub fn judge(buf: &[u8], w: usize) -> Judged
     match found {
         RecordFound::Refused(r) => Judged::Refused(r),
         RecordFound::Record(x) => {
-            let end = Record::HEADER + x.length;
-            let stands = spot_in(&buf[16..end], w);
+            let start = Record::HEADER;
+            let end = start + x.length;
+            let stands = spot_in(&buf[start..end], w);
             Judged::Accepted(x, stands)
         }
     }
@@ -110,7 +113,7 @@ pub fn entry(buf: &[u8], j: usize) -> EntryFound
         RecordFound::Record(x) => {
             if (1 <= j) & (j <= x.count) {
                 let at = Record::HEADER + x.length + Entry::SIZE * (j - 1);
-                return EntryFound::Entry(entry_at(buf, at));
+                return EntryFound::Entry(entry_of(&buf[at..]));
             }
             EntryFound::Refused(Refusal {
                 number: Refusal::NO_ENTRY,

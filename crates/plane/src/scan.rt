@@ -26,21 +26,21 @@ fn kind_of(class: Class) -> u8
     ensures { λ r. ⌜ r ≡ kindBy (view class) ⌝ }
 {
     match class {
-        Class::Sample => 1,
-        Class::Bin => 2,
-        Class::Channel => 0,
-        Class::Histogram => 0,
-        Class::HitCount => 0,
-        Class::LastCell => 0,
-        Class::TimeBin => 0,
-        Class::DataFrame => 0,
-        Class::MonitorFrame => 0,
-        Class::CommandFrame => 0,
-        Class::Text => 0,
-        Class::StartEvent => 0,
-        Class::EndEvent => 0,
-        Class::FrameEnd => 0,
-        Class::Unassigned => 0,
+        Class::Sample => Spot::SAMPLE,
+        Class::Bin => Spot::BIN,
+        Class::Channel => Spot::NONE,
+        Class::Histogram => Spot::NONE,
+        Class::HitCount => Spot::NONE,
+        Class::LastCell => Spot::NONE,
+        Class::TimeBin => Spot::NONE,
+        Class::DataFrame => Spot::NONE,
+        Class::MonitorFrame => Spot::NONE,
+        Class::CommandFrame => Spot::NONE,
+        Class::Text => Spot::NONE,
+        Class::StartEvent => Spot::NONE,
+        Class::EndEvent => Spot::NONE,
+        Class::FrameEnd => Spot::NONE,
+        Class::Unassigned => Spot::NONE,
     }
 }
 
@@ -84,7 +84,7 @@ pub(crate) fn value_at(f: &[u8], kind: u8, w: usize) -> u32
     requires { ⌜ w < 65536 ⌝ }
     ensures { λ r. ⌜ r ≡ valueAt kind (now (f .entry)) w ⌝ }
 {
-    if kind == 1 {
+    if kind == Spot::SAMPLE {
         return Sample::of_word(word(f, w)).value as u32;
     }
     long(f, w + 1)
@@ -94,7 +94,7 @@ pub(crate) fn value_at(f: &[u8], kind: u8, w: usize) -> u32
 fn spot_from(kind: u8, value: u32, key: u32) -> SpotFound
     ensures { λ r. ⌜ viewSpot r ≡ spotFrom kind value key ⌝ }
 {
-    if kind == 0 {
+    if kind == Spot::NONE {
         return SpotFound::Nothing;
     }
     SpotFound::Spot(Spot {

@@ -5,7 +5,7 @@ use Prim.Native.Nat.{_+_, _-_, _*_, _≤_}
 use mathlib.Core.Path.{ap, sym, _∙_}
 use lib.ListN.{length}
 use Rattle.plane.specs.Views.{summaryOf, viewRecord}
-use Rattle.plane.proofs.RecordLaws.{room, Told, told, numbers, entry-refused, entry-none, entry-there}
+use Rattle.plane.proofs.RecordLaws.{room, Told, told, numbers, entry-from, entry-refused, entry-none, entry-there}
 use native.Mathlib.Omega.{arith}
 use borrow.Author.Needs.{needs}
 use Rattle.plane.proofs.entry.Statement.{statement}
@@ -45,11 +45,22 @@ mul-at c = omega (arith, inside c .0, inside c .1)
 add-at-2 : tie.Need-add-at-2
 add-at-2 c = omega (arith, inside c .1)
 
-entry-at-requires : tie.Need-entry-at-requires
-entry-at-requires c κs = inside c .1
+sub-entry-of : tie.Need-sub-entry-of
+sub-entry-of c = omega (arith, inside c .1)
+
+part-entry-of-start : tie.Need-part-entry-of-start
+part-entry-of-start c = omega (arith, inside c .1)
+
+part-entry-of-end : tie.Need-part-entry-of-end
+part-entry-of-end c = search needs
+
+entry-of-requires : tie.Need-entry-of-requires
+entry-of-requires c κs = search needs
 
 returns : tie.Need-returns
-returns c = entry-there _ _ (tells (c .before .before .before .before .before)) _ _ (c .before .before .if1 .taken) (c .entry-at .ensures)
+returns c =
+    let at = c .before .before in
+    entry-there _ _ (tells (at .before .before .before .before)) _ _ (at .before .if1 .taken) (entry-from _ _ _ (c .entry-of .ensures) (inside at .1))
 
 returns-2 : tie.Need-returns-2
 returns-2 c = entry-refused _ _ _ (sym (ap viewRecord (c .before .found .given .1)) ∙ c .before .before .before .«record» .ensures) _
@@ -68,7 +79,10 @@ entry-spec =
     sub-at
     mul-at
     add-at-2
-    entry-at-requires
+    sub-entry-of
+    part-entry-of-start
+    part-entry-of-end
+    entry-of-requires
     returns
     returns-2
     returns-3)

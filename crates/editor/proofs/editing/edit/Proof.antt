@@ -1,6 +1,5 @@
 -- `editor::editing::edit` meets its contract.
 -- Assumes nothing.
-use denote.Ref.{now}
 use mathlib.Core.Path.{sym, ap, _∙_}
 use Rattle.plane.specs.Views.{viewJudged}
 use Rattle.editor.proofs.KnownLaws.{judged-known, judged-refused}

@@ -1,8 +1,7 @@
 -- `editor::editing::edit_item` meets its contract.
 -- Assumes nothing.
-use denote.Ref.{now}
 use native.Mathlib.Omega.{arith}
-use mathlib.Core.Path.{_≡_, refl, sym, ap, _∙_}
+use mathlib.Core.Path.{refl, sym, ap, _∙_}
 use Rattle.ledger.specs.House.{toldOf}
 use Rattle.plane.specs.Views.{viewSpot}
 use Rattle.plane.specs.declared.answers.SpotFound.{SpotFound}

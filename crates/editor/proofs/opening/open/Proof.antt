@@ -1,7 +1,8 @@
 -- `editor::opening::open` meets its contract.
 -- Assumes nothing.
 use denote.Ref.{now}
-use mathlib.Core.Path.{_≡_, sym, ap, subst, _∙_}
+use native.Mathlib.Omega.{arith}
+use mathlib.Core.Path.{sym, ap, subst, _∙_}
 use Rattle.format.specs.Answers as answers
 use Rattle.frame.specs.Views.{viewReading}
 use Rattle.editor.specs.Promises.{Opened}
@@ -25,7 +26,7 @@ add-if1 c = search needs
 write-open-requires : tie.Need-write-open-requires
 write-open-requires c κs =
     let m = c .before .before in
-    (c .before .if1 .taken, frame-short _ (now (m .before .before .before .before .before .args .buf)) _ (sym (ap viewReading (m .enum-told .given .1)) ∙ m .before .before .read .ensures) (λ i. (m .before .before .before .shared-slice-known .given i) .fits))
+    (omega arith, frame-short _ (now (m .before .before .before .before .before .args .buf)) _ (sym (ap viewReading (m .enum-told .given .1)) ∙ m .before .before .read .ensures) (λ i. (m .before .before .before .shared-slice-known .given i) .fits))
 
 test-requires : tie.Need-test-requires
 test-requires c κs = search needs
@@ -40,14 +41,14 @@ returns-2 : tie.Need-returns-2
 returns-2 c =
     let w = c .before .before in
     let m = w .before .before .before in
-    opened-written _ _ _ (sym (ap viewReading (m .enum-told .given .1)) ∙ m .before .before .read .ensures) _ (w .before .before .if1 .taken) (w .write-open .ensures)
+    opened-written _ (now (m .before .before .before .before .before .args .buf)) _ (sym (ap viewReading (m .enum-told .given .1)) ∙ m .before .before .read .ensures) _ (omega arith) (w .write-open .ensures)
 
 returns-3 : tie.Need-returns-3
 returns-3 c =
     let m = c .before .before in
     let start = m .before .before .before .before .before in
     subst (λ (r : answers.Done). Opened (now (start .args .frame)) (now (start .args .buf)) r (now (start .args .buf))) (sym (c .test .ensures))
-    (opened-no-room _ _ _ (sym (ap viewReading (m .enum-told .given .1)) ∙ m .before .before .read .ensures) (c .before .if1 .left))
+    (opened-no-room _ (now (start .args .buf)) _ (sym (ap viewReading (m .enum-told .given .1)) ∙ m .before .before .read .ensures) (omega arith))
 
 pub open-spec : {M : Type 1} → statement M
 open-spec =

@@ -1,7 +1,7 @@
 -- `editor::restoring::restore_known` meets its contract.
 -- Assumes nothing.
 use denote.Ref.{now}
-use mathlib.Core.Path.{sym, ap, _∙_}
+use mathlib.Core.Path.{ap, _∙_}
 use Rattle.editor.specs.Views.{viewDone}
 use Rattle.editor.proofs.RestoreLaws.{restore-left, restored-refused, restored-written, restore-ready}
 use borrow.Author.Needs.{needs}

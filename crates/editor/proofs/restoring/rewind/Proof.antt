@@ -1,12 +1,12 @@
 -- `editor::restoring::rewind` meets its contract.
 -- Assumes nothing.
-use denote.Ref.{now}
 use native.Mathlib.Omega.{arith}
+use borrow.Author.Needs.{needs}
 use Prim.Native.Nat.{_+_, _*_, _-_, _≤_}
-use mathlib.Core.Path.{_≡_, refl, ap, sym, _∙_}
+use mathlib.Core.Path.{_≡_, refl, _∙_}
 use lib.ListN.{length}
 use Rattle.ledger.specs.Records.{lengthIn}
-use Rattle.editor.proofs.RestoreLaws.{Rewinding, rewind-start, rewind-fits, rewind-step, rewind-end}
+use Rattle.editor.proofs.RestoreLaws.{Rewinding, rewind-start, rewind-step, rewind-end}
 use Rattle.editor.proofs.KnownLaws.{sum, inside}
 use Rattle.editor.proofs.restoring.rewind.Statement.{statement}
 use Rattle.editor.proofs.restoring.rewind.Tie as tie
@@ -35,19 +35,20 @@ mul-at c = omega arith
 add-at : tie.Need-add-at Inv-loop μ-loop
 add-at c = omega arith
 
-sub-undo : tie.Need-sub-undo Inv-loop μ-loop
-sub-undo c = omega arith
+sub-entry-of : tie.Need-sub-entry-of Inv-loop μ-loop
+sub-entry-of c = omega arith
 
-part-undo-start : tie.Need-part-undo-start Inv-loop μ-loop
-part-undo-start c = omega arith
+part-entry-of-start : tie.Need-part-entry-of-start Inv-loop μ-loop
+part-entry-of-start c = omega arith
 
-part-undo-end : tie.Need-part-undo-end Inv-loop μ-loop
-part-undo-end c = omega arith
+part-entry-of-end : tie.Need-part-entry-of-end Inv-loop μ-loop
+part-entry-of-end c = search needs
+
+entry-of-requires : tie.Need-entry-of-requires Inv-loop μ-loop
+entry-of-requires c κs = search needs
 
 undo-requires : tie.Need-undo-requires Inv-loop μ-loop
-undo-requires c κs =
-    let l = c .before .before .before in
-    (l .loop .inv .4 .frame, rewind-fits _ _ _ (l .loop .n - 1) _ (l .loop .inv .4) (omega arith) _ (omega arith))
+undo-requires c κs = search needs
 
 loop-less : tie.Need-loop-less Inv-loop μ-loop
 loop-less c = omega arith
@@ -55,8 +56,9 @@ loop-less c = omega arith
 loop-again : tie.Need-loop-again Inv-loop μ-loop
 loop-again c =
     let u = c .before .before in
-    let l = u .before .before .before .before in
-    (omega arith, omega arith, l .loop .inv .2, u .undo .kept .0 ∙ l .loop .inv .3, rewind-step _ _ _ _ _ (l .loop .inv .4) (omega arith) _ (omega arith) _ (u .undo .ensures) (omega arith))
+    let l = u .before .before .before .before .before .loop in
+    let i = l .inv in
+    (omega arith, omega arith, i .2, u .undo .kept .0 ∙ i .3, rewind-step _ _ _ (l .n - 1) _ (i .4) (omega arith) _ (omega arith) _ (u .before .entry-of .ensures) _ (u .undo .ensures) (omega arith))
 
 same-length : tie.Need-same-length Inv-loop μ-loop
 same-length c = omega arith
@@ -75,9 +77,10 @@ rewind-spec =
     sub-n
     mul-at
     add-at
-    sub-undo
-    part-undo-start
-    part-undo-end
+    sub-entry-of
+    part-entry-of-start
+    part-entry-of-end
+    entry-of-requires
     undo-requires
     loop-less
     loop-again

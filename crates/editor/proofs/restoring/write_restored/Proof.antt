@@ -1,6 +1,5 @@
 -- `editor::restoring::write_restored` meets its contract.
 -- Assumes nothing.
-use denote.Ref.{now}
 use native.Mathlib.Omega.{arith}
 use mathlib.Core.Path.{sym}
 use lib.Seq.{length-take-le}

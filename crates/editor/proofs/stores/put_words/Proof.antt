@@ -2,23 +2,23 @@
 -- Assumes nothing.
 use native.Mathlib.Omega.{arith}
 use borrow.Author.Needs.{needs}
-use Prim.Native.Nat.{_+_, _*_, _-_, _≤_}
+use Prim.Native.Nat.{_-_, _≤_}
 use mathlib.Core.Path.{_≡_, refl, _∙_}
-use lib.ListN.{length, drop}
+use lib.ListN.{length}
 use lib.Seq.{sets}
 use Rattle.format.specs.Words.{bytes}
-use Rattle.editor.proofs.Storing.{words-start, words-next, words-end}
+use Rattle.editor.proofs.Storing.{Left, words-start, words-next, words-end}
 use Rattle.editor.proofs.stores.put_words.Statement.{statement}
 use Rattle.editor.proofs.stores.put_words.Tie as tie
 
 abbrev Inv-loop : tie.InvT-loop
-Inv-loop buf₀ at ws i₀ buf i = (i ≤ length ws) × (length buf ≡ length buf₀) × (sets buf (at + 2 * i) (bytes (drop i ws)) ≡ sets buf₀ at (bytes ws))
+Inv-loop buf₀ at ws i₀ buf i = (i ≤ length ws) × (length buf ≡ length buf₀) × Left at ws buf i (sets buf₀ at (bytes ws))
 
 abbrev μ-loop : tie.MeasureT-loop
 μ-loop buf₀ at ws i₀ buf i = length ws - i
 
 loop-holds : tie.Need-loop-holds Inv-loop μ-loop
-loop-holds c = (search needs, refl, words-start _ _ _)
+loop-holds c = (omega arith, refl, words-start _ _ _ _ (omega arith))
 
 mul-put-word : tie.Need-mul-put-word Inv-loop μ-loop
 mul-put-word c = search needs
@@ -45,13 +45,13 @@ loop-again : tie.Need-loop-again Inv-loop μ-loop
 loop-again c =
     let s = c .before .before in
     let l = s .before .before .before .before in
-    (omega arith, s .put-word .kept .0 ∙ l .loop .inv .1, rw (s .put-word .ensures) (words-next _ _ _ _ _ (s .before .before .before .loop-test .taken) (l .loop .inv .2)))
+    (omega arith, s .put-word .kept .0 ∙ l .loop .inv .1, words-next _ _ _ _ _ (l .loop .inv .2) (omega arith) _ (s .put-word .ensures))
 
 same-length : tie.Need-same-length Inv-loop μ-loop
 same-length c = search needs
 
 returns : tie.Need-returns Inv-loop μ-loop
-returns c = words-end _ _ _ _ _ (c .loop-test .left) (c .before .loop .inv .2)
+returns c = words-end _ _ _ _ _ (c .before .loop .inv .2) (omega arith)
 
 pub put-words-spec : {M : Type 1} → statement M
 put-words-spec =

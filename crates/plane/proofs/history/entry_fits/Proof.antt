@@ -28,9 +28,17 @@ legal-requires c κs = search needs
 signed-requires : tie.Need-signed-requires
 signed-requires c κs = search needs
 
+cast-signed : tie.Need-cast-signed
+cast-signed c = search needs
+
+cast-signed-2 : tie.Need-cast-signed-2
+cast-signed-2 c = search needs
+
 returns-2 : tie.Need-returns-2
-returns-2 c = let s = c .before .before .before .before .before .before .before .before .before .before .before in
-    fit-there (now (s .args .map)) (now (s .args .f)) (s .pre) _ _ _ _ _ _ _ _ (c .before .before .before .before .before .before .before .kind-at .ensures) (c .before .before .before .before .before .before .if1 .left) (c .before .before .before .before .before .value-at .ensures) _ _ (c .before .before .legal .ensures) (c .signed .ensures)
+returns-2 c =
+    let v = c .before .before .before .before .before .before .before in
+    let start = v .before .before .before .before .before .before in
+    fit-there (now (start .args .map)) (now (start .args .f)) (start .pre) _ _ _ _ _ _ _ _ (v .before .before .kind-at .ensures) (v .before .if1 .left) (v .value-at .ensures) _ _ (c .before .legal .ensures) (c .before .before .before .signed .ensures)
 
 pub entry-fits-spec : {M : Type 1} → statement M
 entry-fits-spec =
@@ -41,6 +49,8 @@ entry-fits-spec =
     returns
     value-at-requires
     cast-same
-    legal-requires
+    cast-signed
+    cast-signed-2
     signed-requires
+    legal-requires
     returns-2)

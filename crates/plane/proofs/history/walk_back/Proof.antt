@@ -8,9 +8,8 @@ use native.Mathlib.Omega.{arith}
 use Rattle.ledger.specs.Records.{lengthIn, entriesTo, historyVerdict}
 use Rattle.ledger.specs.First.{first}
 use Rattle.ledger.specs.House.{house}
-use Rattle.plane.specs.Views.{asEntry}
 use Rattle.plane.specs.Undoing.{Undoing}
-use Rattle.plane.proofs.UndoLaws.{undoing-next, turn-back, turn-stop, turn-done}
+use Rattle.plane.proofs.UndoLaws.{stored-before, undoing-next, turn-back, turn-stop, turn-done}
 use Rattle.plane.proofs.history.walk_back.Statement.{statement}
 use Rattle.plane.proofs.history.walk_back.Tie as tie
 
@@ -32,14 +31,23 @@ mul-at c = search needs
 add-at : tie.Need-add-at Inv-loop μ-loop
 add-at c = search needs
 
-entry-at-requires : tie.Need-entry-at-requires Inv-loop μ-loop
-entry-at-requires c κs = search needs
+sub-entry-of : tie.Need-sub-entry-of Inv-loop μ-loop
+sub-entry-of c = search needs
+
+part-entry-of-start : tie.Need-part-entry-of-start Inv-loop μ-loop
+part-entry-of-start c = search needs
+
+part-entry-of-end : tie.Need-part-entry-of-end Inv-loop μ-loop
+part-entry-of-end c = search needs
+
+entry-of-requires : tie.Need-entry-of-requires Inv-loop μ-loop
+entry-of-requires c κs = search needs
 
 entry-fits-requires : tie.Need-entry-fits-requires Inv-loop μ-loop
-entry-fits-requires c κs = c .before .before .before .loop .inv .0
+entry-fits-requires c κs = c .before .before .before .before .loop .inv .0
 
 undo-requires : tie.Need-undo-requires Inv-loop μ-loop
-undo-requires c κs = (c .before .before .before .before .before .before .loop .inv .0 .frame, sym (c .before .before .entry-fits .ensures) ∙ c .before .if1 .taken)
+undo-requires c κs = search needs
 
 sub-m : tie.Need-sub-m Inv-loop μ-loop
 sub-m c = search needs
@@ -48,29 +56,37 @@ loop-less : tie.Need-loop-less Inv-loop μ-loop
 loop-less c = search needs
 
 loop-again : tie.Need-loop-again Inv-loop μ-loop
-loop-again c = let i = c .before .before .before .before .before .before .before .before .before .loop .inv in
-    let t = sym (c .before .before .before .before .before .entry-fits .ensures) ∙ c .before .before .before .before .if1 .taken in
-    let u = c .before .before .undo .ensures in
-    let e = c .before .before .before .before .before .before .before .entry-at .ensures in (
-      undoing-next _ (i .0 .frame) _ t _ _ (i .0) u,
-      search needs,
-      c .before .before .undo .kept .0 ∙ i .2,
+loop-again c =
+    let u = c .before .before in
+    let f = u .before .before .before in
+    let r = f .before .before in
+    let l = r .before .before .before .loop in
+    let i = l .inv in
+    let t = sym (f .entry-fits .ensures) ∙ u .before .before .if1 .taken in
+    let g = u .undo .ensures ∙ stored-before _ (i .0 .frame) _ t in (
+      undoing-next _ (i .0 .frame) _ t _ _ (i .0) g,
+      omega arith,
+      u .undo .kept .0 ∙ i .2,
       i .3,
       i .4,
-      turn-back _ _ _ (i .3) _ _ (c .before .before .before .before .before .before .before .before .loop-test .taken) e t _ u ∙ i .5,
+      turn-back _ _ _ (i .3) _ (l .m) _ (omega arith) (r .entry-of .ensures) (omega arith) (omega arith) t _ g ∙ i .5,
     )
 
 same-length : tie.Need-same-length Inv-loop μ-loop
-same-length c = c .before .before .before .before .before .loop .inv .2
+same-length c = c .before .before .before .before .before .before .loop .inv .2
 
 returns : tie.Need-returns Inv-loop μ-loop
-returns c = let i = c .before .before .before .before .before .loop .inv in turn-stop _ _ _ (i .3) _ _ (c .before .before .before .before .loop-test .taken) (c .before .before .before .entry-at .ensures) (sym (c .before .entry-fits .ensures) ∙ c .if1 .left) ∙ i .5
+returns c =
+    let r = c .before .before .before in
+    let l = r .before .before .before .loop in
+    let i = l .inv in
+    turn-stop _ _ _ (i .3) _ (l .m) _ (omega arith) (r .entry-of .ensures) (omega arith) (omega arith) (sym (c .before .entry-fits .ensures) ∙ c .if1 .left) ∙ i .5
 
 same-length-2 : tie.Need-same-length-2 Inv-loop μ-loop
 same-length-2 c = c .before .loop .inv .2
 
 returns-2 : tie.Need-returns-2 Inv-loop μ-loop
-returns-2 c = turn-done _ _ _ (c .loop-test .left) ∙ c .before .loop .inv .5
+returns-2 c = turn-done _ _ _ (omega arith) ∙ c .before .loop .inv .5
 
 pub walk-back-spec : {M : Type 1} → statement M
 walk-back-spec =
@@ -82,7 +98,10 @@ walk-back-spec =
     sub-at
     mul-at
     add-at
-    entry-at-requires
+    sub-entry-of
+    part-entry-of-start
+    part-entry-of-end
+    entry-of-requires
     entry-fits-requires
     undo-requires
     sub-m

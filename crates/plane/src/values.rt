@@ -1,0 +1,65 @@
+// The value of a Sample or Bin: which one it may hold, and how it is stored in the frame's bytes.
+ghost use mathlib.Core.Path.{_≡_};
+ghost use mathlib.Core.Bool.{true};
+ghost use mathlib.Core.List.{_∷_, []};
+ghost use Prim.Native.Nat.{_*_, _≤_};
+ghost use lib.ListN.{length};
+ghost use lib.Seq.{sets};
+ghost use Rattle.format.specs.Words.{bytes};
+ghost use Rattle.format.specs.Spots.{legalValue};
+ghost use Rattle.plane.specs.Stored.{stored};
+use crate::answers::Spot;
+use book::items::Bin;
+use book::items::Sample;
+
+// An item of the kind may hold the value: a sample of at most 4,095, a bin's count of at least 1.
+pub fn legal(kind: u16, value: u32) -> bool
+    ensures { λ r. ⌜ r ≡ legalValue kind value ⌝ }
+{
+    if kind == Spot::SAMPLE as u16 {
+        return value <= Sample::LAST as u32;
+    }
+    (kind == Spot::BIN as u16) & (Bin::LEAST_COUNT <= value)
+}
+
+// Stores a word at byte `at`, low byte first, as far as there is room.
+pub fn put_word(buf: &mut [u8], at: usize, w: u16)
+    ensures { λ _. ⌜ now (buf .exit) ≡ sets (now (buf .entry)) at (bytes (w ∷ [])) ⌝ }
+{
+    if buf.len() <= at {
+        return;
+    }
+    buf[at] = (w % 256) as u8;
+    if buf.len() <= at + 1 {
+        return;
+    }
+    buf[at + 1] = (w / 256) as u8;
+}
+
+// Puts a legal value in the item of the kind at word w: a Sample's in its own word, a Bin's count in the two words after its first.
+fn put_legal(f: &mut [u8], kind: u16, w: usize, value: u32)
+    requires { ⌜ (2 * w ≤ length (now f)) × (legalValue kind value ≡ true) ⌝ }
+    ensures { λ _. ⌜ now (f .exit) ≡ stored (now (f .entry)) kind w value ⌝ }
+{
+    if kind == Spot::SAMPLE as u16 {
+        let x = Sample {
+            value: value as u16,
+        };
+        put_word(f, 2 * w, x.word());
+        return;
+    }
+    put_word(f, 2 * w + 2, (value % 65536) as u16);
+    put_word(f, 2 * w + 4, (value / 65536) as u16);
+}
+
+// Puts a value in the item of the kind whose first word is word w; leaves the bytes where an item of that kind may not hold it.
+pub fn put_value(f: &mut [u8], kind: u16, w: usize, value: u32)
+    ensures { λ _. ⌜ now (f .exit) ≡ stored (now (f .entry)) kind w value ⌝ }
+{
+    if f.len() / 2 < w {
+        return;
+    }
+    if legal(kind, value) {
+        put_legal(f, kind, w, value);
+    }
+}
