@@ -2,7 +2,6 @@
 -- its place; what an answer does not use is 0.
 -- Assumes nothing.
 use Prim.Native.Nat.{ℕ}
-use mathlib.Core.List.{[]}
 use Rattle.format.specs.Answers as answers
 use Rattle.format.specs.Answers.{Outcome}
 use Rattle.format.specs.Book as book
@@ -10,6 +9,7 @@ use Rattle.format.specs.Items.{ItemOf, Channel, Histogram, HitCount, Sample, Bi
 use Rattle.format.specs.Rules.{Kind, dataKind, monitorKind, commandKind}
 use Rattle.format.specs.Steps.{Overview}
 use Rattle.format.specs.Questions.{Shown, Event}
+use Rattle.follower.specs.Follow as follow
 use Rattle.ledger.specs.Formats as formats
 use Rattle.ledger.specs.Calls.{Summary}
 use Rattle.exports.specs.declared.answers.PlaneDone.{PlaneDone}
@@ -17,9 +17,11 @@ use Rattle.exports.specs.declared.answers.PlaneFrame.{PlaneFrame}
 use Rattle.exports.specs.declared.answers.PlaneItem.{PlaneItem}
 use Rattle.exports.specs.declared.answers.PlaneFound.{PlaneFound}
 use Rattle.exports.specs.declared.answers.PlaneEvent.{PlaneEvent}
+use Rattle.exports.specs.declared.answers.PlaneWritten.{PlaneWritten}
+use Rattle.exports.specs.declared.answers.PlaneFollower.{PlaneFollower}
+use Rattle.exports.specs.declared.answers.PlaneFollowed.{PlaneFollowed}
 use Rattle.exports.specs.declared.answers.PlaneRecord.{PlaneRecord}
 use Rattle.exports.specs.declared.answers.PlaneEntry.{PlaneEntry}
-use Rattle.exports.specs.declared.answers.PlaneCorrection.{PlaneCorrection}
 
 -- the row of a class in document 01's word book
 abbrev pub classNumber : book.Class → ℕ
@@ -96,6 +98,19 @@ unfoldable pub flatEvent : Outcome Event → PlaneEvent
 flatEvent (answers.accepted v) = record { refused = 0; place = 0; kind = v .kind; timestamp = v .timestamp; number = v .number; size = v .size; index = v .index }
 flatEvent (answers.refused n p) = record { refused = n; place = p; kind = 0; timestamp = 0; number = 0; size = 0; index = 0 }
 
+unfoldable pub flatWritten : Outcome ℕ → PlaneWritten
+flatWritten (answers.accepted n) = record { refused = 0; place = 0; length = n }
+flatWritten (answers.refused n p) = record { refused = n; place = p; length = 0 }
+
+abbrev pub flatFollower : follow.State → PlaneFollower
+flatFollower follow.idle = record { expecting = 0; number = 0 }
+flatFollower (follow.expecting e) = record { expecting = 1; number = e }
+
+-- "a refusal leaves it as it was": the follower that was given
+unfoldable pub flatFollowed : PlaneFollower → follow.Answer → PlaneFollowed
+flatFollowed given (follow.accepted lost next) = record { refused = 0; place = 0; lost = lost; next = flatFollower next }
+flatFollowed given (follow.refused n p) = record { refused = n; place = p; lost = 0; next = given }
+
 unfoldable pub flatRecord : Outcome Summary → PlaneRecord
 flatRecord (answers.accepted x) = record { refused = 0; place = 0; length = x .length; count = x .count; total = x .total }
 flatRecord (answers.refused n p) = record { refused = n; place = p; length = 0; count = 0; total = 0 }
@@ -103,7 +118,3 @@ flatRecord (answers.refused n p) = record { refused = n; place = p; length = 0; 
 unfoldable pub flatEntry : Outcome formats.Entry → PlaneEntry
 flatEntry (answers.accepted e) = record { refused = 0; place = 0; word = e .word; kind = e .kind; «old_value» = e .old; «new_value» = e .new; «operator_id» = e .operator; reason = e .reason }
 flatEntry (answers.refused n p) = record { refused = n; place = p; word = 0; kind = 0; «old_value» = 0; «new_value» = 0; «operator_id» = 0; reason = 0 }
-
--- what an edit asks; document 01's entries hold nothing after the reason
-abbrev pub asked : PlaneCorrection → formats.Correction
-asked c = record { word = c .word; value = c .value; operator = c .«operator_id»; reason = c .reason; extra = [] }

@@ -1,15 +1,17 @@
--- What the exports that write promise: the flat answer, and the whole of what they leave in the memory lent to them.
+-- What exports promise beyond one equation: the flat answer and the whole of what is left in lent memory; where a text lies, and its bytes there.
 -- Assumes nothing.
 use Prim.Native.Nat.{ℕ}
 use mathlib.Core.Path.{_≡_}
 use mathlib.Core.List.{List}
-use lib.ListN.{length}
-use Rattle.format.specs.Questions.{done, samplesAt, samplesLeft, countsAt, countsLeft}
+use lib.ListN.{length, take, drop}
+use Rattle.format.specs.Questions.{textAt, done, samplesAt, samplesLeft, countsAt, countsLeft}
+use Rattle.frame.specs.Parts.{textFrom}
 use Rattle.ledger.specs.Formats.{Correction}
 use Rattle.ledger.specs.Calls.{openAnswer, openExit, editAnswer, editExit, restoreAnswer, restoreExit}
 use Rattle.ledger.specs.First.{first}
 use Rattle.ledger.specs.House.{house}
 use Rattle.exports.specs.declared.answers.PlaneDone.{PlaneDone}
+use Rattle.exports.specs.declared.answers.PlaneText.{PlaneText}
 use Rattle.exports.specs.Flat.{flatDone}
 
 -- an answer and the memory it leaves, whole
@@ -31,3 +33,9 @@ Edited found c = Leaves (flatDone (editAnswer house first found c)) (editExit ho
 
 abbrev pub Restored : List ℕ → ℕ → List ℕ → PlaneDone → List ℕ → Type 0
 Restored b k found = Leaves (flatDone (restoreAnswer house first b k found)) (restoreExit house first b k found)
+
+-- the part that the text question gives, by where it begins in the frame and how long it is
+pub record TextPart (s : List ℕ) (n : ℕ) (r : PlaneText) : Type 0 where
+  pub begins : r .offset ≡ textFrom s n
+  pub long : r .length ≡ length (textAt s n)
+  pub bytes-are : take (r .length) (drop (r .offset) s) ≡ textAt s n

@@ -59,6 +59,13 @@ pub struct PlaneFound {
     pub item: PlaneItem,
 }
 
+// The bytes of a text: a part of the caller's own frame, from `offset` on. It is empty where the item is no text.
+#[repr(C)]
+pub struct PlaneText {
+    pub offset: usize,
+    pub length: usize,
+}
+
 // An event: its type, timestamp, number, size in bytes, and the word index of its Start event.
 #[repr(C)]
 pub struct PlaneEvent {
@@ -69,6 +76,30 @@ pub struct PlaneEvent {
     pub number: u32,
     pub size: u32,
     pub index: usize,
+}
+
+// The new length of the partial frame, or of the closed one.
+#[repr(C)]
+pub struct PlaneWritten {
+    pub refused: u32,
+    pub place: usize,
+    pub length: usize,
+}
+
+// What the follower knows: idle where `expecting` is 0, else it expects the number. All zeros is a follower that has seen nothing.
+#[repr(C)]
+pub struct PlaneFollower {
+    pub expecting: u8,
+    pub number: u8,
+}
+
+// How many frames were lost before this one, and the follower from here on; on a refusal it is the one that was given.
+#[repr(C)]
+pub struct PlaneFollowed {
+    pub refused: u32,
+    pub place: usize,
+    pub lost: u8,
+    pub next: PlaneFollower,
 }
 
 // A record: its frame's length in bytes, how many entries it has, and its own length in bytes.

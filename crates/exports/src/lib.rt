@@ -2,5 +2,7 @@
 // same to C. Each export calls the one function that it is named for and lays its answer out flat; what it promises is that function's promise.
 pub mod answers;
 pub mod asking;
+pub mod following;
 pub mod reading;
 pub mod records;
+pub mod writing;

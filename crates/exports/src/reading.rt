@@ -6,9 +6,11 @@ ghost use Rattle.format.specs.Questions.{shownAt};
 ghost use Rattle.book.specs.Views.{view, viewItem};
 ghost use Rattle.frame.specs.Views.{viewKind, viewReading, viewFound};
 ghost use Rattle.exports.specs.Flat.{classNumber, kindNumber, blank, flatItem, flatFrame, flatFound};
+ghost use Rattle.exports.specs.Promises.{TextPart};
 use crate::answers::PlaneFound;
 use crate::answers::PlaneFrame;
 use crate::answers::PlaneItem;
+use crate::answers::PlaneText;
 use book::class::Class;
 use book::class::classify;
 use book::items::Item;
@@ -215,4 +217,25 @@ pub extern "C" fn plane_item(frame: &[u8], n: usize) -> PlaneFound
     ensures { λ r. ⌜ r ≡ flatFound (shownAt (now (frame .entry)) n) ⌝ }
 {
     flat_found(item(frame, n))
+}
+
+// Where the bytes of the text that is item n lie, without the final zero, in the frame itself: right after the text's word. An export cannot answer
+// with the part that `frame::text` gives, so its place is worked out from the item question, as that function does.
+#[no_mangle]
+pub extern "C" fn plane_text(frame: &[u8], n: usize) -> PlaneText
+    ensures { λ r. ⌜ TextPart (now (frame .entry)) n r ⌝ }
+{
+    let found = flat_found(item(frame, n));
+    let flat = found.item;
+    let count = flat.length as usize;
+    if count < 1 {
+        return PlaneText {
+            offset: 0,
+            length: 0,
+        };
+    }
+    PlaneText {
+        offset: 2 * (found.next - (count + 1) / 2),
+        length: count - 1,
+    }
 }
