@@ -1,0 +1,5 @@
+pub mod TextLaws
+pub mod GivenLaws
+pub mod NumberLaws
+pub mod Unique
+pub mod Exports

@@ -1,0 +1,193 @@
+-- No call refuses by 0.
+-- Assumes nothing.
+use Prim.Native.Nat.{ℕ, zero, suc, _≤_}
+use mathlib.Core.Path.{_≡_, refl, sym, ap, subst, _∙_}
+use mathlib.Core.Logic.{_⊎_, inl, inr, ⊎-elim}
+use mathlib.Core.Bool.{Bool, true, false, _&&_}
+use mathlib.Core.List.{List, [], _∷_}
+use mathlib.Core.Option.{Option, none, some}
+use native.Mathlib.Omega.{arith}
+use lib.Dec.{leb}
+use lib.ListN.{getD}
+use Rattle.format.specs.Words.{Bytes, pick}
+use Rattle.format.specs.Answers.{Outcome, accepted, refused, andThen, Done}
+use Rattle.format.specs.Book.{endEvent}
+use Rattle.format.specs.Items.{Item, Text, wordsOf, Token, whole, flawed}
+use Rattle.format.specs.Rules.{Kind, check}
+use Rattle.format.specs.Frames.{Frame, verdict}
+use Rattle.format.specs.Steps.{readOf}
+use Rattle.format.specs.Questions.{nth, itemAt, shownAt, present, events, pickNth, eventAt, until, past, isChannel, isHistogram, channelIn, samplesAt, countsAt, done}
+use Rattle.format.specs.Writing.{partialVerdict, beginAnswer, addAnswer, closeAnswer}
+use Rattle.format.specs.WriterCases.{oneOf, handed}
+use Rattle.format.proofs.Refusals.{places}
+use Rattle.format.proofs.Writing.{partial-list, begin-list, add-list, close-list}
+use Rattle.ledger.specs.Formats.{Correction}
+use Rattle.ledger.specs.Calls.{recordAnswer, entryAnswer, openAnswer, editAnswer, restoreAnswer}
+use Rattle.ledger.specs.First.{first}
+use Rattle.ledger.specs.House.{house, house-judge}
+use Rattle.ledger.proofs.Refusals as ledger
+use Rattle.exports.specs.declared.answers.PlaneItem.{PlaneItem}
+use Rattle.exports.specs.declared.answers.PlaneCorrection.{PlaneCorrection}
+use Rattle.exports.specs.Given.{asked, begun, said, tokenOf}
+use Rattle.exports.specs.Told.{Numbered}
+
+granted : {A : Type 0} (a : A) → Numbered (accepted a)
+granted a = record { least = λ n p e. let z : _≡_ {A = ℕ} 0 1 = cc in absurd (omega arith) }
+
+by : {A : Type 0} (n p : ℕ) → 1 ≤ n → Numbered {A = A} (refused n p)
+by n p h = record { least = λ m q e. let i : n ≡ m = cc in omega arith }
+
+module _ {A : Type 0} where
+  numbered-then : {B : Type 0} (o : Outcome A) (f : A → Outcome B) → Numbered o → ((a : A) → Numbered (f a)) → Numbered (andThen o f)
+  numbered-then (accepted a) f h g = g a
+  numbered-then {B} (refused n p) f h g = record { least = λ m q e. let i : n ≡ m = cc in let l = h .least n p refl in omega arith }
+
+  numbered-pick : (b : Bool) (o q : Outcome A) → Numbered o → Numbered q → Numbered (pick b o q)
+  numbered-pick true o q h g = h
+  numbered-pick false o q h g = g
+
+  numbered-present : (o : Option A) → Numbered (present o)
+  numbered-present none = by 13 0 (omega arith)
+  numbered-present (some a) = granted a
+
+  numbered-asked : {B : Type 0} (o : Option A) (f : A → Outcome B) → ((a : A) → Numbered (f a)) → Numbered (andThen (present o) f)
+  numbered-asked none f h = by 13 0 (omega arith)
+  numbered-asked (some a) f h = h a
+
+  numbered-done : (o : Outcome A) → Numbered o → Numbered (done o)
+  numbered-done (accepted a) h = granted tt
+  numbered-done (refused n p) h = record { least = λ m q e. let i : n ≡ m = cc in let l = h .least n p refl in omega arith }
+
+-- a number that is one of a list without 0
+from-one : (ns : List ℕ) → oneOf 0 ns ≡ false → (k : ℕ) → oneOf k ns ≡ true → 1 ≤ k
+from-one ns f zero e = let z : false ≡ true = sym f ∙ e in let y : _≡_ {A = ℕ} 0 1 = cc in absurd (omega arith)
+from-one ns f (suc k) e = omega arith
+
+-- ---- frames
+
+module _ (s : List ℕ) (bs : Bytes s) where
+  verdict-numbered : Numbered (verdict s)
+  verdict-numbered = record { least = λ n p e. places s bs n p e .least }
+
+  pub read-numbered : Numbered (readOf s)
+  unfolding readOf
+  read-numbered = numbered-then (verdict s) _ verdict-numbered (λ f. granted _)
+
+  nth-numbered : (n at : ℕ) (xs : List Item) → Numbered (nth n at xs)
+  unfolding nth
+  nth-numbered n at [] = by 13 0 (omega arith)
+  nth-numbered zero at (x ∷ xs) = granted _
+  nth-numbered (suc n) at (x ∷ xs) = nth-numbered n _ xs
+
+  pub item-numbered : (n : ℕ) → Numbered (shownAt s n)
+  unfolding shownAt itemAt
+  item-numbered n = numbered-then (itemAt s n) _ (numbered-then (verdict s) _ verdict-numbered (λ f. nth-numbered n 3 (f .items))) (λ r. granted _)
+
+  pub event-numbered : (e : ℕ) → Numbered (eventAt s e)
+  unfolding eventAt
+  event-numbered e = numbered-then (verdict s) _ verdict-numbered (λ f. numbered-asked (pickNth e (events 3 (f .items))) _ (λ o. granted _))
+
+  pub samples-numbered : (e chip c room : ℕ) → Numbered (done (samplesAt s e chip c room))
+  unfolding samplesAt channelIn
+  samples-numbered e chip c room =
+      numbered-done _ (numbered-then (verdict s) _ verdict-numbered
+      (λ f. numbered-pick (leb 512 room) _ _ (numbered-asked (pickNth e (events 3 (f .items))) _ (λ o. numbered-present (past (isChannel chip c) (until endEvent (o .items))))) (by 12 0 (omega arith))))
+
+  pub counts-numbered : (chip c room : ℕ) → Numbered (done (countsAt s chip c room))
+  unfolding countsAt
+  counts-numbered chip c room =
+      numbered-done _ (numbered-then (verdict s) _ verdict-numbered (λ f. numbered-pick (leb 4096 room) _ _ (numbered-present (past (isHistogram chip c) (f .items))) (by 12 0 (omega arith))))
+
+-- ---- the writer
+
+pub begin-numbered : (kind : Option Kind) (buf : List ℕ) (card sequence : ℕ) → Numbered (begun kind buf card sequence)
+begin-numbered none buf card sequence = by 2 0 (omega arith)
+begin-numbered (some k) buf card sequence =
+    record { least = λ n p e. from-one (9 ∷ 4 ∷ 12 ∷ []) refl n (begin-list buf card sequence n p e .0) }
+
+-- what a flat item says is handed over, or refused by a number
+abbrev Sayable : Token → Type 0
+Sayable t = (handed t ≡ true) ⊎ ((k : ℕ) × (t ≡ flawed k) × (1 ≤ k))
+
+data AllSayable : List Token → Type 0 where
+  no : AllSayable []
+  also : {t : Token} {ts : List Token} → Sayable t → AllSayable ts → AllSayable (t ∷ ts)
+
+in-list : (ts : List Token) (d : Token) → AllSayable ts → Sayable d → (k : ℕ) → Sayable (getD ts k d)
+in-list [] d a h k = h
+in-list (t ∷ ts) d (also a rest) h zero = a
+in-list (t ∷ ts) d (also a rest) h (suc k) = in-list ts d rest h k
+
+no-class : Sayable (flawed 6)
+no-class = inr (6, refl, omega arith)
+
+no-item : Sayable (flawed 8)
+no-item = inr (8, refl, omega arith)
+
+sayable : (x : PlaneItem) → Sayable (tokenOf x)
+unfolding tokenOf
+sayable x =
+    in-list (said x) (flawed 6)
+    (also no-class (also (inl refl) (also (inl refl) (also (inl refl) (also (inl refl) (also (inl refl) (also (inl refl) (also (inl refl)
+    (also no-item (also no-item (also no-item (also (inl refl) (also (inl refl) (also (inl refl) (also no-item no)))))))))))))))
+    no-class
+    (x .«item_class»)
+
+module _ (buf : List ℕ) (bs : Bytes buf) (n : ℕ) where
+  handed-numbered : (t : Token) → handed t ≡ true → Numbered (addAnswer buf n t)
+  handed-numbered t h = record { least = λ k p e. from-one (1 ∷ 2 ∷ 3 ∷ 4 ∷ 6 ∷ 7 ∷ 8 ∷ 9 ∷ 10 ∷ 12 ∷ []) refl k (add-list buf bs n t h k p e) }
+
+  flawed-numbered : (j : ℕ) → 1 ≤ j → Numbered (addAnswer buf n (flawed j))
+  unfolding addAnswer check
+  flawed-numbered j h =
+      numbered-then (partialVerdict buf n) _
+      (record { least = λ k p e. from-one (1 ∷ 2 ∷ 3 ∷ 4 ∷ 6 ∷ 7 ∷ 8 ∷ 9 ∷ 10 ∷ []) refl k (partial-list buf bs n k p e) }) (λ f. by j _ h)
+
+  pub add-numbered : (x : PlaneItem) → Numbered (addAnswer buf n (tokenOf x))
+  add-numbered x =
+      ⊎-elim (handed-numbered (tokenOf x)) (λ w. subst (λ (t : Token). Numbered (addAnswer buf n t)) (sym (w .1)) (flawed-numbered (w .0) (w .2))) (sayable x)
+
+  pub add-text-numbered : (s : List ℕ) → Numbered (addAnswer buf n (whole (Text s)))
+  add-text-numbered s = handed-numbered (whole (Text s)) refl
+
+  pub close-numbered : Numbered (closeAnswer buf n)
+  close-numbered = record { least = λ k p e. from-one (1 ∷ 2 ∷ 3 ∷ 4 ∷ 6 ∷ 7 ∷ 8 ∷ 9 ∷ 10 ∷ 11 ∷ 12 ∷ []) refl k (close-list buf bs n k p e) }
+
+-- ---- records
+
+done-refused : {A : Type 0} (o : Outcome A) (n p : ℕ) → done o ≡ refused n p → o ≡ refused n p
+done-refused (accepted a) n p e = let z : _≡_ {A = ℕ} 0 1 = cc in absurd (omega arith)
+done-refused (refused m q) n p e = cc
+
+judge-numbers : (f : List ℕ) (n p : ℕ) → Bytes f → house .judge f ≡ refused n p → (1 ≤ n) × (n ≤ 11)
+judge-numbers f n p bs e =
+    let h = places f bs n p (done-refused (verdict f) n p (sym (house-judge f) ∙ e)) in
+    (h .least, h .most)
+
+-- the format of document 01 asks nothing of its own
+first-asks : (c : PlaneCorrection) (n p : ℕ) → first .asked (asked c .extra) ≡ refused n p → 1 ≤ n
+unfolding first
+first-asks c n p e = let z : _≡_ {A = ℕ} 0 1 = cc in absurd (omega arith)
+
+module _ (b : List ℕ) (bs : Bytes b) where
+  low : {n : ℕ} → ((1 ≤ n) × (n ≤ 11)) ⊎ ((20 ≤ n) × (n ≤ 21)) → 1 ≤ n
+  low = ⊎-elim (λ h. h .0) (λ h. let q = h .0 in omega arith)
+
+  pub record-numbered : Numbered (recordAnswer house first b)
+  record-numbered =
+      record { least = λ n p e. low (ledger.record-numbers house first judge-numbers b n p bs (ledger.record-question-refusals house first b n p e)) }
+
+  pub entry-numbered : (j : ℕ) → Numbered (entryAnswer house first b j)
+  entry-numbered j =
+      record { least = λ n p e. ⊎-elim (λ h. h .0) (⊎-elim (λ h. let q = h .0 in omega arith) (λ h. omega arith)) (ledger.entry-numbers house first judge-numbers b j n p bs e) }
+
+  pub open-numbered : (buf : List ℕ) → Numbered (openAnswer house first b buf)
+  open-numbered buf = record { least = λ n p e. ledger.open-numbers house first judge-numbers b buf n p bs e .0 }
+
+  pub edit-numbered : (c : PlaneCorrection) → Numbered (editAnswer house first b (asked c))
+  edit-numbered c =
+      record { least = λ n p e. ⊎-elim (⊎-elim (λ h. h .0) (λ h. let q = h .0 in omega arith)) (first-asks c n p) (ledger.edit-numbers house first judge-numbers b (asked c) n p bs e) }
+
+  pub restore-numbered : (k : ℕ) (out : List ℕ) → Numbered (restoreAnswer house first b k out)
+  restore-numbered k out =
+      record { least = λ n p e. ⊎-elim (λ h. h .0) (⊎-elim (λ h. let q = h .0 in omega arith) (λ h. omega arith)) (ledger.restore-numbers house first judge-numbers b k out n p bs e) }

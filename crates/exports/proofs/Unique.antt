@@ -1,0 +1,240 @@
+-- T39: each export's promise has one answer, and one content of all lent memory. T40: a flat answer fixes document 01's answer.
+-- Assumes nothing.
+use Prim.Native.Nat.{ℕ, _≤_}
+use mathlib.Core.Path.{_≡_, refl, sym, ap, ap₂, _∙_}
+use mathlib.Core.Logic.{_↔_}
+use mathlib.Core.List.{List, [], _∷_}
+use mathlib.Core.Option.{some}
+use native.Mathlib.Omega.{arith}
+use lib.Dec.{eqb}
+use lib.ListN.{getD}
+use Rattle.format.specs.Words.{pick}
+use Rattle.format.specs.Answers.{Outcome, accepted, refused, andThen}
+use Rattle.format.specs.Book as book
+use Rattle.format.specs.Items.{ItemOf, Channel, Histogram, HitCount, Sample, Bin, LastCell, TimeBin, Text, StartEvent, EndEvent}
+use Rattle.format.specs.Rules.{Kind, dataKind, monitorKind, commandKind}
+use Rattle.format.specs.Questions.{Shown, Event}
+use Rattle.format.specs.Writing.{given}
+use Rattle.follower.specs.Follow as follow
+use Rattle.ledger.specs.Formats.{Correction}
+use Rattle.book.proofs.Unique.{equal-once, undone}
+use Rattle.exports.specs.declared.answers.PlaneFrame.{PlaneFrame}
+use Rattle.exports.specs.declared.answers.PlaneItem.{PlaneItem}
+use Rattle.exports.specs.declared.answers.PlaneFound.{PlaneFound}
+use Rattle.exports.specs.declared.answers.PlaneText.{PlaneText}
+use Rattle.exports.specs.declared.answers.PlaneFollower.{PlaneFollower}
+use Rattle.exports.specs.declared.answers.PlaneCorrection.{PlaneCorrection}
+use Rattle.exports.specs.Flat.{classNumber, kindNumber, flatDone, flatFrame, flatItem, flatFound, flatEvent, flatWritten, flatFollower, flatFollowed, flatRecord, flatEntry}
+use Rattle.exports.specs.Given.{asked, followerOf, kindOf, tokenOf}
+use Rattle.exports.specs.Promises.{Leaves, TextPart}
+use Rattle.exports.specs.Told.{Numbered, Tells, FrameSeen, seenFrame, seenEntry}
+
+-- ---- T39
+
+-- plane_classify, plane_read, plane_item, plane_event, plane_follow, plane_record, plane_entry: the promise is an equation of the answer
+pub answer-once : {A : Type 0} (b r q : A) → r ≡ b → q ≡ b → r ≡ q
+answer-once = equal-once
+
+-- plane_samples, plane_counts, plane_begin, plane_add, plane_add_text, plane_close, plane_open, plane_edit, plane_restore
+pub leaves-once : {A : Type 0} (answer : A) (left : List ℕ) (r q : A) (b d : List ℕ) → Leaves answer left r b → Leaves answer left q d → (r ≡ q) × (b ≡ d)
+leaves-once answer left r q b d e f = (e .answered ∙ sym (f .answered), e .written ∙ sym (f .written))
+
+pub text-once : (s : List ℕ) (n : ℕ) (r q : PlaneText) → TextPart s n r → TextPart s n q → r ≡ q
+text-once s n r q e f =
+    let a = e .begins ∙ sym (f .begins) in
+    let b = e .long ∙ sym (f .long) in
+    λ i. record { offset = a i; length = b i }
+
+-- ---- T40: numbers of classes and kinds
+
+abbrev classBack : ℕ → book.Class
+classBack n =
+    getD
+    (book.unassigned ∷ book.channel ∷ book.histogram ∷ book.hitCount ∷ book.sample ∷ book.bin ∷ book.lastCell ∷ book.timeBin ∷ book.dataFrame
+    ∷ book.monitorFrame ∷ book.commandFrame ∷ book.text ∷ book.startEvent ∷ book.endEvent ∷ book.frameEnd ∷ [])
+    n
+    book.unassigned
+
+class-back : (c : book.Class) → classBack (classNumber c) ≡ c
+class-back book.channel = refl
+class-back book.histogram = refl
+class-back book.hitCount = refl
+class-back book.sample = refl
+class-back book.bin = refl
+class-back book.lastCell = refl
+class-back book.timeBin = refl
+class-back book.dataFrame = refl
+class-back book.monitorFrame = refl
+class-back book.commandFrame = refl
+class-back book.text = refl
+class-back book.startEvent = refl
+class-back book.endEvent = refl
+class-back book.frameEnd = refl
+class-back book.unassigned = refl
+
+pub same-class : (c d : book.Class) → classNumber c ≡ classNumber d → c ≡ d
+same-class = undone classNumber classBack class-back
+
+abbrev kindBack : ℕ → Kind
+kindBack n = pick (eqb n 1) dataKind (pick (eqb n 2) monitorKind commandKind)
+
+kind-back : (k : Kind) → kindBack (kindNumber k) ≡ k
+kind-back dataKind = refl
+kind-back monitorKind = refl
+kind-back commandKind = refl
+
+pub same-kind : (k l : Kind) → kindNumber k ≡ kindNumber l → k ≡ l
+same-kind = undone kindNumber kindBack kind-back
+
+-- the kind that plane_read answers is the one that plane_begin takes by that number
+pub kind-of : (k : Kind) → kindOf (kindNumber k) ≡ some k
+kind-of dataKind = refl
+kind-of monitorKind = refl
+kind-of commandKind = refl
+
+-- ---- items
+
+abbrev itemBack : PlaneItem → ItemOf ℕ
+itemBack x =
+    getD
+    (Sample 0
+    ∷ Channel (x .card) (x .chip) (x .channel)
+    ∷ Histogram (x .card) (x .chip) (x .channel)
+    ∷ HitCount (x .card) (x .chip) (x .hits)
+    ∷ Sample (x .value)
+    ∷ Bin (x .bin) (x .count)
+    ∷ LastCell (x .chip) (x .cell)
+    ∷ TimeBin (x .time)
+    ∷ Sample 0
+    ∷ Sample 0
+    ∷ Sample 0
+    ∷ Text (x .length)
+    ∷ StartEvent (x .kind) (x .timestamp) (x .number)
+    ∷ EndEvent (x .size)
+    ∷ [])
+    (x .«item_class»)
+    (Sample 0)
+
+item-back : (x : ItemOf ℕ) → itemBack (flatItem x) ≡ x
+unfolding flatItem
+item-back (Channel a b c) = refl
+item-back (Histogram a b c) = refl
+item-back (HitCount a b c) = refl
+item-back (Sample v) = refl
+item-back (Bin b n) = refl
+item-back (LastCell a b) = refl
+item-back (TimeBin t) = refl
+item-back (Text n) = refl
+item-back (StartEvent t ts n) = refl
+item-back (EndEvent n) = refl
+
+pub same-item : (x y : ItemOf ℕ) → flatItem x ≡ flatItem y → x ≡ y
+same-item = undone flatItem itemBack item-back
+
+-- an item as plane_item answers it is, handed to plane_add, that item
+pub handed-back : (x : ItemOf ℕ) → tokenOf (flatItem x) ≡ given x
+unfolding flatItem tokenOf
+handed-back (Channel a b c) = refl
+handed-back (Histogram a b c) = refl
+handed-back (HitCount a b c) = refl
+handed-back (Sample v) = refl
+handed-back (Bin b n) = refl
+handed-back (LastCell a b) = refl
+handed-back (TimeBin t) = refl
+handed-back (Text n) = refl
+handed-back (StartEvent t ts n) = refl
+handed-back (EndEvent n) = refl
+
+-- ---- answers: any flat form that tells its answer
+
+module _ {A B R : Type 0} (seen : A → B) (flat : Outcome A → R) (number place : R → ℕ) (content : R → B) (t : Tells seen flat number place content) where
+  never : {C : Type 0} (a : A) (n p : ℕ) → Numbered {A = A} (refused n p) → flat (accepted a) ≡ flat (refused n p) → C
+  never a n p h e =
+      let z : 0 ≡ n = sym (t .accepts a) ∙ ap number e ∙ t .numbers n p in
+      let l = h .least n p refl in
+      absurd (omega arith)
+
+  -- accepted exactly where the number is 0
+  pub exactly : (o : Outcome A) → Numbered o → (r : R) → r ≡ flat o → (number r ≡ 0) ↔ ((a : A) × (o ≡ accepted a))
+  exactly o h r e = ((λ z. go o h (sym (ap number e) ∙ z)), (λ w. ap number e ∙ ap (λ (q : Outcome A). number (flat q)) (w .1) ∙ t .accepts (w .0)))
+    where
+      go : (q : Outcome A) → Numbered q → number (flat q) ≡ 0 → (a : A) × (q ≡ accepted a)
+      go (accepted a) i z = (a, refl)
+      go (refused n p) i z =
+          let l = i .least n p refl in
+          let k : n ≡ 0 = sym (t .numbers n p) ∙ z in
+          absurd (omega arith)
+
+  -- a number above 0 is a refusal's
+  pub refuses : (o : Outcome A) (r : R) → r ≡ flat o → 1 ≤ number r → (n : ℕ) × (p : ℕ) × (o ≡ refused n p)
+  refuses (accepted a) r e l = let z : number r ≡ 0 = ap number e ∙ t .accepts a in absurd (omega arith)
+  refuses (refused n p) r e l = (n, p, refl)
+
+  -- and the flat answer fixes document 01's
+  pub fixes : (o q : Outcome A) → Numbered o → Numbered q → flat o ≡ flat q → andThen o (λ a. accepted (seen a)) ≡ andThen q (λ a. accepted (seen a))
+  fixes (accepted a) (accepted b) h i e = ap accepted (sym (t .contains a) ∙ ap content e ∙ t .contains b)
+  fixes (accepted a) (refused n p) h i e = never a n p i e
+  fixes (refused n p) (accepted a) h i e = never a n p h (sym e)
+  fixes (refused n p) (refused m q) h i e =
+      ap₂ refused (sym (t .numbers n p) ∙ ap number e ∙ t .numbers m q) (sym (t .places n p) ∙ ap place e ∙ t .places m q)
+
+pub done-tells : Tells (λ u. u) flatDone (λ r. r .refused) (λ r. r .place) (λ r. tt {0})
+done-tells = record { accepts = λ a. refl; contains = λ a. refl; numbers = λ n p. refl; places = λ n p. refl }
+
+abbrev frameContent : PlaneFrame → FrameSeen
+frameContent r = record { kind = kindBack (r .kind); card = r .card; sequence = r .sequence; items = r .items }
+
+pub frame-tells : Tells seenFrame flatFrame (λ r. r .refused) (λ r. r .place) frameContent
+unfolding flatFrame
+frame-tells = record {
+  accepts = λ a. refl;
+  contains = λ a. (λ i. record { kind = kind-back (a .kind) i; card = a .card; sequence = a .sequence; items = a .items });
+  numbers = λ n p. refl;
+  places = λ n p. refl;
+}
+
+abbrev foundContent : PlaneFound → Shown
+foundContent r = record { item = itemBack (r .item); next = r .next }
+
+pub found-tells : Tells (λ x. x) flatFound (λ r. r .refused) (λ r. r .place) foundContent
+unfolding flatFound
+found-tells = record {
+  accepts = λ a. refl;
+  contains = λ a. (λ i. record { item = item-back (a .item) i; next = a .next });
+  numbers = λ n p. refl;
+  places = λ n p. refl;
+}
+
+pub event-tells : Tells (λ x. x) flatEvent (λ r. r .refused) (λ r. r .place) (λ r. record { kind = r .kind; timestamp = r .timestamp; number = r .number; size = r .size; index = r .index })
+unfolding flatEvent
+event-tells = record { accepts = λ a. refl; contains = λ a. refl; numbers = λ n p. refl; places = λ n p. refl }
+
+pub written-tells : Tells (λ x. x) flatWritten (λ r. r .refused) (λ r. r .place) (λ r. r .length)
+unfolding flatWritten
+written-tells = record { accepts = λ a. refl; contains = λ a. refl; numbers = λ n p. refl; places = λ n p. refl }
+
+pub record-tells : Tells (λ x. x) flatRecord (λ r. r .refused) (λ r. r .place) (λ r. record { length = r .length; count = r .count; total = r .total })
+unfolding flatRecord
+record-tells = record { accepts = λ a. refl; contains = λ a. refl; numbers = λ n p. refl; places = λ n p. refl }
+
+pub entry-tells : Tells seenEntry flatEntry (λ r. r .refused) (λ r. r .place)
+    (λ r. record { word = r .word; kind = r .kind; old = r .«old_value»; new = r .«new_value»; operator = r .«operator_id»; reason = r .reason; extra = [] })
+unfolding flatEntry
+entry-tells = record { accepts = λ a. refl; contains = λ a. refl; numbers = λ n p. refl; places = λ n p. refl }
+
+pub same-asked : (c d : PlaneCorrection) → asked c ≡ asked d → c ≡ d
+same-asked = undone asked (λ (c : Correction). record { word = c .word; value = c .value; «operator_id» = c .operator; reason = c .reason }) (λ c. refl)
+
+-- ---- the follower: the one answered goes on where the one given left off, and on a refusal stays as it was
+
+follower-back : (s : follow.State) → followerOf (flatFollower s) ≡ s
+follower-back follow.idle = refl
+follower-back (follow.expecting e) = refl
+
+pub same-follower : (s t : follow.State) → flatFollower s ≡ flatFollower t → s ≡ t
+same-follower = undone flatFollower followerOf follower-back
+
+pub follows-on : (x : PlaneFollower) (a : follow.Answer) → followerOf (flatFollowed x a .next) ≡ follow.after (followerOf x) a
+unfolding flatFollowed
+follows-on x (follow.accepted lost next) = follower-back next
+follows-on x (follow.refused n p) = refl
