@@ -1,7 +1,7 @@
 -- What the program `list` prints of a buffer (document 01, "Figures to agree with").
 -- Assumes nothing.
 use Prim.Native.Nat.{ℕ, zero, suc}
-use mathlib.Core.List.{List, [], _∷_, _++_}
+use mathlib.Core.List.{List, [], _++_}
 use lib.ListN.{length}
 use lib.Seq.{sets}
 use lib.Dec.{eqb, leb}
@@ -13,29 +13,30 @@ use Rattle.ledger.specs.Formats.{Entry}
 use Rattle.ledger.specs.Records.{lengthIn, countIn, frameIn, numbered, recordVerdict}
 use Rattle.ledger.specs.First.{first}
 use Rattle.ledger.specs.House.{house}
-use Rattle.lines.specs.Text.{decimal, hex, frameText, cardText, seqText, bytesText, itemsText, editText, wordText, sampleText, binText, arrowText, byText, reasonText, endText, refusedText, atText, lineFeed}
+use Rattle.lines.specs.Ascii.{ascii}
+use Rattle.lines.specs.Text.{decimal, hex}
 
 -- D, M or C
 abbrev pub letter : Kind → List ℕ
-letter dataKind = 68 ∷ []
-letter monitorKind = 77 ∷ []
-letter commandKind = 67 ∷ []
+letter dataKind = ascii "D"
+letter monitorKind = ascii "M"
+letter commandKind = ascii "C"
 
 -- "frame D card 5 seq 0100 bytes 34 items 6"
 unfoldable pub frameLine : Kind → ℕ → ℕ → ℕ → ℕ → List ℕ
 frameLine kind card sequence size items =
-    frameText ++ letter kind ++ (cardText ++ decimal card) ++ seqText ++ hex sequence ++ (bytesText ++ decimal size) ++ (itemsText ++ decimal items) ++ lineFeed
+    ascii "frame " ++ letter kind ++ (ascii " card " ++ decimal card) ++ ascii " seq " ++ hex sequence ++ (ascii " bytes " ++ decimal size) ++ (ascii " items " ++ decimal items) ++ ascii "\n"
 
 abbrev pub kindText : ℕ → List ℕ
-kindText kind = pick (eqb kind 1) sampleText binText
+kindText kind = pick (eqb kind 1) (ascii " sample ") (ascii " bin ")
 
 -- "edit 1 word 11 sample 250 -> 260"
 unfoldable pub changeText : ℕ → ℕ → ℕ → ℕ → ℕ → List ℕ
-changeText j word kind old new = (editText ++ decimal j) ++ (wordText ++ decimal word) ++ (kindText kind ++ decimal old) ++ (arrowText ++ decimal new)
+changeText j word kind old new = (ascii "edit " ++ decimal j) ++ (ascii " word " ++ decimal word) ++ (kindText kind ++ decimal old) ++ (ascii " -> " ++ decimal new)
 
 -- " by 9 reason 2", and the line's end; what a later version keeps after the reason has its place before that
 unfoldable pub signerText : ℕ → ℕ → List ℕ
-signerText operator reason = (byText ++ decimal operator) ++ (reasonText ++ decimal reason) ++ lineFeed
+signerText operator reason = (ascii " by " ++ decimal operator) ++ (ascii " reason " ++ decimal reason) ++ ascii "\n"
 
 -- "edit 1 word 11 sample 250 -> 260 by 9 reason 2"
 unfoldable pub entryLine : ℕ → Entry → List ℕ
@@ -43,11 +44,11 @@ entryLine j e = changeText j (e .word) (e .kind) (e .old) (e .new) ++ signerText
 
 -- "end 1"
 unfoldable pub endLine : ℕ → List ℕ
-endLine count = (endText ++ decimal count) ++ lineFeed
+endLine count = (ascii "end " ++ decimal count) ++ ascii "\n"
 
 -- "refused 21 at 1"
 unfoldable pub refusedLine : ℕ → ℕ → List ℕ
-refusedLine number place = (refusedText ++ decimal number) ++ (atText ++ decimal place) ++ lineFeed
+refusedLine number place = (ascii "refused " ++ decimal number) ++ (ascii " at " ++ decimal place) ++ ascii "\n"
 
 -- the lines of the first n entries of a record, from the oldest
 unfoldable pub entryLines : List ℕ → ℕ → List ℕ

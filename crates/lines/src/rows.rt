@@ -6,7 +6,8 @@ ghost use lib.ListN.{length};
 ghost use Rattle.ledger.specs.Records.{lengthIn, entryOf};
 ghost use Rattle.ledger.specs.First.{first};
 ghost use Rattle.frame.specs.Views.{viewKind};
-ghost use Rattle.lines.specs.Text.{frameText, decimal};
+ghost use Rattle.lines.specs.Ascii.{ascii};
+ghost use Rattle.lines.specs.Text.{decimal};
 ghost use Rattle.lines.specs.Listing.{letter, kindText, changeText, signerText, frameLine, entryLine, endLine, refusedLine, entryLines};
 ghost use Rattle.lines.specs.Writes.{Put};
 use crate::pieces::field;
@@ -24,7 +25,7 @@ pub const MOST: usize = 160;
 // The start of a frame's line, with its kind's letter.
 fn kind_start(line: &mut [u8], kind: Kind) -> usize
     requires { ⌜ 160 ≤ length (now line) ⌝ }
-    ensures { λ r. ⌜ Put 7 (now (line .entry)) 0 (frameText ++ letter (viewKind kind)) (now (line .exit)) r ⌝ }
+    ensures { λ r. ⌜ Put 7 (now (line .entry)) 0 (ascii "frame " ++ letter (viewKind kind)) (now (line .exit)) r ⌝ }
 {
     match kind {
         Kind::Data => text(line, 0, b"frame D"),
