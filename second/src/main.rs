@@ -24,6 +24,7 @@ mod make_writer;
 mod record;
 mod rng;
 mod rules;
+mod samples;
 mod tally;
 mod writer;
 
@@ -41,6 +42,8 @@ second sum                   adds up tables given on standard input
 second list                  lists a record buffer given on standard input
 second lists DIR             writes fixed buffers NAME.record and NAME.listing
 second lists DIR SEED COUNT  the same of fresh buffers
+second samples DIR           writes the samples, and the cases that made them
+                             on standard output
 ";
 
 type Outcome = Result<(), String>;
@@ -58,6 +61,7 @@ fn main() -> ExitCode {
         ["tally", cases] => tally_file(cases),
         ["sum"] => sum_tables(),
         ["list"] => list_input(),
+        ["samples", folder] => write_samples(folder),
         ["lists", folder] => fixed_lists(folder),
         ["lists", folder, seed, count] => fresh_lists(folder, seed, count),
         _ => Err(USAGE.to_string()),
@@ -159,4 +163,12 @@ fn fresh_lists(folder: &str, seed: &str, count: &str) -> Outcome {
     let records = corpus_list::fresh(seed, count);
     let mut numbered = records.iter().enumerate();
     numbered.try_for_each(|(at, record)| write_list(folder, &format!("{at:06}"), record))
+}
+
+fn write_samples(folder: &str) -> Outcome {
+    let samples = samples::samples();
+    for (name, bytes) in &samples.files {
+        fs::write(format!("{folder}/{name}"), bytes).map_err(say)?;
+    }
+    print(&samples.cases)
 }
