@@ -17,7 +17,9 @@ same-length : tie.Need-same-length
 same-length c = search needs
 
 returns : tie.Need-returns
-returns c = rw (eq-eqb _ 1 (c .before .before .before .before .before .if1 .taken)) (c .before .before .field .ensures)
+returns c =
+    let k = c .before .before .before .before .before .before .before .args .kind in
+    rw (eq-eqb k 1 (omega arith)) (c .before .before .field .ensures)
 
 slice-aggregate-field-2 : tie.Need-slice-aggregate-field-2
 slice-aggregate-field-2 c = search needs
