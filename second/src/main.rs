@@ -6,6 +6,7 @@ mod book;
 mod cases;
 mod chains;
 mod corpus;
+mod corpus_list;
 mod corpus_record;
 mod corpus_writer;
 mod damage;
@@ -16,12 +17,14 @@ mod follower;
 mod frame;
 mod item;
 mod known;
+mod listing;
 mod make;
 mod make_record;
 mod make_writer;
 mod record;
 mod rng;
 mod rules;
+mod samples;
 mod tally;
 mod writer;
 
@@ -36,6 +39,11 @@ second corpus [OPS]          writes the fixed cases
 second compare CASES LINES   compares the lines of another program
 second tally CASES           how often each op and refusal came up
 second sum                   adds up tables given on standard input
+second list                  lists a record buffer given on standard input
+second lists DIR             writes fixed buffers NAME.record and NAME.listing
+second lists DIR SEED COUNT  the same of fresh buffers
+second samples DIR           writes the samples, and the cases that made them
+                             on standard output
 ";
 
 type Outcome = Result<(), String>;
@@ -52,6 +60,10 @@ fn main() -> ExitCode {
         ["compare", cases, lines] => compare_files(cases, lines),
         ["tally", cases] => tally_file(cases),
         ["sum"] => sum_tables(),
+        ["list"] => list_input(),
+        ["samples", folder] => write_samples(folder),
+        ["lists", folder] => fixed_lists(folder),
+        ["lists", folder, seed, count] => fresh_lists(folder, seed, count),
         _ => Err(USAGE.to_string()),
     };
     match outcome {
@@ -128,4 +140,35 @@ fn sum_tables() -> Outcome {
     let mut tally = Tally::default();
     tally.add_table(&String::from_utf8_lossy(&input()?));
     print(tally.table().as_bytes())
+}
+
+fn list_input() -> Outcome {
+    print(corpus_list::printed(&input()?).as_bytes())
+}
+
+/// Writes a buffer and its listing beside each other.
+fn write_list(folder: &str, name: &str, record: &[u8]) -> Outcome {
+    let listing = corpus_list::printed(record);
+    fs::write(format!("{folder}/{name}.record"), record).map_err(say)?;
+    fs::write(format!("{folder}/{name}.listing"), listing).map_err(say)
+}
+
+fn fixed_lists(folder: &str) -> Outcome {
+    corpus_list::fixed().iter().try_for_each(|(name, record)| write_list(folder, name, record))
+}
+
+fn fresh_lists(folder: &str, seed: &str, count: &str) -> Outcome {
+    let seed = seed.parse().map_err(|_| format!("no seed: {seed}\n"))?;
+    let count = count.parse().map_err(|_| format!("no count: {count}\n"))?;
+    let records = corpus_list::fresh(seed, count);
+    let mut numbered = records.iter().enumerate();
+    numbered.try_for_each(|(at, record)| write_list(folder, &format!("{at:06}"), record))
+}
+
+fn write_samples(folder: &str) -> Outcome {
+    let samples = samples::samples();
+    for (name, bytes) in &samples.files {
+        fs::write(format!("{folder}/{name}"), bytes).map_err(say)?;
+    }
+    print(&samples.cases)
 }

@@ -176,6 +176,11 @@ pub fn entry(record: &[u8], number: u64) -> Result<Entry, Refusal> {
     Ok(entry_of(record, judged.frame_length, number as usize))
 }
 
+/// The entries of an accepted record, from the oldest.
+pub fn entries(record: &[u8], judged: &Record) -> Vec<Entry> {
+    (1..=judged.entries).map(|number| entry_of(record, judged.frame_length, number)).collect()
+}
+
 /// The eight header words of a record.
 pub fn header_bytes(frame_length: usize, entries: usize) -> Vec<u8> {
     let history = HEADER_BYTES + frame_length;

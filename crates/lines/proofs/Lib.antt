@@ -1,0 +1,5 @@
+pub mod Decimals
+pub mod Putting
+pub mod Listings
+pub mod Figures
+pub mod Unique

@@ -1,0 +1,144 @@
+-- From the pieces of a line to the lines, and from the lines to the listing.
+-- Assumes nothing.
+use Prim.Native.Nat.{ℕ, suc, _+_, _-_, _*_, _≤_, _<_}
+use mathlib.Core.Path.{_≡_, refl, sym, ap, _∙_}
+use mathlib.Core.Bool.{true, false}
+use mathlib.Core.List.{List, [], _∷_, _++_}
+use native.Mathlib.Numerals.{add-one}
+use native.Mathlib.Omega.{arith}
+use lib.Dec.{leb}
+use lib.ListN.{length, take, drop, length-drop}
+use lib.Seq.{sets, sets-eq, take-all, take-at}
+use borrow.Author.Tests.{le-leb, lt-leb}
+use Rattle.format.specs.Words.{wordAt, longAt}
+use Rattle.format.specs.Answers.{Outcome, Done, accepted, refused, andThen}
+use Rattle.format.specs.Frames.{Frame, verdict}
+use Rattle.format.specs.Steps.{Overview, overview, readOf}
+use Rattle.ledger.specs.Records.{lengthIn, countIn, totalIn, frameIn, entryOf, numbered, recordVerdict}
+use Rattle.ledger.specs.Calls.{Summary, recordAnswer}
+use Rattle.ledger.specs.First.{first}
+use Rattle.ledger.specs.House.{house}
+use Rattle.ledger.proofs.Headers.{header-words, few-entries}
+use Rattle.ledger.proofs.Judging.{verdict-parts}
+use Rattle.ledger.proofs.FirstLaws.{first-lawful}
+use Rattle.plane.specs.Views.{summaryAt}
+use Rattle.plane.proofs.RecordLaws.{judge-refused, frame-part, room, told}
+use Rattle.lines.specs.Listing.{frameLine, changeText, signerText, entryLine, endLine, refusedLine, entryLines, frameOf, listingOf, listing, listingAnswer, listingExit}
+use Rattle.lines.specs.Writes.{Put, Known, Listed}
+use Rattle.lines.proofs.Putting.{joined}
+
+-- ---- entries
+
+-- the fields of an entry, read from the bytes that begin with it
+pub entry-text : (e : List ℕ) (j w k old new o r : ℕ) → w ≡ wordAt e 0 → k ≡ wordAt e 1 → old ≡ longAt e 2 → new ≡ longAt e 4 → o ≡ wordAt e 6 → r ≡ wordAt e 7
+    → changeText j w k old new ++ signerText o r ≡ entryLine j (entryOf first e)
+unfolding entryLine entryOf first
+entry-text e j w k old new o r ew ek eo en ep er = rw (ew, ek, eo, en, ep, er)
+
+-- lines of no entry, of one more, and of all
+pub none-put : (b l : List ℕ) (at : ℕ) → Put (160 * 0) l at (entryLines b 0) l at
+unfolding entryLines
+none-put b l at = record { stored = refl; behind = omega arith; few = omega arith }
+
+next-entry : (b : List ℕ) (j from : ℕ) → from ≡ 16 + lengthIn b + 16 * j → from ≤ length b
+    → entryLines b j ++ entryLine (j + 1) (entryOf first (take (length b - from) (drop from b))) ≡ entryLines b (j + 1)
+unfolding entryLines numbered first
+next-entry b j from e h =
+    let d : take (length b - from) (drop from b) ≡ drop from b = take-all (length b - from) (drop from b) (rw (length-drop from b) (omega arith)) in
+    let z : suc j - 1 ≡ j = omega arith in
+    rw (d, e, add-one j, z)
+
+pub more-put : (b : List ℕ) (j from : ℕ) → from ≡ 16 + lengthIn b + 16 * j → from ≤ length b → {l k o : List ℕ} {at i q : ℕ} → Put (160 * j) l at (entryLines b j) k i
+    → Put 160 k i (entryLine (j + 1) (entryOf first (take (length b - from) (drop from b)))) o q
+    → Put (160 * (j + 1)) l at (entryLines b (j + 1)) o q
+more-put b j from e h p q =
+    let n : 160 * j + 160 ≡ 160 * (j + 1) = omega arith in
+    rw (next-entry b j from e h, n) at (joined p q)
+
+pub all-put : (b : List ℕ) (j n : ℕ) → j ≡ n → {l k : List ℕ} {at i : ℕ} → Put (160 * j) l at (entryLines b j) k i → Put (160 * n) l at (entryLines b n) k i
+all-put b j n e p = rw e at p
+
+-- ---- a record
+
+module _ (b : List ℕ) (size count : ℕ) (k : Known b size count) where
+  pub inside : 16 + size + 16 * count ≤ length b
+  inside =
+      let w = room b (verdict-parts house first b (k .judged) .0) .within in
+      let l = k .length in
+      let n = k .entries in
+      omega arith
+
+  pub few : count ≤ 512
+  few =
+      let f = few-entries first first-lawful b (header-words first b (verdict-parts house first b (k .judged) .0)) in
+      let n = k .entries in
+      omega arith
+
+  part : take (16 + size - 16) (drop 16 b) ≡ frameIn b
+  part = frame-part b size (k .length)
+
+  pub never : {A : Type 0} (n p : ℕ) → refused n p ≡ readOf (take (16 + size - 16) (drop 16 b)) → A
+  never n p e = absurd (clash (house .judge (frameIn b)) n p (verdict-parts house first b (k .judged) .1) (judge-refused (frameIn b) n p (e ∙ ap readOf part)))
+    where
+      clash : (o : Done) (n p : ℕ) → o ≡ accepted tt → o ≡ refused n p → ⊥
+      clash o n p f g = let z : _≡_ {A = ℕ} 0 1 = cc in omega arith
+
+  pub record-text : (x : Overview) → accepted x ≡ readOf (take (16 + size - 16) (drop 16 b))
+      → frameLine (x .kind) (x .card) (x .sequence) size (x .items) ++ entryLines b count ++ endLine count ≡ listing b
+  unfolding listing frameOf readOf
+  record-text x e = rw (k .judged, k .length, k .entries) (go (verdict (frameIn b)) (e ∙ ap readOf part))
+    where
+      same : (x y : Overview) → accepted x ≡ accepted y → x ≡ y
+      same x y q = cc
+
+      go : (o : Outcome Frame) → accepted x ≡ andThen o (λ f. accepted (overview f))
+          → frameLine (x .kind) (x .card) (x .sequence) (lengthIn b) (x .items) ++ entryLines b (countIn b) ++ endLine (countIn b) ≡ listingOf o b
+      go (accepted f) q = rw (same x (overview f) q)
+      go (refused n p) q = let z : _≡_ {A = ℕ} 0 1 = cc in absurd (omega arith)
+
+pub told-known : (b : List ℕ) (x : Summary) → accepted x ≡ recordAnswer house first b → Known b (x .length) (x .count)
+told-known b x e = let t = told b x e in record { judged = t .verdict; length = t .length; entries = t .count }
+
+pub refused-text : (b : List ℕ) (n p : ℕ) → refused n p ≡ recordAnswer house first b → refusedLine n p ≡ listing b
+unfolding listing frameOf recordAnswer
+refused-text b n p e = go (recordVerdict house first b) e
+  where
+    number : (m q n p : ℕ) → _≡_ {A = Outcome Summary} (refused m q) (refused n p) → m ≡ n
+    number m q n p f = cc
+
+    place : (m q n p : ℕ) → _≡_ {A = Outcome Summary} (refused m q) (refused n p) → q ≡ p
+    place m q n p f = cc
+
+    go : (o : Done) → refused n p ≡ andThen o (λ u. accepted (summaryAt (lengthIn b) (countIn b) (totalIn first b)))
+        → refusedLine n p ≡ listingOf (andThen o (λ u. verdict (frameIn b))) b
+    go (accepted u) q = let z : _≡_ {A = ℕ} 0 1 = cc in absurd (omega arith)
+    go (refused m r) q = let f : _≡_ {A = Outcome Summary} (refused n p) (refused m r) = q in rw (number n p m r f, place n p m r f)
+
+-- ---- the listing
+
+pub retold : {a t : List ℕ} → a ≡ t → {m : ℕ} {l k : List ℕ} {at i : ℕ} → Put m l at a k i → Put m l at t k i
+retold e p = rw e at p
+
+-- what was put at the start is what stands there
+taken : {m : ℕ} {l k t : List ℕ} {n : ℕ} → Put m l 0 t k n → m ≤ length l → take n k ≡ t
+taken {m} {l} {k} {t} {n} p h =
+    let f = p .few in
+    let e : n ≡ length t = let g = p .behind in omega arith in
+    let s : k ≡ t ++ drop (0 + length t) l = p .stored ∙ sets-eq t l 0 (omega arith) in
+    rw s (take-at t (drop (0 + length t) l) n (sym e))
+
+pub copied-text : {m : ℕ} {l k t : List ℕ} {n : ℕ} → Put m l 0 t k n → m ≤ length l → (out left : List ℕ) → left ≡ sets out 0 (take n k) → left ≡ sets out 0 t
+copied-text p h out left e = e ∙ ap (λ (x : List ℕ). sets out 0 x) (taken p h)
+
+pub listed-written : (b out left : List ℕ) (n : ℕ) → n ≡ 0 + length (listing b) → n ≤ length out → left ≡ sets out 0 (listing b) → Listed b out (accepted n) left
+unfolding listingAnswer listingExit
+listed-written b out left n e h w =
+    let g : n ≡ length (listing b) = omega arith in
+    let r : leb (length (listing b)) (length out) ≡ true = le-leb (length (listing b)) (length out) (omega arith) in
+    record { answered = rw r (ap accepted g); left = rw r w }
+
+pub listed-short : (b out : List ℕ) (n : ℕ) → n ≡ 0 + length (listing b) → length out < n → Listed b out (refused 12 0) out
+unfolding listingAnswer listingExit
+listed-short b out n e h =
+    let r : leb (length (listing b)) (length out) ≡ false = lt-leb (length (listing b)) (length out) (omega arith) in
+    record { answered = rw r; left = rw r }

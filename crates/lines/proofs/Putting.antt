@@ -1,0 +1,52 @@
+-- Texts that are put one behind the other are one text.
+-- Assumes nothing.
+use Prim.Native.Nat.{ℕ, suc, _+_, _-_, _≤_}
+use mathlib.Core.Path.{_≡_, refl, sym, ap, _∙_}
+use mathlib.Core.List.{List, [], _∷_, _++_}
+use native.Mathlib.Nat.{add-zero}
+use native.Mathlib.Omega.{arith}
+use lib.ListN.{length, take, drop, set, length-append}
+use lib.Seq.{sets}
+use borrow.Rule.Slice.PartMut.{putMid}
+use Rattle.ledger.proofs.Stores.{part-stores}
+use Rattle.io.specs.Digits.{digits, Fewest}
+use Rattle.lines.specs.Text.{decimal}
+use Rattle.lines.specs.Writes.{Put}
+use Rattle.lines.proofs.Decimals.{spelt}
+
+sets-append : (l : List ℕ) (i : ℕ) (a b : List ℕ) → sets (sets l i a) (i + length a) b ≡ sets l i (a ++ b)
+sets-append l i [] b = rw (add-zero i)
+sets-append l i (v ∷ a) b = let z : i + suc (length a) ≡ suc i + length a = omega arith in rw z (sets-append (set l i v) (suc i) a b)
+
+pub joined : {m n : ℕ} {l k o : List ℕ} {at i j : ℕ} {a b : List ℕ} → Put m l at a k i → Put n k i b o j → Put (m + n) l at (a ++ b) o j
+joined {m} {n} {l} {k} {o} {at} {i} {j} {a} {b} p q =
+    record {
+      stored = q .stored ∙ ap (λ (x : List ℕ). sets x i b) (p .stored) ∙ ap (λ (x : ℕ). sets (sets l at a) x b) (p .behind) ∙ sets-append l at a b;
+      behind = let e = p .behind in let f = q .behind in let s = length-append a b in omega arith;
+      few = let e = p .few in let f = q .few in omega arith;
+    }
+
+pub wider : {m : ℕ} (n : ℕ) {l k : List ℕ} {at i : ℕ} {a : List ℕ} → m ≤ n → Put m l at a k i → Put n l at a k i
+wider n h p = record { stored = p .stored; behind = p .behind; few = let e = p .few in omega arith }
+
+-- the text that was copied to the part behind byte `at`
+pub copied : (l : List ℕ) (at : ℕ) (s part : List ℕ) → part ≡ sets (take (length l - at) (drop at l)) 0 s → at + length s ≤ length l
+    → Put (length s) l at s (putMid at (length l - at) l part) (at + length s)
+copied l at s part e h =
+    let z : at + 0 ≡ at = omega arith in
+    record {
+      stored = ap (putMid at (length l - at) l) e ∙ part-stores l at (length l) 0 s (omega arith) (omega arith) (omega arith) ∙ ap (λ (x : ℕ). sets l x s) z;
+      behind = refl;
+      few = omega arith;
+    }
+
+-- the digits that a number was spelt in
+pub decimal-put : (n k : ℕ) (ds : List ℕ) → Fewest 10 1 n k → take k ds ≡ digits 10 k n → k ≡ length (take k ds) → k ≤ 20
+    → {l left : List ℕ} {at next : ℕ} → Put (length (take k ds)) l at (take k ds) left next → Put 20 l at (decimal n) left next
+decimal-put n k ds f e c h {l} {left} {at} {next} p =
+    let d : take k ds ≡ decimal n = e ∙ spelt k n f in
+    record {
+      stored = p .stored ∙ ap (λ (x : List ℕ). sets l at x) d;
+      behind = p .behind ∙ ap (λ (x : List ℕ). at + length x) d;
+      few = let g = p .few in omega arith;
+    }

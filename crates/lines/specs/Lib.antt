@@ -1,0 +1,5 @@
+pub mod Ascii
+pub mod Text
+pub mod Listing
+pub mod Writes
+pub mod Views

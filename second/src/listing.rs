@@ -1,0 +1,69 @@
+//! What `list` prints of a record buffer: the frame's line, one line an entry,
+//! and the entry count, or a refusal alone.
+
+use crate::record::{self, Entry, Record};
+use crate::rules::Refusal;
+
+/// So many bytes are read of the input.
+pub const READ: usize = 16_400;
+
+fn frame_line(record: &Record) -> String {
+    let frame = &record.frame;
+    format!(
+        "frame {} card {} seq {:04X} bytes {} items {}\n",
+        frame.kind.letter(),
+        frame.card,
+        frame.sequence,
+        record.frame_length,
+        frame.items.len()
+    )
+}
+
+fn entry_line(number: usize, entry: &Entry) -> String {
+    let kind = match entry.kind {
+        1 => "sample",
+        2 => "bin",
+        other => panic!("an accepted entry of kind {other}"),
+    };
+    format!(
+        "edit {number} word {} {kind} {} -> {} by {} reason {}\n",
+        entry.index, entry.old, entry.new, entry.operator, entry.reason
+    )
+}
+
+fn accepted(buffer: &[u8]) -> Result<String, Refusal> {
+    let record = record::judge(buffer)?;
+    let mut lines = frame_line(&record);
+    for (at, entry) in record::entries(buffer, &record).iter().enumerate() {
+        lines.push_str(&entry_line(at + 1, entry));
+    }
+    lines.push_str(&format!("end {}\n", record.entries));
+    Ok(lines)
+}
+
+/// The listing of a buffer.
+pub fn listing(buffer: &[u8]) -> String {
+    accepted(buffer)
+        .unwrap_or_else(|Refusal { number, place }| format!("refused {number} at {place}\n"))
+}
+
+#[cfg(test)]
+mod tests {
+    use super::*;
+    use crate::known::figures;
+
+    #[test]
+    fn figure_10_is_listed() {
+        let mut buffer = vec![0; 66];
+        record::open(&mut buffer, &figures()[2].bytes).unwrap();
+        assert_eq!(listing(&buffer), "frame D card 5 seq 0100 bytes 34 items 6\nend 0\n");
+        record::edit(&mut buffer, 11, 260, 9, 2).unwrap();
+        let lines = "frame D card 5 seq 0100 bytes 34 items 6\n\
+                     edit 1 word 11 sample 250 -> 260 by 9 reason 2\n\
+                     end 1\n";
+        assert_eq!(listing(&buffer), lines);
+        buffer[64] = 6;
+        assert_eq!(listing(&buffer), "refused 21 at 1\n");
+        assert_eq!(listing(&[]), "refused 20 at 0\n");
+    }
+}
