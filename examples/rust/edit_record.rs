@@ -1,6 +1,9 @@
 //! Writes a frame, opens a record of it, edits it, lists its history and restores the frame as it was.
 mod plane_record;
-use plane_record::{add, begin, close, edit, entry, open, read, record, restore, PlaneCorrection, PlaneDone, PlaneItem};
+use plane_record::{
+    add, begin, close, edit, entry, open, read, record, restore, PlaneCorrection, PlaneDone,
+    PlaneItem,
+};
 
 fn word_at(s: &[u8], i: usize) -> u16 {
     u16::from_le_bytes([s[2 * i], s[2 * i + 1]])
@@ -40,11 +43,17 @@ fn list(buffer: &[u8]) {
     }
     let f = read(&buffer[16..16 + r.length]);
     let kind = ["?", "D", "M", "C"][f.kind as usize];
-    println!("frame {kind} card {} seq {:04X} bytes {} items {}", f.card, f.sequence, r.length, f.items);
+    println!(
+        "frame {kind} card {} seq {:04X} bytes {} items {}",
+        f.card, f.sequence, r.length, f.items
+    );
     for n in 1..=r.count {
         let e = entry(buffer, n);
         let kind = if e.kind == 1 { "sample" } else { "bin" };
-        println!("edit {n} word {} {kind} {} -> {} by {} reason {}", e.word, e.old_value, e.new_value, e.operator_id, e.reason);
+        println!(
+            "edit {n} word {} {kind} {} -> {} by {} reason {}",
+            e.word, e.old_value, e.new_value, e.operator_id, e.reason
+        );
     }
     println!("end {}", r.count);
 }
@@ -62,5 +71,9 @@ fn main() {
     list(&buffer);
 
     told("restore to 0", restore(&buffer, 0, &mut before));
-    println!("word 11: {:04X}, and as it was {:04X}", word_at(&buffer[16..], 11), word_at(&before, 11));
+    println!(
+        "word 11: {:04X}, and as it was {:04X}",
+        word_at(&buffer[16..], 11),
+        word_at(&before, 11)
+    );
 }

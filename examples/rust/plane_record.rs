@@ -131,18 +131,51 @@ extern "C" {
     fn plane_item(frame: *const u8, length: usize, ordinal: usize) -> PlaneFound;
     fn plane_text(frame: *const u8, length: usize, ordinal: usize) -> PlaneText;
     fn plane_event(frame: *const u8, length: usize, ordinal: usize) -> PlaneEvent;
-    fn plane_samples(frame: *const u8, length: usize, ordinal: usize, chip: u16, channel: u16, out: *mut u16, room: usize) -> PlaneDone;
-    fn plane_counts(frame: *const u8, length: usize, chip: u16, channel: u16, out: *mut u32, room: usize) -> PlaneDone;
-    fn plane_begin(buffer: *mut u8, room: usize, kind: u16, card: u16, sequence: u16) -> PlaneWritten;
+    fn plane_samples(
+        frame: *const u8,
+        length: usize,
+        ordinal: usize,
+        chip: u16,
+        channel: u16,
+        out: *mut u16,
+        room: usize,
+    ) -> PlaneDone;
+    fn plane_counts(
+        frame: *const u8,
+        length: usize,
+        chip: u16,
+        channel: u16,
+        out: *mut u32,
+        room: usize,
+    ) -> PlaneDone;
+    fn plane_begin(
+        buffer: *mut u8,
+        room: usize,
+        kind: u16,
+        card: u16,
+        sequence: u16,
+    ) -> PlaneWritten;
     fn plane_add(buffer: *mut u8, room: usize, length: usize, item: PlaneItem) -> PlaneWritten;
-    fn plane_add_text(buffer: *mut u8, room: usize, length: usize, text: *const u8, text_length: usize) -> PlaneWritten;
+    fn plane_add_text(
+        buffer: *mut u8,
+        room: usize,
+        length: usize,
+        text: *const u8,
+        text_length: usize,
+    ) -> PlaneWritten;
     fn plane_close(buffer: *mut u8, room: usize, length: usize) -> PlaneWritten;
     fn plane_follow(follower: PlaneFollower, word: u16) -> PlaneFollowed;
     fn plane_record(buffer: *const u8, room: usize) -> PlaneRecord;
     fn plane_entry(buffer: *const u8, room: usize, number: usize) -> PlaneEntry;
     fn plane_open(buffer: *mut u8, room: usize, frame: *const u8, length: usize) -> PlaneDone;
     fn plane_edit(buffer: *mut u8, room: usize, correction: PlaneCorrection) -> PlaneDone;
-    fn plane_restore(buffer: *const u8, room: usize, k: usize, out: *mut u8, out_room: usize) -> PlaneDone;
+    fn plane_restore(
+        buffer: *const u8,
+        room: usize,
+        k: usize,
+        out: *mut u8,
+        out_room: usize,
+    ) -> PlaneDone;
 }
 
 pub fn classify(word: u16) -> u32 {
@@ -167,8 +200,24 @@ pub fn event(frame: &[u8], ordinal: usize) -> PlaneEvent {
     unsafe { plane_event(frame.as_ptr(), frame.len(), ordinal) }
 }
 
-pub fn samples(frame: &[u8], ordinal: usize, chip: u16, channel: u16, out: &mut [u16]) -> PlaneDone {
-    unsafe { plane_samples(frame.as_ptr(), frame.len(), ordinal, chip, channel, out.as_mut_ptr(), out.len()) }
+pub fn samples(
+    frame: &[u8],
+    ordinal: usize,
+    chip: u16,
+    channel: u16,
+    out: &mut [u16],
+) -> PlaneDone {
+    unsafe {
+        plane_samples(
+            frame.as_ptr(),
+            frame.len(),
+            ordinal,
+            chip,
+            channel,
+            out.as_mut_ptr(),
+            out.len(),
+        )
+    }
 }
 
 pub fn counts(frame: &[u8], chip: u16, channel: u16, out: &mut [u32]) -> PlaneDone {

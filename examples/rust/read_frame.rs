@@ -4,7 +4,8 @@ use plane_record::{event, item, read, samples, PlaneItem};
 
 /// Case 3 of document 01.
 const WORDS: [u16; 17] = [
-    0x0805, 0x0022, 0x0100, 0x00F1, 0x03E8, 0x0000, 0x0000, 0x0007, 0x0000, 0xCB0A, 0x0E03, 0x30FA, 0x30FB, 0x00E0, 0x001A, 0x0000, 0x000F,
+    0x0805, 0x0022, 0x0100, 0x00F1, 0x03E8, 0x0000, 0x0000, 0x0007, 0x0000, 0xCB0A, 0x0E03, 0x30FA,
+    0x30FB, 0x00E0, 0x001A, 0x0000, 0x000F,
 ];
 
 fn shown(x: PlaneItem) -> String {
@@ -25,7 +26,13 @@ fn list(frame: &[u8]) {
         return;
     }
     let kind = ["?", "D", "M", "C"][f.kind as usize];
-    println!("frame {kind} card {} seq {:04X} bytes {} items {}", f.card, f.sequence, frame.len(), f.items);
+    println!(
+        "frame {kind} card {} seq {:04X} bytes {} items {}",
+        f.card,
+        f.sequence,
+        frame.len(),
+        f.items
+    );
     let mut word = 3;
     for n in 0..f.items {
         let found = item(frame, n);

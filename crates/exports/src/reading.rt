@@ -122,66 +122,56 @@ fn flat_item(item: Item) -> PlaneItem
     ensures { λ r. ⌜ r ≡ flatItem (viewItem item) ⌝ }
 {
     match item {
-        Item::Channel(x) => {
-            let mut flat = blank_item(1);
-            flat.card = x.card;
-            flat.chip = x.chip;
-            flat.channel = x.channel;
-            flat
-        }
-        Item::Histogram(x) => {
-            let mut flat = blank_item(2);
-            flat.card = x.card;
-            flat.chip = x.chip;
-            flat.channel = x.channel;
-            flat
-        }
-        Item::HitCount(x) => {
-            let mut flat = blank_item(3);
-            flat.card = x.card;
-            flat.chip = x.chip;
-            flat.hits = x.count;
-            flat
-        }
-        Item::Sample(x) => {
-            let mut flat = blank_item(4);
-            flat.value = x.value;
-            flat
-        }
-        Item::Bin(x) => {
-            let mut flat = blank_item(5);
-            flat.bin = x.bin;
-            flat.count = x.count;
-            flat
-        }
-        Item::LastCell(x) => {
-            let mut flat = blank_item(6);
-            flat.chip = x.chip;
-            flat.cell = x.cell;
-            flat
-        }
-        Item::TimeBin(x) => {
-            let mut flat = blank_item(7);
-            flat.time = x.time;
-            flat
-        }
-        Item::Text(x) => {
-            let mut flat = blank_item(11);
-            flat.length = x.length;
-            flat
-        }
-        Item::StartEvent(x) => {
-            let mut flat = blank_item(12);
-            flat.kind = x.kind;
-            flat.timestamp = x.timestamp;
-            flat.number = x.number;
-            flat
-        }
-        Item::EndEvent(x) => {
-            let mut flat = blank_item(13);
-            flat.size = x.size;
-            flat
-        }
+        Item::Channel(x) => PlaneItem {
+            card: x.card,
+            chip: x.chip,
+            channel: x.channel,
+            ..blank_item(1)
+        },
+        Item::Histogram(x) => PlaneItem {
+            card: x.card,
+            chip: x.chip,
+            channel: x.channel,
+            ..blank_item(2)
+        },
+        Item::HitCount(x) => PlaneItem {
+            card: x.card,
+            chip: x.chip,
+            hits: x.count,
+            ..blank_item(3)
+        },
+        Item::Sample(x) => PlaneItem {
+            value: x.value,
+            ..blank_item(4)
+        },
+        Item::Bin(x) => PlaneItem {
+            bin: x.bin,
+            count: x.count,
+            ..blank_item(5)
+        },
+        Item::LastCell(x) => PlaneItem {
+            chip: x.chip,
+            cell: x.cell,
+            ..blank_item(6)
+        },
+        Item::TimeBin(x) => PlaneItem {
+            time: x.time,
+            ..blank_item(7)
+        },
+        Item::Text(x) => PlaneItem {
+            length: x.length,
+            ..blank_item(11)
+        },
+        Item::StartEvent(x) => PlaneItem {
+            kind: x.kind,
+            timestamp: x.timestamp,
+            number: x.number,
+            ..blank_item(12)
+        },
+        Item::EndEvent(x) => PlaneItem {
+            size: x.size,
+            ..blank_item(13)
+        },
     }
 }
 
