@@ -6,25 +6,20 @@
 long read(int from, void *to, usize n);
 int printf(const char *format, ...);
 
-enum { CARD = 5, HISTOGRAMS = 316, BINS_EACH = 300 };
+enum { CARD = 5, EACH = 456 };
 
-// The bins of a histogram, as many as fit.
-static void put_bins(u8 *buf, usize room, struct draft *d, u32 round) {
-    for (u32 k = 0; k < BINS_EACH; k++) {
-        const struct item x = { BIN, 0, { k * 8 + round % 8, round * 256 + k + 1 } };
-        if (put(buf, room, d, x).number) return;
-    }
+// The k-th item of the n-th histogram, the header being the first: chips in order, 79 channels each.
+static inline struct item item_at(u32 n, u32 k, u32 round) {
+    if (k == 0) return (struct item){ HISTOGRAM, 0, { CARD, n / 79, n % 79 } };
+    return (struct item){ BIN, 0, { k * 8 + round % 8, round * 256 + k } };
 }
 
-// Histograms of a monitor frame, up to the first that does not fit; the length reached.
+// Histograms of a monitor frame, by the step, up to the first item that does not fit; the length reached.
 static usize put_frame(u8 *buf, usize room, u32 round) {
     struct draft d = { 0 };
     if (baseline_begin(buf, room, 'M', CARD, round % 256, &d).number) return 0;
-    for (u32 n = 0; n < HISTOGRAMS; n++) {
-        const struct item x = { HISTOGRAM, 0, { CARD, n / 79, n % 79 } };
-        if (put(buf, room, &d, x).number) return d.length;
-        put_bins(buf, room, &d, round);
-    }
+    for (u32 i = 0, k = 0; i < 5000; i++, k = k < EACH - 1 ? k + 1 : 0)
+        if (put(buf, room, &d, item_at(i / EACH, k, round)).number) break;
     return d.length;
 }
 

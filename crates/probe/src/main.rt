@@ -1,6 +1,7 @@
 // Fills monitor frames by the writer's step, for the measurements (bench/), whose fill.c does the same by its baseline. Six bytes on standard
 // input, words low byte first: how many frames, of how many bytes at most, and 1 where each is closed (else only the last is). Every frame has
 // other bins and counts. Prints the last frame's length and a sum of its bytes.
+ghost use Prim.Native.Nat.{_<_};
 use book::items::Bin;
 use book::items::Histogram;
 use book::items::Item;
@@ -15,89 +16,65 @@ use writer::steps::put;
 
 const CARD: u16 = 5;
 
-// How far a frame has come, and whether the latest item went in.
-struct Progress {
-    length: usize,
-    state: State,
-    went: bool,
-}
+// How many items of a frame are one histogram: its header and 455 bins.
+const EACH: u32 = 456;
 
-fn step(buf: &mut [u8], p: Progress, item: Item) -> Progress {
-    let state = p.state;
-    let answer = put(buf, p.length, CARD, state, item);
-    match answer {
-        Put::Reached(length, after) => Progress {
-            length,
-            state: after,
-            went: true,
-        },
-        Put::Refused(_) => Progress {
-            length: p.length,
-            state,
-            went: false,
-        },
+// The k-th item of the n-th histogram, the header being the first: chips in order, 79 channels each.
+fn item_at(n: u32, k: u32, round: u16) -> Item
+    requires { ⌜ (n < 5000) × (k < 456) ⌝ }
+{
+    if k == 0 {
+        return Item::Histogram(Histogram {
+            card: CARD,
+            chip: (n / 79) as u16,
+            channel: (n % 79) as u16,
+        });
     }
-}
-
-// The k-th bin of a histogram.
-fn bin(k: u16, round: u16) -> Item {
-    let small = k % 512;
+    let wide = round as u32;
     Item::Bin(Bin {
-        bin: small * 8 + round % 8,
-        count: round as u32 * 256 + small as u32 + 1,
+        bin: (k * 8 + wide % 8) as u16,
+        count: wide * 256 + k,
     })
 }
 
-// The n-th header of a frame: chips in order, 79 channels each.
-fn header(n: u16) -> Item {
-    Item::Histogram(Histogram {
-        card: CARD,
-        chip: n / 79,
-        channel: n % 79,
-    })
+// Which item of a histogram comes after item k.
+fn after(k: u32) -> u32
+    ensures { λ r. ⌜ r < 456 ⌝ }
+{
+    if k < EACH - 1 {
+        return k + 1;
+    }
+    0
 }
 
-// The bins of a histogram, as many as fit.
-fn put_bins(buf: &mut [u8], from: Progress, round: u16) -> Progress {
-    let mut p = from;
-    let mut k: u16 = 0;
-    while k < 300 {
-        p = step(buf, p, bin(k, round));
-        if !p.went {
-            return p;
+// Histograms of a monitor frame, by the step, up to the first item that does not fit; the length reached.
+fn put_items(buf: &mut [u8], begun: usize, round: u16) -> usize {
+    let mut reached = begun;
+    let mut st = State::start(Kind::Monitor);
+    let mut i: u32 = 0;
+    let mut k: u32 = 0;
+    while i < 5000 {
+        let answer = put(buf, reached, CARD, st, item_at(i / EACH, k, round));
+        match answer {
+            Put::Reached(length, state) => {
+                reached = length;
+                st = state;
+            }
+            Put::Refused(_) => {
+                return reached;
+            }
         }
-        k += 1;
+        i += 1;
+        k = after(k);
     }
-    p
-}
-
-// Histograms of a monitor frame, up to the first that does not fit; the length reached.
-fn put_histograms(buf: &mut [u8], from: Progress, round: u16) -> usize {
-    let mut p = from;
-    let mut n: u16 = 0;
-    while n < 316 {
-        p = step(buf, p, header(n));
-        if !p.went {
-            return p.length;
-        }
-        p = put_bins(buf, p, round);
-        n += 1;
-    }
-    p.length
+    reached
 }
 
 fn put_frame(buf: &mut [u8], round: u16) -> usize {
     let answer = begin(buf, Kind::Monitor, CARD, round % 256);
     match answer {
         Written::Refused(_) => 0,
-        Written::Length(length) => {
-            let start = Progress {
-                length,
-                state: State::start(Kind::Monitor),
-                went: true,
-            };
-            put_histograms(buf, start, round)
-        }
+        Written::Length(length) => put_items(buf, length, round),
     }
 }
 
