@@ -1,0 +1,23 @@
+-- `exports::asking::flat_event` meets its contract.
+-- Assumes nothing.
+use Rattle.exports.specs.Flat.{flatEvent}
+use borrow.Author.Needs.{needs}
+use Rattle.exports.proofs.asking.flat_event.Statement.{statement}
+use Rattle.exports.proofs.asking.flat_event.Tie as tie
+
+enum-known-found : tie.Need-enum-known-found
+enum-known-found c = search needs
+
+enum-known-found-2 : tie.Need-enum-known-found-2
+enum-known-found-2 c = search needs
+
+returns : tie.Need-returns
+unfolding flatEvent
+returns c = rw (c .before .found .given .1)
+
+returns-2 : tie.Need-returns-2
+unfolding flatEvent
+returns-2 c = rw (c .before .found2 .given .1)
+
+pub flat-event-spec : {M : Type 1} → statement M
+flat-event-spec = tie.close (tie.spec enum-known-found enum-known-found-2 returns returns-2)

@@ -1,0 +1,23 @@
+-- `exports::records::flat_record` meets its contract.
+-- Assumes nothing.
+use Rattle.exports.specs.Flat.{flatRecord}
+use borrow.Author.Needs.{needs}
+use Rattle.exports.proofs.records.flat_record.Statement.{statement}
+use Rattle.exports.proofs.records.flat_record.Tie as tie
+
+enum-known-found : tie.Need-enum-known-found
+enum-known-found c = search needs
+
+enum-known-found-2 : tie.Need-enum-known-found-2
+enum-known-found-2 c = search needs
+
+returns : tie.Need-returns
+unfolding flatRecord
+returns c = rw (c .before .found .given .1)
+
+returns-2 : tie.Need-returns-2
+unfolding flatRecord
+returns-2 c = rw (c .before .found2 .given .1)
+
+pub flat-record-spec : {M : Type 1} → statement M
+flat-record-spec = tie.close (tie.spec enum-known-found enum-known-found-2 returns returns-2)

@@ -1,0 +1,120 @@
+-- The flat answers: what document 01's answers are as structs of C. `refused` is 0 for an accepted answer, else the number of the refusal, beside
+-- its place; what an answer does not use is 0.
+-- Assumes nothing.
+use Prim.Native.Nat.{ℕ}
+use Rattle.format.specs.Answers as answers
+use Rattle.format.specs.Answers.{Outcome}
+use Rattle.format.specs.Book as book
+use Rattle.format.specs.Items.{ItemOf, Channel, Histogram, HitCount, Sample, Bin, LastCell, TimeBin, Text, StartEvent, EndEvent}
+use Rattle.format.specs.Rules.{Kind, dataKind, monitorKind, commandKind}
+use Rattle.format.specs.Steps.{Overview}
+use Rattle.format.specs.Questions.{Shown, Event}
+use Rattle.follower.specs.Follow as follow
+use Rattle.ledger.specs.Formats as formats
+use Rattle.ledger.specs.Calls.{Summary}
+use Rattle.exports.specs.declared.answers.PlaneDone.{PlaneDone}
+use Rattle.exports.specs.declared.answers.PlaneFrame.{PlaneFrame}
+use Rattle.exports.specs.declared.answers.PlaneItem.{PlaneItem}
+use Rattle.exports.specs.declared.answers.PlaneFound.{PlaneFound}
+use Rattle.exports.specs.declared.answers.PlaneEvent.{PlaneEvent}
+use Rattle.exports.specs.declared.answers.PlaneWritten.{PlaneWritten}
+use Rattle.exports.specs.declared.answers.PlaneFollower.{PlaneFollower}
+use Rattle.exports.specs.declared.answers.PlaneFollowed.{PlaneFollowed}
+use Rattle.exports.specs.declared.answers.PlaneRecord.{PlaneRecord}
+use Rattle.exports.specs.declared.answers.PlaneEntry.{PlaneEntry}
+
+-- the row of a class in document 01's word book
+abbrev pub classNumber : book.Class → ℕ
+classNumber book.channel = 1
+classNumber book.histogram = 2
+classNumber book.hitCount = 3
+classNumber book.sample = 4
+classNumber book.bin = 5
+classNumber book.lastCell = 6
+classNumber book.timeBin = 7
+classNumber book.dataFrame = 8
+classNumber book.monitorFrame = 9
+classNumber book.commandFrame = 10
+classNumber book.text = 11
+classNumber book.startEvent = 12
+classNumber book.endEvent = 13
+classNumber book.frameEnd = 14
+classNumber book.unassigned = 0
+
+abbrev pub kindNumber : Kind → ℕ
+kindNumber dataKind = 1
+kindNumber monitorKind = 2
+kindNumber commandKind = 3
+
+abbrev pub flatDone : answers.Done → PlaneDone
+flatDone (answers.accepted u) = record { refused = 0; place = 0 }
+flatDone (answers.refused n p) = record { refused = n; place = p }
+
+unfoldable pub flatFrame : Outcome Overview → PlaneFrame
+flatFrame (answers.accepted f) = record { refused = 0; place = 0; kind = kindNumber (f .kind); card = f .card; sequence = f .sequence; items = f .items }
+flatFrame (answers.refused n p) = record { refused = n; place = p; kind = 0; card = 0; sequence = 0; items = 0 }
+
+-- an item's fields in one row, by the order of the struct
+abbrev pub row : ℕ → ℕ → ℕ → ℕ → ℕ → ℕ → ℕ → ℕ → ℕ → ℕ → ℕ → ℕ → ℕ → ℕ → ℕ → PlaneItem
+row class card chip channel hits value bin cell time length kind count number size timestamp = record {
+  «item_class» = class;
+  card = card;
+  chip = chip;
+  channel = channel;
+  hits = hits;
+  value = value;
+  bin = bin;
+  cell = cell;
+  time = time;
+  length = length;
+  kind = kind;
+  count = count;
+  number = number;
+  size = size;
+  timestamp = timestamp;
+}
+
+abbrev pub blank : ℕ → PlaneItem
+blank class = row class 0 0 0 0 0 0 0 0 0 0 0 0 0 0
+
+-- class, card, chip, channel, hits, value, bin, cell, time, length, kind, count, number, size, timestamp
+unfoldable pub flatItem : ItemOf ℕ → PlaneItem
+flatItem (Channel a b c) = row 1 a b c 0 0 0 0 0 0 0 0 0 0 0
+flatItem (Histogram a b c) = row 2 a b c 0 0 0 0 0 0 0 0 0 0 0
+flatItem (HitCount a b n) = row 3 a b 0 n 0 0 0 0 0 0 0 0 0 0
+flatItem (Sample v) = row 4 0 0 0 0 v 0 0 0 0 0 0 0 0 0
+flatItem (Bin b n) = row 5 0 0 0 0 0 b 0 0 0 0 n 0 0 0
+flatItem (LastCell b c) = row 6 0 b 0 0 0 0 c 0 0 0 0 0 0 0
+flatItem (TimeBin t) = row 7 0 0 0 0 0 0 0 t 0 0 0 0 0 0
+flatItem (Text n) = row 11 0 0 0 0 0 0 0 0 n 0 0 0 0 0
+flatItem (StartEvent k ts n) = row 12 0 0 0 0 0 0 0 0 0 k 0 n 0 ts
+flatItem (EndEvent n) = row 13 0 0 0 0 0 0 0 0 0 0 0 0 n 0
+
+unfoldable pub flatFound : Outcome Shown → PlaneFound
+flatFound (answers.accepted x) = record { refused = 0; place = 0; next = x .next; item = flatItem (x .item) }
+flatFound (answers.refused n p) = record { refused = n; place = p; next = 0; item = blank 0 }
+
+unfoldable pub flatEvent : Outcome Event → PlaneEvent
+flatEvent (answers.accepted v) = record { refused = 0; place = 0; kind = v .kind; timestamp = v .timestamp; number = v .number; size = v .size; index = v .index }
+flatEvent (answers.refused n p) = record { refused = n; place = p; kind = 0; timestamp = 0; number = 0; size = 0; index = 0 }
+
+unfoldable pub flatWritten : Outcome ℕ → PlaneWritten
+flatWritten (answers.accepted n) = record { refused = 0; place = 0; length = n }
+flatWritten (answers.refused n p) = record { refused = n; place = p; length = 0 }
+
+abbrev pub flatFollower : follow.State → PlaneFollower
+flatFollower follow.idle = record { expecting = 0; number = 0 }
+flatFollower (follow.expecting e) = record { expecting = 1; number = e }
+
+-- "a refusal leaves it as it was": the follower that was given
+unfoldable pub flatFollowed : PlaneFollower → follow.Answer → PlaneFollowed
+flatFollowed given (follow.accepted lost next) = record { refused = 0; place = 0; lost = lost; next = flatFollower next }
+flatFollowed given (follow.refused n p) = record { refused = n; place = p; lost = 0; next = given }
+
+unfoldable pub flatRecord : Outcome Summary → PlaneRecord
+flatRecord (answers.accepted x) = record { refused = 0; place = 0; length = x .length; count = x .count; total = x .total }
+flatRecord (answers.refused n p) = record { refused = n; place = p; length = 0; count = 0; total = 0 }
+
+unfoldable pub flatEntry : Outcome formats.Entry → PlaneEntry
+flatEntry (answers.accepted e) = record { refused = 0; place = 0; word = e .word; kind = e .kind; «old_value» = e .old; «new_value» = e .new; «operator_id» = e .operator; reason = e .reason }
+flatEntry (answers.refused n p) = record { refused = n; place = p; word = 0; kind = 0; «old_value» = 0; «new_value» = 0; «operator_id» = 0; reason = 0 }

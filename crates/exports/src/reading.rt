@@ -1,0 +1,241 @@
+// The class of a word, and the questions on a frame and its items.
+ghost use mathlib.Core.Path.{_≡_};
+ghost use Rattle.format.specs.Book.{classOf};
+ghost use Rattle.format.specs.Steps.{readOf};
+ghost use Rattle.format.specs.Questions.{shownAt};
+ghost use Rattle.book.specs.Views.{view, viewItem};
+ghost use Rattle.frame.specs.Views.{viewKind, viewReading, viewFound};
+ghost use Rattle.exports.specs.Flat.{classNumber, kindNumber, blank, flatItem, flatFrame, flatFound};
+ghost use Rattle.exports.specs.Promises.{TextPart};
+use crate::answers::PlaneFound;
+use crate::answers::PlaneFrame;
+use crate::answers::PlaneItem;
+use crate::answers::PlaneText;
+use book::class::Class;
+use book::class::classify;
+use book::items::Item;
+use frame::items::Found;
+use frame::items::item;
+use frame::reading::Reading;
+use frame::reading::read;
+use frame::state::Kind;
+
+// The row of a class in document 01's word book, from 1 on; 0 where a word has none.
+fn class_number(class: Class) -> u32
+    ensures { λ r. ⌜ r ≡ classNumber (view class) ⌝ }
+{
+    match class {
+        Class::Channel => 1,
+        Class::Histogram => 2,
+        Class::HitCount => 3,
+        Class::Sample => 4,
+        Class::Bin => 5,
+        Class::LastCell => 6,
+        Class::TimeBin => 7,
+        Class::DataFrame => 8,
+        Class::MonitorFrame => 9,
+        Class::CommandFrame => 10,
+        Class::Text => 11,
+        Class::StartEvent => 12,
+        Class::EndEvent => 13,
+        Class::FrameEnd => 14,
+        Class::Unassigned => 0,
+    }
+}
+
+// The class of a word.
+#[no_mangle]
+pub extern "C" fn plane_classify(word: u16) -> u32
+    ensures { λ r. ⌜ r ≡ classNumber (classOf word) ⌝ }
+{
+    class_number(classify(word))
+}
+
+fn kind_number(kind: Kind) -> u16
+    ensures { λ r. ⌜ r ≡ kindNumber (viewKind kind) ⌝ }
+{
+    match kind {
+        Kind::Data => 1,
+        Kind::Monitor => 2,
+        Kind::Command => 3,
+    }
+}
+
+fn flat_frame(reading: Reading) -> PlaneFrame
+    ensures { λ r. ⌜ r ≡ flatFrame (viewReading reading) ⌝ }
+{
+    match reading {
+        Reading::Accepted(frame) => {
+            let kind = frame.kind;
+            PlaneFrame {
+                refused: 0,
+                place: 0,
+                kind: kind_number(kind),
+                card: frame.card,
+                sequence: frame.sequence,
+                items: frame.items,
+            }
+        }
+        Reading::Refused(r) => PlaneFrame {
+            refused: r.number,
+            place: r.place,
+            kind: 0,
+            card: 0,
+            sequence: 0,
+            items: 0,
+        },
+    }
+}
+
+// Whether the bytes are a frame, and of what kind, card, sequence word and number of items: `frame::read`.
+#[no_mangle]
+pub extern "C" fn plane_read(frame: &[u8]) -> PlaneFrame
+    ensures { λ r. ⌜ r ≡ flatFrame (readOf (now (frame .entry))) ⌝ }
+{
+    flat_frame(read(frame))
+}
+
+// An item of a class, all its fields 0.
+fn blank_item(class: u32) -> PlaneItem
+    ensures { λ r. ⌜ r ≡ blank class ⌝ }
+{
+    PlaneItem {
+        item_class: class,
+        card: 0,
+        chip: 0,
+        channel: 0,
+        hits: 0,
+        value: 0,
+        bin: 0,
+        cell: 0,
+        time: 0,
+        length: 0,
+        kind: 0,
+        count: 0,
+        number: 0,
+        size: 0,
+        timestamp: 0,
+    }
+}
+
+fn flat_item(item: Item) -> PlaneItem
+    ensures { λ r. ⌜ r ≡ flatItem (viewItem item) ⌝ }
+{
+    match item {
+        Item::Channel(x) => {
+            let mut flat = blank_item(1);
+            flat.card = x.card;
+            flat.chip = x.chip;
+            flat.channel = x.channel;
+            flat
+        }
+        Item::Histogram(x) => {
+            let mut flat = blank_item(2);
+            flat.card = x.card;
+            flat.chip = x.chip;
+            flat.channel = x.channel;
+            flat
+        }
+        Item::HitCount(x) => {
+            let mut flat = blank_item(3);
+            flat.card = x.card;
+            flat.chip = x.chip;
+            flat.hits = x.count;
+            flat
+        }
+        Item::Sample(x) => {
+            let mut flat = blank_item(4);
+            flat.value = x.value;
+            flat
+        }
+        Item::Bin(x) => {
+            let mut flat = blank_item(5);
+            flat.bin = x.bin;
+            flat.count = x.count;
+            flat
+        }
+        Item::LastCell(x) => {
+            let mut flat = blank_item(6);
+            flat.chip = x.chip;
+            flat.cell = x.cell;
+            flat
+        }
+        Item::TimeBin(x) => {
+            let mut flat = blank_item(7);
+            flat.time = x.time;
+            flat
+        }
+        Item::Text(x) => {
+            let mut flat = blank_item(11);
+            flat.length = x.length;
+            flat
+        }
+        Item::StartEvent(x) => {
+            let mut flat = blank_item(12);
+            flat.kind = x.kind;
+            flat.timestamp = x.timestamp;
+            flat.number = x.number;
+            flat
+        }
+        Item::EndEvent(x) => {
+            let mut flat = blank_item(13);
+            flat.size = x.size;
+            flat
+        }
+    }
+}
+
+fn flat_found(found: Found) -> PlaneFound
+    ensures { λ r. ⌜ r ≡ flatFound (viewFound found) ⌝ }
+{
+    match found {
+        Found::Item(x) => {
+            let item = x.item;
+            let flat = flat_item(item);
+            PlaneFound {
+                refused: 0,
+                place: 0,
+                next: x.next,
+                item: flat,
+            }
+        }
+        Found::Refused(r) => {
+            let flat = blank_item(0);
+            PlaneFound {
+                refused: r.number,
+                place: r.place,
+                next: 0,
+                item: flat,
+            }
+        }
+    }
+}
+
+// Item n of a frame, from 0: `frame::item`.
+#[no_mangle]
+pub extern "C" fn plane_item(frame: &[u8], n: usize) -> PlaneFound
+    ensures { λ r. ⌜ r ≡ flatFound (shownAt (now (frame .entry)) n) ⌝ }
+{
+    flat_found(item(frame, n))
+}
+
+// Where the bytes of the text that is item n lie, without the final zero, in the frame itself: right after the text's word. An export cannot answer
+// with the part that `frame::text` gives, so its place is worked out from the item question, as that function does.
+#[no_mangle]
+pub extern "C" fn plane_text(frame: &[u8], n: usize) -> PlaneText
+    ensures { λ r. ⌜ TextPart (now (frame .entry)) n r ⌝ }
+{
+    let found = flat_found(item(frame, n));
+    let flat = found.item;
+    let count = flat.length as usize;
+    if count < 1 {
+        return PlaneText {
+            offset: 0,
+            length: 0,
+        };
+    }
+    PlaneText {
+        offset: 2 * (found.next - (count + 1) / 2),
+        length: count - 1,
+    }
+}

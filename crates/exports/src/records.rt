@@ -1,0 +1,132 @@
+// The calls on a record.
+ghost use mathlib.Core.Path.{_≡_};
+ghost use Rattle.ledger.specs.Calls.{recordAnswer, entryAnswer};
+ghost use Rattle.ledger.specs.First.{first};
+ghost use Rattle.ledger.specs.House.{house};
+ghost use Rattle.plane.specs.Views.{viewRecord, viewEntry};
+ghost use Rattle.editor.specs.Views.{viewDone};
+ghost use Rattle.exports.specs.Flat.{flatDone, flatRecord, flatEntry};
+ghost use Rattle.exports.specs.Given.{asked};
+ghost use Rattle.exports.specs.Promises.{Opened, Edited, Restored};
+use crate::answers::PlaneCorrection;
+use crate::answers::PlaneDone;
+use crate::answers::PlaneEntry;
+use crate::answers::PlaneRecord;
+use editor::answers::Done;
+use editor::editing::Correction;
+use editor::editing::edit;
+use editor::opening::open;
+use editor::restoring::restore;
+use plane::answers::EntryFound;
+use plane::answers::RecordFound;
+use plane::entry;
+use plane::record;
+
+fn flat_record(found: RecordFound) -> PlaneRecord
+    ensures { λ r. ⌜ r ≡ flatRecord (viewRecord found) ⌝ }
+{
+    match found {
+        RecordFound::Record(x) => PlaneRecord {
+            refused: 0,
+            place: 0,
+            length: x.length,
+            count: x.count,
+            total: x.total,
+        },
+        RecordFound::Refused(r) => PlaneRecord {
+            refused: r.number,
+            place: r.place,
+            length: 0,
+            count: 0,
+            total: 0,
+        },
+    }
+}
+
+// Whether a buffer begins with a record, and of what lengths and entry count: `plane::record`.
+#[no_mangle]
+pub extern "C" fn plane_record(buffer: &[u8]) -> PlaneRecord
+    ensures { λ r. ⌜ r ≡ flatRecord (recordAnswer house first (now (buffer .entry))) ⌝ }
+{
+    flat_record(record(buffer))
+}
+
+fn flat_entry(found: EntryFound) -> PlaneEntry
+    ensures { λ r. ⌜ r ≡ flatEntry (viewEntry found) ⌝ }
+{
+    match found {
+        EntryFound::Entry(x) => PlaneEntry {
+            refused: 0,
+            place: 0,
+            word: x.word,
+            kind: x.kind,
+            old_value: x.old,
+            new_value: x.new,
+            operator_id: x.operator,
+            reason: x.reason,
+        },
+        EntryFound::Refused(r) => PlaneEntry {
+            refused: r.number,
+            place: r.place,
+            word: 0,
+            kind: 0,
+            old_value: 0,
+            new_value: 0,
+            operator_id: 0,
+            reason: 0,
+        },
+    }
+}
+
+// Entry n of a record, 1 the oldest: `plane::entry`.
+#[no_mangle]
+pub extern "C" fn plane_entry(buffer: &[u8], n: usize) -> PlaneEntry
+    ensures { λ r. ⌜ r ≡ flatEntry (entryAnswer house first (now (buffer .entry)) n) ⌝ }
+{
+    flat_entry(entry(buffer, n))
+}
+
+fn flat_done(done: Done) -> PlaneDone
+    ensures { λ r. ⌜ r ≡ flatDone (viewDone done) ⌝ }
+{
+    match done {
+        Done::Accepted => PlaneDone {
+            refused: 0,
+            place: 0,
+        },
+        Done::Refused(r) => PlaneDone {
+            refused: r.number,
+            place: r.place,
+        },
+    }
+}
+
+// Opens a record of the frame at the start of the buffer: `editor::open`.
+#[no_mangle]
+pub extern "C" fn plane_open(buffer: &mut [u8], frame: &[u8]) -> PlaneDone
+    ensures { λ r. ⌜ Opened (now (frame .entry)) (now (buffer .entry)) r (now (buffer .exit)) ⌝ }
+{
+    flat_done(open(buffer, frame))
+}
+
+// Edits the record in the buffer: `editor::edit`.
+#[no_mangle]
+pub extern "C" fn plane_edit(buffer: &mut [u8], correction: PlaneCorrection) -> PlaneDone
+    ensures { λ r. ⌜ Edited (now (buffer .entry)) (asked correction) r (now (buffer .exit)) ⌝ }
+{
+    let c = Correction {
+        word: correction.word,
+        value: correction.value,
+        operator: correction.operator_id,
+        reason: correction.reason,
+    };
+    flat_done(edit(buffer, c))
+}
+
+// Restores the frame of a record as it stood after its first k edits, to the start of `out`: `editor::restore`.
+#[no_mangle]
+pub extern "C" fn plane_restore(buffer: &[u8], k: usize, out: &mut [u8]) -> PlaneDone
+    ensures { λ r. ⌜ Restored (now (buffer .entry)) k (now (out .entry)) r (now (out .exit)) ⌝ }
+{
+    flat_done(restore(buffer, k, out))
+}

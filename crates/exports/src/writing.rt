@@ -1,0 +1,169 @@
+// The writer's calls on a partial frame in a lent buffer.
+ghost use mathlib.Core.Path.{_≡_};
+ghost use Rattle.format.specs.Items as items;
+ghost use Rattle.format.specs.Items.{whole, flawed};
+ghost use Rattle.format.specs.Writing.{addAnswer, addLeft, closeAnswer, closeLeft};
+ghost use Rattle.writer.specs.Views.{viewWritten};
+ghost use Rattle.exports.specs.Flat.{flatWritten};
+ghost use Rattle.exports.specs.Given.{kindOf, begun, begunLeft, viewGiven, tokenOf};
+ghost use Rattle.exports.specs.Promises.{Leaves};
+use crate::answers::PlaneItem;
+use crate::answers::PlaneWritten;
+use book::items::Bin;
+use book::items::Channel;
+use book::items::EndEvent;
+use book::items::Histogram;
+use book::items::HitCount;
+use book::items::Item;
+use book::items::LastCell;
+use book::items::Sample;
+use book::items::StartEvent;
+use book::items::Text;
+use book::items::TimeBin;
+use book::refusal::Refusal;
+use frame::begun::Partial;
+use frame::partial::partial;
+use frame::state::Kind;
+use writer::answers::Written;
+use writer::calls::add;
+use writer::calls::add_text;
+use writer::calls::begin;
+use writer::calls::close;
+
+fn flat_written(written: Written) -> PlaneWritten
+    ensures { λ r. ⌜ r ≡ flatWritten (viewWritten written) ⌝ }
+{
+    match written {
+        Written::Length(length) => PlaneWritten {
+            refused: 0,
+            place: 0,
+            length,
+        },
+        Written::Refused(r) => PlaneWritten {
+            refused: r.number,
+            place: r.place,
+            length: 0,
+        },
+    }
+}
+
+// Begins a partial frame: `writer::begin`. A kind that is not 1, 2 or 3 is refused first, by 2.
+#[no_mangle]
+pub extern "C" fn plane_begin(
+    buffer: &mut [u8],
+    kind: u16,
+    card: u16,
+    sequence: u16,
+) -> PlaneWritten
+    ensures { λ r. ⌜ Leaves (flatWritten (begun (kindOf kind) (now (buffer .entry)) card sequence)) (begunLeft (kindOf kind) (now (buffer .entry)) card sequence) r (now (buffer .exit)) ⌝ }
+{
+    match kind {
+        1 => flat_written(begin(buffer, Kind::Data, card, sequence)),
+        2 => flat_written(begin(buffer, Kind::Monitor, card, sequence)),
+        3 => flat_written(begin(buffer, Kind::Command, card, sequence)),
+        _ => PlaneWritten {
+            refused: Refusal::KIND,
+            place: 0,
+            length: 0,
+        },
+    }
+}
+
+// What a flat item says: an item, or the number that its class is refused by.
+enum Given {
+    Item(Item),
+    Flawed(u32),
+}
+
+// Frame starts and Frame end are never items: 8. A number that no class has is 6.
+fn item_given(x: PlaneItem) -> Given
+    ensures { λ r. ⌜ viewGiven r ≡ tokenOf x ⌝ }
+{
+    let class = x.item_class;
+    match class {
+        1 => Given::Item(Item::Channel(Channel {
+            card: x.card,
+            chip: x.chip,
+            channel: x.channel,
+        })),
+        2 => Given::Item(Item::Histogram(Histogram {
+            card: x.card,
+            chip: x.chip,
+            channel: x.channel,
+        })),
+        3 => Given::Item(Item::HitCount(HitCount {
+            card: x.card,
+            chip: x.chip,
+            count: x.hits,
+        })),
+        4 => Given::Item(Item::Sample(Sample { value: x.value })),
+        5 => Given::Item(Item::Bin(Bin {
+            bin: x.bin,
+            count: x.count,
+        })),
+        6 => Given::Item(Item::LastCell(LastCell {
+            chip: x.chip,
+            cell: x.cell,
+        })),
+        7 => Given::Item(Item::TimeBin(TimeBin { time: x.time })),
+        8 => Given::Flawed(Refusal::PLACE),
+        9 => Given::Flawed(Refusal::PLACE),
+        10 => Given::Flawed(Refusal::PLACE),
+        11 => Given::Item(Item::Text(Text { length: x.length })),
+        12 => Given::Item(Item::StartEvent(StartEvent {
+            kind: x.kind,
+            timestamp: x.timestamp,
+            number: x.number,
+        })),
+        13 => Given::Item(Item::EndEvent(EndEvent { size: x.size })),
+        14 => Given::Flawed(Refusal::PLACE),
+        _ => Given::Flawed(Refusal::CLASS),
+    }
+}
+
+// The answer where no item was handed over: what is wrong with the partial frame, then the number, at the word where the item would start.
+fn refuse_item(buffer: &[u8], length: usize, number: u32) -> PlaneWritten
+    ensures { λ r. ⌜ r ≡ flatWritten (addAnswer (now (buffer .entry)) length (flawed number)) ⌝ }
+{
+    let judged = partial(buffer, length);
+    match judged {
+        Partial::Refused(r) => PlaneWritten {
+            refused: r.number,
+            place: r.place,
+            length: 0,
+        },
+        Partial::Accepted(_frame) => PlaneWritten {
+            refused: number,
+            place: length / 2,
+            length: 0,
+        },
+    }
+}
+
+// Adds an item to the partial frame in the first `length` bytes: `writer::add`.
+#[no_mangle]
+pub extern "C" fn plane_add(buffer: &mut [u8], length: usize, item: PlaneItem) -> PlaneWritten
+    ensures { λ r. ⌜ Leaves (flatWritten (addAnswer (now (buffer .entry)) length (tokenOf item))) (addLeft (now (buffer .entry)) length (tokenOf item)) r (now (buffer .exit)) ⌝ }
+{
+    let said = item_given(item);
+    match said {
+        Given::Item(x) => flat_written(add(buffer, length, x)),
+        Given::Flawed(number) => refuse_item(buffer, length, number),
+    }
+}
+
+// Adds a text, which comes without its final zero: `writer::add_text`.
+#[no_mangle]
+pub extern "C" fn plane_add_text(buffer: &mut [u8], length: usize, text: &[u8]) -> PlaneWritten
+    ensures { λ r. ⌜ Leaves (flatWritten (addAnswer (now (buffer .entry)) length (whole (items.Text (now (text .entry)))))) (addLeft (now (buffer .entry)) length (whole (items.Text (now (text .entry))))) r (now (buffer .exit)) ⌝ }
+{
+    flat_written(add_text(buffer, length, text))
+}
+
+// Closes the partial frame in the first `length` bytes: `writer::close`.
+#[no_mangle]
+pub extern "C" fn plane_close(buffer: &mut [u8], length: usize) -> PlaneWritten
+    ensures { λ r. ⌜ Leaves (flatWritten (closeAnswer (now (buffer .entry)) length)) (closeLeft (now (buffer .entry)) length) r (now (buffer .exit)) ⌝ }
+{
+    flat_written(close(buffer, length))
+}

@@ -1,0 +1,248 @@
+/* The plane record library for C and C++ on x86-64 Linux: frames of 16-bit words are read, written and corrected. Link libexports.a.
+ *
+ * Every call is proved to answer, and to leave in the memory lent to it, exactly what document 01 says, for all bytes and all arguments. It ends,
+ * reads and writes nothing but what it is lent, and keeps nothing: no heap, no globals, so threads may call it at once, each on memory of its own.
+ * Judging a record takes two arrays of 12 KByte together on the stack.
+ *
+ * Answers. `refused` is PLANE_ACCEPTED, 0, or the number of a refusal, with its `place`; any field that an answer does not use is 0. A refused call
+ * has left all lent memory as it was. A place is a word index (from 0) for 6 to 11, an entry's number (from 1) for 21, else 0.
+ *
+ * What the caller owes. Memory is lent by a pointer and a length, in elements. The pointer is not null, also where the length is 0; it is aligned
+ * for its elements, and all of them can be read, and written where it is not const; they take at most PTRDIFF_MAX bytes. Until the call returns
+ * nothing else writes them, and memory lent to be written overlaps nothing else that is lent. Every other argument may be any value.
+ */
+#ifndef PLANE_RECORD_H
+#define PLANE_RECORD_H
+
+#include <stddef.h>
+#include <stdint.h>
+
+#ifdef __cplusplus
+extern "C" {
+#endif
+
+/* The numbered refusals. */
+enum plane_refusal {
+    PLANE_ACCEPTED = 0,
+    PLANE_REFUSED_LENGTH = 1,     /* odd, under 8 or over 8,192 bytes */
+    PLANE_REFUSED_KIND = 2,       /* word 0 is no frame start, or version is not 0 */
+    PLANE_REFUSED_SIZE = 3,       /* word 1 differs from the length */
+    PLANE_REFUSED_SEQUENCE = 4,   /* word 2 above 0x0100 */
+    PLANE_REFUSED_END = 5,        /* last word not 0x000F */
+    PLANE_REFUSED_CLASS = 6,      /* unassigned word begins an item */
+    PLANE_REFUSED_CUT = 7,        /* the words after it reach the last word */
+    PLANE_REFUSED_PLACE = 8,      /* class not allowed here */
+    PLANE_REFUSED_VALUE = 9,      /* a value rule broken */
+    PLANE_REFUSED_ORDER = 10,     /* an order rule broken */
+    PLANE_REFUSED_OPEN = 11,      /* items end inside an event */
+    PLANE_REFUSED_ROOM = 12,      /* the output buffer is too short */
+    PLANE_REFUSED_ABSENT = 13,    /* no such item, event, channel or histogram */
+    PLANE_REFUSED_NO_START = 14,  /* sequence number before a start */
+    PLANE_REFUSED_HEADER = 20,    /* buffer under 16 bytes, a header word wrong, or buffer under the total length */
+    PLANE_REFUSED_ENTRY = 21,     /* a history entry doesn't fit the frame */
+    PLANE_REFUSED_TARGET = 22,    /* the word index is not a Sample's or Bin's first word */
+    PLANE_REFUSED_NEW_VALUE = 23, /* sample over 4,095, bin 0, or the present value */
+    PLANE_REFUSED_SIGNER = 24,    /* operator not 1 to 65,535, or reason not 1 to 5 */
+    PLANE_REFUSED_FULL = 25,      /* 512 entries stand */
+    PLANE_REFUSED_NO_ENTRY = 26   /* k above the entry count */
+};
+
+/* The classes, by their rows in the word book. Frame starts and Frame end are never items. */
+enum plane_class {
+    PLANE_UNASSIGNED = 0,
+    PLANE_CHANNEL = 1,
+    PLANE_HISTOGRAM = 2,
+    PLANE_HIT_COUNT = 3,
+    PLANE_SAMPLE = 4,
+    PLANE_BIN = 5,
+    PLANE_LAST_CELL = 6,
+    PLANE_TIME_BIN = 7,
+    PLANE_DATA_FRAME = 8,
+    PLANE_MONITOR_FRAME = 9,
+    PLANE_COMMAND_FRAME = 10,
+    PLANE_TEXT = 11,
+    PLANE_START_EVENT = 12,
+    PLANE_END_EVENT = 13,
+    PLANE_FRAME_END = 14
+};
+
+/* The kinds of frames, and of the items that an entry corrects. */
+enum plane_kind { PLANE_DATA = 1, PLANE_MONITOR = 2, PLANE_COMMAND = 3 };
+enum plane_corrected { PLANE_CORRECTED_SAMPLE = 1, PLANE_CORRECTED_BIN = 2 };
+
+/* How much the calls ask for and write. */
+enum plane_sizes { PLANE_MOST_FRAME = 8192, PLANE_SAMPLES = 512, PLANE_COUNTS = 4096, PLANE_HEADER_BYTES = 16, PLANE_ENTRY_BYTES = 16, PLANE_MOST_ENTRIES = 512 };
+
+/* ---- the class of a word */
+
+/* One of enum plane_class. */
+uint32_t plane_classify(uint16_t word);
+
+/* ---- frames are read */
+
+struct plane_frame {
+    uint32_t refused;
+    size_t place;
+    uint16_t kind; /* one of enum plane_kind */
+    uint16_t card;
+    uint16_t sequence;
+    size_t items;
+};
+
+/* Whether the bytes are a frame: refused by 1 to 11, or its first words and how many items it has. */
+struct plane_frame plane_read(const uint8_t *frame, size_t length);
+
+/* An item: its class, and the fields that the class has; the others are 0. */
+struct plane_item {
+    uint32_t item_class; /* one of enum plane_class */
+    uint16_t card;       /* Channel, Histogram, Hit count */
+    uint16_t chip;       /* Channel, Histogram, Hit count, Last cell */
+    uint16_t channel;    /* Channel, Histogram */
+    uint16_t hits;       /* Hit count */
+    uint16_t value;      /* Sample */
+    uint16_t bin;        /* Bin */
+    uint16_t cell;       /* Last cell */
+    uint16_t time;       /* Time bin */
+    uint16_t length;     /* Text: its bytes, the final zero included */
+    uint16_t kind;       /* Start event: its type */
+    uint32_t count;      /* Bin */
+    uint32_t number;     /* Start event */
+    uint32_t size;       /* End event: the event's bytes */
+    uint64_t timestamp;  /* Start event */
+};
+
+struct plane_found {
+    uint32_t refused;
+    size_t place;
+    size_t next; /* the word index of the next item, or of the end word */
+    struct plane_item item;
+};
+
+/* Item `ordinal`, from 0. Refused as plane_read refuses, then by 13. */
+struct plane_found plane_item(const uint8_t *frame, size_t length, size_t ordinal);
+
+struct plane_text {
+    size_t offset;
+    size_t length;
+};
+
+/* The bytes of the text that is item `ordinal`, without the final zero: `length` of them, in the frame itself, from byte `offset` on. Never refused:
+ * it is empty on any refusal or another class, and plane_item tells this from an empty text. */
+struct plane_text plane_text(const uint8_t *frame, size_t length, size_t ordinal);
+
+struct plane_event {
+    uint32_t refused;
+    size_t place;
+    uint16_t kind; /* its type */
+    uint64_t timestamp;
+    uint32_t number;
+    uint32_t size;
+    size_t index; /* the word index of its Start event */
+};
+
+/* Event `ordinal`, from 0. Refused as plane_read refuses, then by 13. */
+struct plane_event plane_event(const uint8_t *frame, size_t length, size_t ordinal);
+
+struct plane_done {
+    uint32_t refused;
+    size_t place;
+};
+
+/* The samples of event `ordinal`, a chip and a channel: into the first 512 words of `out`, each at its time, 0xFFFF where no sample stands; words
+ * beyond are untouched. Refused as plane_read refuses, then by 12 where `room` is under 512, then by 13. */
+struct plane_done plane_samples(const uint8_t *frame, size_t length, size_t ordinal, uint16_t chip, uint16_t channel, uint16_t *out, size_t room);
+
+/* The counts of a chip's and a channel's histogram: into the first 4,096 words of `out`, each at its bin, 0 where no bin stands; words beyond are
+ * untouched. Refused as plane_read refuses, then by 12 where `room` is under 4,096, then by 13. */
+struct plane_done plane_counts(const uint8_t *frame, size_t length, uint16_t chip, uint16_t channel, uint32_t *out, size_t room);
+
+/* ---- frames are written: a partial frame stands in the first bytes of a buffer, and each call answers its new length */
+
+struct plane_written {
+    uint32_t refused;
+    size_t place;
+    size_t length;
+};
+
+/* Begins a partial frame of 6 bytes. Refused by 2 where `kind` is none of enum plane_kind, by 9 for a card over 31, by 4 for a sequence word over
+ * 0x0100, by 12 where the buffer is under 8 bytes. */
+struct plane_written plane_begin(uint8_t *buffer, size_t room, uint16_t kind, uint16_t card, uint16_t sequence);
+
+/* Adds an item to the partial frame in the first `length` bytes. Refused by what is wrong with the partial frame; then, at the word where the item
+ * would start, by 6 for a class that is none, and by 8, 9 or 10 by the rules (8 for a frame start or Frame end; a text is added by plane_add_text,
+ * here it is 8 or 9); then by 12. Fields that the class does not have are not looked at. */
+struct plane_written plane_add(uint8_t *buffer, size_t room, size_t length, struct plane_item item);
+
+/* Adds a text, which comes without its final zero: as plane_add. A text over 254 bytes or holding a zero is 9. */
+struct plane_written plane_add_text(uint8_t *buffer, size_t room, size_t length, const uint8_t *text, size_t text_length);
+
+/* Closes the partial frame: writes its size and its end word. Refused by what is wrong with the partial frame, then by 11, then by 12. */
+struct plane_written plane_close(uint8_t *buffer, size_t room, size_t length);
+
+/* ---- sequence numbers */
+
+/* Idle where `expecting` is 0, else it expects `number`. All zeros is a follower that has seen nothing. */
+struct plane_follower {
+    uint8_t expecting;
+    uint8_t number;
+};
+
+struct plane_followed {
+    uint32_t refused;
+    size_t place;
+    uint8_t lost;               /* the frames lost before this one, modulo 256 */
+    struct plane_follower next; /* from here on; on a refusal the follower that was given */
+};
+
+/* Feeds a follower the sequence word of a frame. Refused by 4 for a word over 0x0100, by 14 for a number before a start. */
+struct plane_followed plane_follow(struct plane_follower follower, uint16_t word);
+
+/* ---- records: a frame and the history of its edits */
+
+struct plane_record {
+    uint32_t refused;
+    size_t place;
+    size_t length; /* of its frame, which begins at byte 16 */
+    size_t count;  /* its entries */
+    size_t total;  /* of the record */
+};
+
+/* Whether a buffer begins with a record. Refused by 20, then as plane_read refuses its frame, then by 21. */
+struct plane_record plane_record(const uint8_t *buffer, size_t room);
+
+struct plane_entry {
+    uint32_t refused;
+    size_t place;
+    uint16_t word; /* the item's first word */
+    uint16_t kind; /* one of enum plane_corrected */
+    uint32_t old_value;
+    uint32_t new_value;
+    uint16_t operator_id;
+    uint16_t reason;
+};
+
+/* Entry `number` of a record, from 1 as the oldest. Refused as plane_record refuses, then by 26. */
+struct plane_entry plane_entry(const uint8_t *buffer, size_t room, size_t number);
+
+/* Opens a record of the frame, with no history: writes header and frame to the buffer's start. Refused as plane_read refuses, then by 12. */
+struct plane_done plane_open(uint8_t *buffer, size_t room, const uint8_t *frame, size_t length);
+
+struct plane_correction {
+    size_t word; /* the item's first word, in its frame */
+    uint32_t value;
+    uint32_t operator_id;
+    uint32_t reason;
+};
+
+/* Edits the record: writes the value, the two header words that change and one entry. Refused as plane_record refuses, then by 22, 23, 24, 25, 12. */
+struct plane_done plane_edit(uint8_t *buffer, size_t room, struct plane_correction correction);
+
+/* Restores the frame as it stood after its first `k` edits, to the start of `out`; the record is only read. Refused as plane_record refuses, then
+ * by 26, then by 12 where `out` is under the frame's length. */
+struct plane_done plane_restore(const uint8_t *buffer, size_t room, size_t k, uint8_t *out, size_t out_room);
+
+#ifdef __cplusplus
+}
+#endif
+
+#endif
