@@ -1,5 +1,6 @@
 // The class of a word, by prefixes of varying length, tried shortest first.
 ghost use mathlib.Core.Path.{_≡_};
+ghost use Prim.Native.Nat.{_<_};
 ghost use Rattle.format.specs.Book.{classOf, after, textWords};
 ghost use Rattle.book.specs.Views.{view};
 
@@ -22,30 +23,11 @@ pub enum Class {
     Unassigned,
 }
 
-// The class of a word.
-pub fn classify(w: u16) -> Class
+// The class of a word below 0x1800, by the prefixes of seven bits and more.
+fn classify_long(w: u16) -> Class
+    requires { ⌜ w < 0x1800 ⌝ }
     ensures { λ r. ⌜ view r ≡ classOf w ⌝ }
 {
-    let two = w >> 14;
-    if two == 3 {
-        return Class::Channel;
-    }
-    if two == 2 {
-        return Class::Histogram;
-    }
-    if two == 1 {
-        return Class::HitCount;
-    }
-    let four = w >> 12;
-    if four == 3 {
-        return Class::Sample;
-    }
-    if four == 2 {
-        return Class::Bin;
-    }
-    if w >> 11 == 3 {
-        return Class::LastCell;
-    }
     let seven = w >> 9;
     if seven == 7 {
         return Class::TimeBin;
@@ -73,6 +55,40 @@ pub fn classify(w: u16) -> Class
         return Class::FrameEnd;
     }
     Class::Unassigned
+}
+
+// The class of a word whose first two bits are 0, by the prefixes of four bits and more.
+fn classify_low(w: u16) -> Class
+    requires { ⌜ w < 0x4000 ⌝ }
+    ensures { λ r. ⌜ view r ≡ classOf w ⌝ }
+{
+    if 0x3000 <= w {
+        return Class::Sample;
+    }
+    if 0x2000 <= w {
+        return Class::Bin;
+    }
+    if 0x1800 <= w {
+        return Class::LastCell;
+    }
+    classify_long(w)
+}
+
+// The class of a word. It is that of the search, shortest prefix first; where a prefix is the highest of those left, a comparison with its
+// first word stands for the shift and the test, since most words of a frame are told so and it is the cheaper.
+pub fn classify(w: u16) -> Class
+    ensures { λ r. ⌜ view r ≡ classOf w ⌝ }
+{
+    if w < 0x4000 {
+        return classify_low(w);
+    }
+    if w < 0x8000 {
+        return Class::HitCount;
+    }
+    if w < 0xC000 {
+        return Class::Histogram;
+    }
+    Class::Channel
 }
 
 // The words that a text of n bytes takes, n in the word's low byte: n/2, rounded up.

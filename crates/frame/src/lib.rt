@@ -3,6 +3,7 @@
 // what the writer has written so far. The modules below hold the rules at one item, by which the writer goes too.
 pub mod begun;
 pub mod head;
+mod inside;
 pub mod items;
 pub mod partial;
 pub mod reading;

@@ -12,13 +12,14 @@ pub enum Kind {
     Command,
 }
 
-// Where the next item would stand.
+// Where the next item would stand. The order is for speed alone: the places that most words of a data frame stand in come first, side by side,
+// so that a test for two of them is one comparison.
 pub enum Mode {
-    Outside,
-    Inside,
-    AfterChannel,
     AfterTime,
     AfterSample,
+    Inside,
+    AfterChannel,
+    Outside,
     Unheaded,
     Headed,
     Commands,

@@ -1,49 +1,42 @@
 // The bytes of a text: none zero but the final one and the padding.
 ghost use mathlib.Core.Path.{_≡_};
-ghost use Prim.Native.Nat.{_≤_};
-ghost use lib.ListN.{length};
+ghost use Prim.Native.Nat.{_+_, _≤_};
+ghost use lib.ListN.{length, drop};
 ghost use Rattle.format.specs.Words.{nonZero, allZero};
 ghost use Rattle.format.specs.Items.{closed};
 
-// No byte is zero.
+// No byte is zero. There is no early exit, so that the compiler takes many bytes at once.
 pub fn no_zero(s: &[u8]) -> bool
     ensures { λ r. ⌜ r ≡ nonZero (now (s .entry)) ⌝ }
 {
+    let mut good = true;
     let mut i: usize = 0;
     while i < s.len() {
-        if s[i] == 0 {
-            return false;
-        }
+        good = good & (s[i] != 0);
         i += 1;
     }
-    true
+    good
 }
 
-// Every byte is zero.
-fn all_zero(s: &[u8]) -> bool
-    ensures { λ r. ⌜ r ≡ allZero (now (s .entry)) ⌝ }
+// The byte after the text's n, where there is one, is zero.
+fn is_padded(s: &[u8], n: usize) -> bool
+    requires { ⌜ length (now s) ≤ n + 1 ⌝ }
+    ensures { λ r. ⌜ r ≡ allZero (drop n (now (s .entry))) ⌝ }
 {
-    let mut i: usize = 0;
-    while i < s.len() {
-        if s[i] != 0 {
-            return false;
-        }
-        i += 1;
+    if n < s.len() {
+        return s[n] == 0;
     }
     true
 }
 
 // "n at least 1, byte n zero, earlier bytes not zero, a padding byte zero"
 pub(crate) fn is_closed(s: &[u8], n: usize) -> bool
-    requires { ⌜ n ≤ length (now s) ⌝ }
+    requires { ⌜ (n ≤ length (now s)) × (length (now s) ≤ n + 1) ⌝ }
     ensures { λ r. ⌜ r ≡ closed n (now (s .entry)) ⌝ }
 {
     if n < 1 {
         return false;
     }
     let k = n - 1;
-    if no_zero(&s[0..k]) {
-        return all_zero(&s[k..]);
-    }
-    false
+    no_zero(&s[0..k]) & (s[k] == 0) & is_padded(s, n)
 }

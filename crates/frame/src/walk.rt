@@ -7,6 +7,9 @@ ghost use Rattle.format.specs.Words.{pick, wordAt};
 ghost use Rattle.format.specs.Book as book;
 ghost use Rattle.format.specs.Steps.{stepOf, summed};
 ghost use Rattle.frame.specs.Views.{viewKind, viewState, viewStep, viewWalk};
+use crate::inside::long;
+use crate::inside::time;
+use crate::inside::word;
 use crate::rules::Step;
 use crate::rules::bin;
 use crate::rules::channel;
@@ -35,9 +38,6 @@ use book::items::StartEvent;
 use book::items::Text;
 use book::items::TimeBin;
 use book::refusal::Refusal;
-use book::words::long;
-use book::words::time;
-use book::words::word;
 
 // A Bin's number in its word, its count in the two words after it.
 fn bin_at(s: &[u8], last: usize, at: usize, w: u16, st: State) -> Step

@@ -1,9 +1,8 @@
 -- `frame::texts::is_closed` meets its contract.
 -- Assumes nothing.
 use denote.Ref.{now}
-use mathlib.Core.Path.{sym, _∙_}
 use native.Mathlib.Omega.{arith}
-use Rattle.frame.proofs.TextLoops.{no-length, letters-then, zero-early}
+use Rattle.frame.proofs.TextLoops.{no-length, closed-by}
 use borrow.Author.Needs.{needs}
 use Rattle.frame.proofs.texts.is_closed.Statement.{statement}
 use Rattle.frame.proofs.texts.is_closed.Tie as tie
@@ -23,27 +22,16 @@ part-no-zero-end c = search needs
 no-zero-requires : tie.Need-no-zero-requires
 no-zero-requires c κs = search needs
 
-sub-all-zero : tie.Need-sub-all-zero
-sub-all-zero c = search needs
+shared-slice-read-result : tie.Need-shared-slice-read-result
+shared-slice-read-result c = search needs
 
-part-all-zero-start : tie.Need-part-all-zero-start
-part-all-zero-start c = search needs
-
-part-all-zero-end : tie.Need-part-all-zero-end
-part-all-zero-end c = search needs
-
-all-zero-requires : tie.Need-all-zero-requires
-all-zero-requires c κs = search needs
+is-padded-requires : tie.Need-is-padded-requires
+is-padded-requires c κs = search needs
 
 returns-2 : tie.Need-returns-2
 returns-2 c =
-    let a = c .before .before .before .before .before .before .before .args in
-    letters-then (now (a .s)) (a .n) _ (omega arith) (sym (c .before .before .if2 .taken) ∙ c .before .before .before .no-zero .ensures) (c .all-zero .ensures)
-
-returns-3 : tie.Need-returns-3
-returns-3 c =
-    let a = c .before .before .before .before .before .args in
-    zero-early (now (a .s)) (a .n) (omega arith) (sym (c .if2 .left) ∙ c .before .no-zero .ensures)
+    let start = c .before .before .before .before .before .before in
+    closed-by (now (start .args .s)) (start .args .n) _ _ (omega arith) (omega arith) (c .before .before .no-zero .ensures) (c .is-padded .ensures)
 
 pub is-closed-spec : {M : Type 1} → statement M
 is-closed-spec =
@@ -54,9 +42,6 @@ is-closed-spec =
     part-no-zero-start
     part-no-zero-end
     no-zero-requires
-    sub-all-zero
-    part-all-zero-start
-    part-all-zero-end
-    all-zero-requires
-    returns-2
-    returns-3)
+    shared-slice-read-result
+    is-padded-requires
+    returns-2)
