@@ -1,77 +1,35 @@
-// Our side: the proved library as C programs call it (crates/exports). A slice is a pointer and a length.
+// Our side: the proved library as C programs call it (crates/exports).
+#include "../include/plane_record.h"
 #include "sides.h"
 
-struct done {
-    u32 refused;
-    usize place;
-};
-
-struct frame {
-    u32 refused;
-    usize place;
-    u16 kind, card, sequence;
-    usize items;
-};
-
-struct found {
-    u32 refused;
-    usize place;
-    usize next;
-    struct {
-        u32 class;
-        u16 card, chip, channel, hits, value, bin, cell, time, length, kind;
-        u32 count, number, size;
-        u64 timestamp;
-    } item;
-};
-
-struct plane_record {
-    u32 refused;
-    usize place;
-    usize length, count, total;
-};
-
-struct plane_correction {
-    usize word;
-    u32 value, operator, reason;
-};
-
-struct frame plane_read(const u8 *frame, usize n);
-struct found plane_item(const u8 *frame, usize n, usize ordinal);
-struct done plane_samples(const u8 *frame, usize n, usize event, u16 chip, u16 channel, u16 *out, usize room);
-struct done plane_counts(const u8 *frame, usize n, u16 chip, u16 channel, u32 *out, usize room);
-struct plane_record plane_record(const u8 *buffer, usize n);
-struct done plane_edit(u8 *buffer, usize n, struct plane_correction c);
-struct done plane_restore(const u8 *buffer, usize n, usize k, u8 *out, usize room);
-
-static u64 told(struct done r) { return r.refused ? refusal_number(r.refused, r.place) : accepted_number(0, 0); }
+static u64 told(struct plane_done r) { return r.refused ? refusal_number(r.refused, r.place) : accepted_number(0, 0); }
 
 static u64 read_frame(struct a_case *c, struct lent *out) {
     (void)out;
-    const struct frame x = plane_read(c->p, c->n);
+    const struct plane_frame x = plane_read(c->p, c->n);
     return x.refused ? refusal_number(x.refused, x.place) : accepted_number(x.sequence, x.items);
 }
 
 // The last of the fields that the item's class has in the word book.
-static u64 last_field(const struct found *x) {
-    switch (x->item.class) {
-    case 1:
-    case 2: return x->item.channel;
-    case 3: return x->item.hits;
-    case 4: return x->item.value;
-    case 5: return x->item.count;
-    case 6: return x->item.cell;
-    case 7: return x->item.time;
-    case 11: return x->item.length;
-    case 12: return x->item.number;
-    default: return x->item.size;
+static u64 last_field(const struct plane_item *x) {
+    switch (x->item_class) {
+    case PLANE_CHANNEL:
+    case PLANE_HISTOGRAM: return x->channel;
+    case PLANE_HIT_COUNT: return x->hits;
+    case PLANE_SAMPLE: return x->value;
+    case PLANE_BIN: return x->count;
+    case PLANE_LAST_CELL: return x->cell;
+    case PLANE_TIME_BIN: return x->time;
+    case PLANE_TEXT: return x->length;
+    case PLANE_START_EVENT: return x->number;
+    default: return x->size;
     }
 }
 
 static u64 item(struct a_case *c, struct lent *out) {
     (void)out;
-    const struct found x = plane_item(c->p, c->n, c->a[0]);
-    return x.refused ? refusal_number(x.refused, x.place) : accepted_number(last_field(&x), x.next);
+    const struct plane_found x = plane_item(c->p, c->n, c->a[0]);
+    return x.refused ? refusal_number(x.refused, x.place) : accepted_number(last_field(&x.item), x.next);
 }
 
 static u64 samples(struct a_case *c, struct lent *out) {

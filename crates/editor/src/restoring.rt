@@ -23,9 +23,9 @@ use book::words::copy;
 use book::words::long;
 use book::words::word;
 use plane::answers::Entry;
-use plane::answers::Judged;
 use plane::answers::Record;
-use plane::judge;
+use plane::answers::RecordFound;
+use plane::record;
 
 // Undoes the entry that e begins with, in the frame that it fits: its old value is put back. The entry's own kind says where the value
 // stands, so the frame is not walked again.
@@ -88,9 +88,9 @@ fn restore_known(buf: &[u8], x: Record, k: usize, out: &mut [u8]) -> Done
 pub fn restore(buf: &[u8], k: usize, out: &mut [u8]) -> Done
     ensures { λ r. ⌜ Restored (now (buf .entry)) k (now (out .entry)) (viewDone r) (now (out .exit)) ⌝ }
 {
-    let judged = judge(buf, 0);
-    match judged {
-        Judged::Refused(r) => Done::Refused(r),
-        Judged::Accepted(x, _) => restore_known(buf, x, k, out),
+    let found = record(buf);
+    match found {
+        RecordFound::Refused(r) => Done::Refused(r),
+        RecordFound::Record(x) => restore_known(buf, x, k, out),
     }
 }

@@ -16,27 +16,27 @@ ghost use Rattle.plane.specs.Views.{asEntry, unfit};
 ghost use Rattle.plane.specs.Undoing.{Undoing};
 use crate::answers::Entry;
 use crate::answers::Record;
+use crate::scan::long_in;
 use crate::scan::note_kinds;
 use crate::scan::value_at;
+use crate::scan::word_in;
 use book::items::Bin;
 use book::items::Sample;
 use book::words::copy;
-use book::words::long;
-use book::words::word;
 
 // The entry that begins at byte `at`.
 pub(crate) fn entry_at(b: &[u8], at: usize) -> Entry
-    requires { ⌜ at ≤ length (now b) ⌝ }
+    requires { ⌜ at + 16 ≤ length (now b) ⌝ }
     ensures { λ r. ⌜ asEntry r ≡ entryOf first (drop at (now (b .entry))) ⌝ }
 {
     let s = &b[at..];
     Entry {
-        word: word(s, 0),
-        kind: word(s, 1),
-        old: long(s, 2),
-        new: long(s, 4),
-        operator: word(s, 6),
-        reason: word(s, 7),
+        word: word_in(s, 0),
+        kind: word_in(s, 1),
+        old: long_in(s, 2),
+        new: long_in(s, 4),
+        operator: word_in(s, 6),
+        reason: word_in(s, 7),
     }
 }
 
