@@ -38,10 +38,69 @@ struct refusal {
     u32 place;
 };
 
+// What the items so far leave behind, for the next one: where it would stand (0 is no mode), the least that a header may be, the time of the
+// next sample or the least number of the next bin, and the latest Start event.
+struct state {
+    u32 mode;
+    u32 key;
+    u32 next;
+    usize opener;
+};
+
+// A partial frame that is being written: its bytes so far, and the state behind them.
+struct draft {
+    usize length;
+    u32 card;
+    struct state state;
+};
+
+struct record {
+    u32 length; // of the frame
+    u32 count;
+    u32 total;
+};
+
+struct entry {
+    u32 word;
+    u32 kind; // 1 sample, 2 bin
+    u32 old;
+    u32 new;
+    u32 operator;
+    u32 reason;
+};
+
+struct correction {
+    u64 word;
+    u32 value;
+    u32 operator;
+    u32 reason;
+};
+
+// ---- the reader
+
 struct verdict baseline_read(const u8 *s, usize n);
 struct refusal baseline_item(const u8 *s, usize n, u64 ordinal, struct item *out);
 struct refusal baseline_event(const u8 *s, usize n, u64 ordinal, struct event *out);
 struct refusal baseline_samples(const u8 *s, usize n, u64 ordinal, u32 chip, u32 channel, u16 *out, usize room);
 struct refusal baseline_counts(const u8 *s, usize n, u32 chip, u32 channel, u32 *out, usize room);
+
+// ---- the writer, on a partial frame in a buffer of `room` bytes; a refused call leaves buffer and draft as found
+
+struct refusal baseline_begin(u8 *buf, usize room, char kind, u32 card, u32 sequence, struct draft *out);
+// The step: one item, by the state that the draft carries.
+struct refusal baseline_put(u8 *buf, usize room, struct draft *d, struct item x);
+struct refusal baseline_put_text(u8 *buf, usize room, struct draft *d, const u8 *text, usize n);
+// The calls that judge the partial frame first; the draft's length is the answer.
+struct refusal baseline_add(u8 *buf, usize room, u64 length, struct item x, struct draft *out);
+struct refusal baseline_add_text(u8 *buf, usize room, u64 length, const u8 *text, usize n, struct draft *out);
+struct refusal baseline_close(u8 *buf, usize room, u64 length, usize *out);
+
+// ---- the record
+
+struct refusal baseline_record(const u8 *b, usize n, struct record *out);
+struct refusal baseline_entry(const u8 *b, usize n, u64 number, struct entry *out);
+struct refusal baseline_open(u8 *b, usize n, const u8 *frame, usize length);
+struct refusal baseline_edit(u8 *b, usize n, struct correction c);
+struct refusal baseline_restore(const u8 *b, usize n, u64 k, u8 *out, usize room);
 
 #endif

@@ -1,18 +1,19 @@
-// The measuring program. Both readers are called through the same table, so that what is around them costs the same.
+// The measuring program. What is measured is a case (crates/agree has the format): its op is the call, its payload the frame or the record.
 //
-//   measure frames                    makes every frame; both readers accept it and answer alike
-//   measure same                      cases on standard input (ops 1, 2): both readers answer alike
-//   measure answer                    cases on standard input (ops 1, 2, 4, 5, 6): the baseline's lines, for `second compare`
-//   measure list                      the rows of the table, as CALL FILL SIZE
-//   measure repeat SIDE ROW N         calls row ROW of side 0 (ours) or 1 (the baseline) N times
-//   measure time ROW                  nanoseconds of one call, ours and the baseline's, best of several
-#include "baseline.h"
+//   measure list                      the rows of the table, as CALL FILL SIZE UNIT
+//   measure make ROW                  the case of a row
+//   measure same                      cases on standard input: both sides answer alike and leave the same in all lent memory
+//   measure repeat SIDE N             calls the case on standard input N times, by side 0 (ours) or 1 (the baseline)
+//   measure time                      nanoseconds of one call of the case on standard input, ours and the baseline's, best of several
 #include "frames.h"
+#include "sides.h"
 
 // Of the C library; the compiler comes without its headers.
-long read(int from, void *to, usize n);
+long write(int to, const void *from, usize n);
 int printf(const char *format, ...);
 int strcmp(const char *a, const char *b);
+int memcmp(const void *a, const void *b, usize n);
+void *memcpy(void *to, const void *from, usize n);
 unsigned long strtoul(const char *s, char **end, int base);
 struct timespec {
     long seconds;
@@ -20,86 +21,168 @@ struct timespec {
 };
 int clock_gettime(int clock, struct timespec *now);
 
-// The proved library; a slice is a pointer and a length.
-u64 probe_read(const u8 *s, usize n);
-u64 probe_item(const u8 *s, usize n, usize ordinal);
+enum { LONGEST = 8192, RECORD = 16 + LONGEST + 16 * 512 };
 
-enum { LONGEST = 8192, PAYLOAD = 24576 };
+enum ops { READ = 1, ITEM = 2, SAMPLES = 5, COUNTS = 6, JUDGE = 12, EDIT = 15, RESTORE = 16 };
 
-static u64 ours_read(const u8 *s, usize n, u64 unused) {
-    (void)unused;
-    return probe_read(s, n);
-}
-
-static u64 packed(struct verdict v) {
-    if (v.number) return (u64)v.number << 16 | v.place;
-    const u64 kind = v.kind == 'D' ? 1 : v.kind == 'M' ? 2 : 3;
-    return kind << 48 | (u64)v.card << 32 | (u64)v.sequence << 16 | v.items;
-}
-
-static u64 theirs_read(const u8 *s, usize n, u64 unused) {
-    (void)unused;
-    return packed(baseline_read(s, n));
-}
-
-// How many fields a class of the word book has.
-static const u8 fields[15] = { [1] = 3, [2] = 3, [3] = 3, [4] = 1, [5] = 2, [6] = 2, [7] = 1, [11] = 1, [12] = 3, [13] = 1 };
-
-static u64 ours_item(const u8 *s, usize n, u64 ordinal) { return probe_item(s, n, ordinal); }
-
-static u64 theirs_item(const u8 *s, usize n, u64 ordinal) {
-    struct item x;
-    const struct refusal r = baseline_item(s, n, ordinal, &x);
-    if (r.number) return (u64)r.number << 16 | r.place;
-    return (u64)1 << 48 | x.fields[fields[x.class] - 1] << 16 | x.next;
-}
-
-// A call that is measured, by both sides; `fills` has a bit for each fill that it is asked of.
+// A call that is measured; `fills` has a bit for each fill that it is asked of.
 struct call {
     const char *name;
-    u64 (*side[2])(const u8 *, usize, u64);
+    u32 op;
     u32 fills;
 };
 
 static const struct call calls[] = {
-    { "read", { ours_read, theirs_read }, 63 },
-    { "item", { ours_item, theirs_item }, 63 },
+    { "read", READ, 63 }, { "item", ITEM, 63 }, { "samples", SAMPLES, 5 }, { "counts", COUNTS, 8 },
+    { "record", JUDGE, 13 }, { "edit", EDIT, 13 }, { "restore", RESTORE, 13 },
 };
 
+static int of_record(u32 op) { return op >= JUDGE; }
+
+// A frame's rows go by its size in bytes, a record's by its number of entries.
 struct row {
     const struct call *call;
     u32 fill;
-    usize size;
+    u32 size;
 };
+
+static const u32 sizes[2][4] = { { 8192, 4096, 2048, 1024 }, { 512, 256, 128, 0 } };
 
 static u32 rows(struct row *out) {
     u32 count = 0;
     for (u32 c = 0; c < sizeof calls / sizeof calls[0]; c++)
         for (u32 fill = 0; fill < FILLS; fill++)
             if (calls[c].fills >> fill & 1)
-                for (usize size = LONGEST; size >= 1024; size /= 2) out[count++] = (struct row){ &calls[c], fill, size };
+                for (u32 k = 0; k < 4; k++) out[count++] = (struct row){ &calls[c], fill, sizes[of_record(calls[c].op)][k] };
     return count;
 }
 
-static struct row row_of(const char *text) {
+static void list(void) {
     struct row all[256];
     const u32 count = rows(all);
-    const unsigned long i = strtoul(text, 0, 10);
-    return all[i < count ? i : 0];
+    for (u32 i = 0; i < count; i++)
+        printf("%s|%s|%u|%s\n", all[i].call->name, fill_names[all[i].fill], all[i].size, of_record(all[i].call->op) ? "entries" : "bytes");
 }
 
-static u8 frame[LONGEST];
+// ---- the case of a row
 
-// The argument of a row's calls: the last ordinal there is, so that the whole frame lies before it.
-static u64 prepared(struct row r) {
-    make_frame(r.fill, r.size, frame);
-    return baseline_read(frame, r.size).items - 1;
+// The last header of the class: its chip and channel, and the number of events before its own end. It is looked for from the left.
+static void last_header(const struct a_case *c, u32 class, u64 *event, u64 *chip, u64 *channel) {
+    struct item x;
+    u64 events = 0;
+    for (u64 i = 0; baseline_item(c->p, c->n, i, &x).number == 0; i++) {
+        events += x.class == 12;
+        if (x.class != class) continue;
+        *event = events - 1;
+        *chip = x.fields[1];
+        *channel = x.fields[2];
+    }
 }
 
-static u64 repeat(struct row r, u32 side, u64 n) {
-    const u64 argument = prepared(r);
+// Edits at words taken by chance, some of them more than once.
+static void edit_some(u8 *record, u32 entries) {
+    u32 seed = 1;
+    for (u32 done = 0; done < entries;) {
+        seed = seed * 1664525 + 1013904223;
+        const struct correction c = { (seed >> 16) % (LONGEST / 2), seed >> 7 & 4095, 1 + (seed >> 3) % 65535, 1 + done % 5 };
+        done += baseline_edit(record, RECORD, c).number == 0;
+    }
+}
+
+// The last word of the record's frame that an edit may change: the whole frame lies before it.
+static void target(struct a_case *c) {
+    static u8 copy[RECORD];
+    memcpy(copy, c->p, RECORD);
+    for (u64 w = LONGEST / 2; w-- > 0;) {
+        c->a[0] = w;
+        c->a[1] = 1234;
+        c->a[2] = 9;
+        c->a[3] = 2;
+        if (baseline_edit(copy, RECORD, (struct correction){ w, 1234, 9, 2 }).number == 0) return;
+    }
+}
+
+// Edits are measured with one entry less than may stand, so that they are accepted.
+static void make_record(struct row r, struct a_case *c) {
+    static u8 frame[LONGEST];
+    make_frame(r.fill, LONGEST, frame);
+    c->n = RECORD;
+    baseline_open(c->p, c->n, frame, LONGEST);
+    edit_some(c->p, r.call->op == EDIT && r.size == 512 ? 511 : r.size);
+    if (r.call->op == EDIT) target(c);
+    if (r.call->op == RESTORE) c->m = LONGEST;
+}
+
+static void make_question(struct row r, struct a_case *c) {
+    u64 none;
+    make_frame(r.fill, r.size, c->p);
+    c->n = r.size;
+    switch (r.call->op) {
+    case ITEM: c->a[0] = baseline_read(c->p, c->n).items - 1; break;
+    case SAMPLES:
+        last_header(c, 1, &c->a[0], &c->a[1], &c->a[2]);
+        c->a[3] = 512;
+        break;
+    case COUNTS:
+        last_header(c, 2, &none, &c->a[0], &c->a[1]);
+        c->a[2] = 4096;
+        break;
+    }
+}
+
+static void put_number(u8 *to, u64 x, u32 bytes) {
+    for (u32 i = 0; i < bytes; i++) to[i] = (u8)(x >> 8 * i);
+}
+
+static int make(u32 number) {
+    static struct a_case c;
+    struct row all[256];
+    if (number >= rows(all)) return 2;
+    const struct row r = all[number];
+    c.op = (u8)r.call->op;
+    if (of_record(c.op)) make_record(r, &c);
+    else make_question(r, &c);
+    u8 head[72] = { c.op };
+    for (u32 i = 0; i < 7; i++) put_number(head + 8 + 8 * i, c.a[i], 8);
+    put_number(head + 64, c.n, 4);
+    put_number(head + 68, c.m, 4);
+    return write(1, head, 72) < 0 || write(1, c.p, c.n) < 0 || write(1, c.q, c.m) < 0;
+}
+
+// ---- the calls
+
+static struct a_case input;
+static struct lent lent[2];
+
+// What an accepted edit changed in the record is put back, so that it can be made again.
+struct kept {
+    u8 value[6], header[4];
+};
+
+static struct kept keep(const struct a_case *c) {
+    struct kept k;
+    memcpy(k.value, c->p + 16 + 2 * c->a[0], 6);
+    memcpy(k.header, c->p + 10, 4);
+    return k;
+}
+
+static void put_back(struct a_case *c, const struct kept *k) {
+    memcpy(c->p + 16 + 2 * c->a[0], k->value, 6);
+    memcpy(c->p + 10, k->header, 4);
+}
+
+static u64 repeat(u32 which, u64 n) {
+    const side call = (which ? theirs : ours)[input.op];
     u64 sum = 0;
-    for (u64 i = 0; i < n; i++) sum += r.call->side[side](frame, r.size, argument);
+    if (input.op == EDIT) {
+        const struct kept k = keep(&input);
+        for (u64 i = 0; i < n; i++) {
+            sum += call(&input, &lent[0]);
+            put_back(&input, &k);
+        }
+    } else {
+        for (u64 i = 0; i < n; i++) sum += call(&input, &lent[0]);
+    }
     return sum;
 }
 
@@ -110,177 +193,59 @@ static double seconds(void) {
 }
 
 // The best of several goes, the two sides in turn.
-static void timed(struct row r) {
-    const u64 n = 4000000 / r.size;
+static void timed(void) {
+    const u64 n = 4000000 / (input.n + 1) + 1;
     double best[2] = { 1e9, 1e9 };
     for (u32 go = 0; go < 100; go++) {
-        const u32 side = go % 2;
+        const u32 which = go % 2;
         const double from = seconds();
-        repeat(r, side, n);
+        repeat(which, n);
         const double took = seconds() - from;
-        if (took < best[side]) best[side] = took;
+        if (took < best[which]) best[which] = took;
     }
     printf("%.0f %.0f\n", best[0] / (double)n * 1e9, best[1] / (double)n * 1e9);
 }
 
-static int check_frames(void) {
-    struct row all[256];
-    const u32 count = rows(all);
-    for (u32 i = 0; i < count; i++) {
-        const struct row r = all[i];
-        const u64 argument = prepared(r);
-        const struct verdict v = baseline_read(frame, r.size);
-        const u64 ours = r.call->side[0](frame, r.size, argument), theirs = r.call->side[1](frame, r.size, argument);
-        if (v.number || ours != theirs) {
-            printf("%s of %s, %lu bytes: refused %u at %u; %lx and %lx\n", r.call->name, fill_names[r.fill], r.size, v.number, v.place, ours, theirs);
-            return 1;
-        }
-    }
-    printf("%u frames accepted by both, with the same answers\n", count);
-    return 0;
-}
-
-// ---- cases (crates/agree has their format)
-
-struct a_case {
-    u8 op;
-    u64 a[7];
-    usize n, m;
-    u8 p[PAYLOAD], q[PAYLOAD];
-};
-
-static u64 number(const u8 *s, u32 bytes) {
-    u64 x = 0;
-    for (u32 i = bytes; i-- > 0;) x = x << 8 | s[i];
-    return x;
-}
-
-// Whether all of n bytes came.
-static int fill(u8 *to, usize n) {
-    while (n > 0) {
-        const long got = read(0, to, n);
-        if (got <= 0) return 0;
-        to += got;
-        n -= (usize)got;
-    }
-    return 1;
-}
-
-static int next_case(struct a_case *c) {
-    u8 head[72];
-    if (!fill(head, sizeof head)) return 0;
-    c->op = head[0];
-    for (u32 i = 0; i < 7; i++) c->a[i] = number(head + 8 + 8 * i, 8);
-    c->n = number(head + 64, 4);
-    c->m = number(head + 68, 4);
-    return c->n <= PAYLOAD && c->m <= PAYLOAD && fill(c->p, c->n) && fill(c->q, c->m);
-}
-
-static int refused(struct refusal r) {
-    if (r.number) printf("refused %u at %u", r.number, r.place);
-    return r.number != 0;
-}
-
-// The check sum of a lent buffer, a step at a time.
-struct sum {
-    u64 a, b;
-};
-
-static struct sum summed(struct sum s, u64 element) {
-    const u64 modulus = 4294967291;
-    const u64 a = (s.a + element) % modulus;
-    return (struct sum){ a, (s.b + a) % modulus };
-}
-
-static void answer_item(const struct a_case *c) {
-    struct item x;
-    if (refused(baseline_item(c->p, c->n, c->a[0], &x))) return;
-    printf("ok %u", x.class);
-    for (u32 i = 0; i < fields[x.class]; i++) printf(" %lu", x.fields[i]);
-    printf(" next %u", x.next);
-}
-
-static void answer_event(const struct a_case *c) {
-    struct event x;
-    if (refused(baseline_event(c->p, c->n, c->a[0], &x))) return;
-    printf("ok %u %lu %u %u %u", x.type, x.timestamp, x.number, x.size, x.index);
-}
-
-static void answer_samples(const struct a_case *c) {
-    static u16 out[600];
-    struct sum s = { 1, 0 };
-    const usize room = c->a[3] <= 600 ? c->a[3] : 600;
-    for (usize i = 0; i < room; i++) out[i] = (u16)c->a[4];
-    if (!refused(baseline_samples(c->p, c->n, c->a[0], (u32)c->a[1], (u32)c->a[2], out, room))) printf("ok");
-    for (usize i = 0; i < room; i++) s = summed(s, out[i]);
-    printf(" | %lu %lu", room, s.b << 32 | s.a);
-}
-
-static void answer_counts(const struct a_case *c) {
-    static u32 out[4200];
-    struct sum s = { 1, 0 };
-    const usize room = c->a[2] <= 4200 ? c->a[2] : 4200;
-    for (usize i = 0; i < room; i++) out[i] = (u32)c->a[3];
-    if (!refused(baseline_counts(c->p, c->n, (u32)c->a[0], (u32)c->a[1], out, room))) printf("ok");
-    for (usize i = 0; i < room; i++) s = summed(s, out[i]);
-    printf(" | %lu %lu", room, s.b << 32 | s.a);
-}
-
-static int answer(void) {
-    static struct a_case c;
-    while (next_case(&c)) {
-        const struct verdict v = baseline_read(c.p, c.n);
-        switch (c.op) {
-        case 1:
-            if (!refused((struct refusal){ v.number, v.place })) printf("ok %c %u %u %u", v.kind, v.card, v.sequence, v.items);
-            break;
-        case 2: answer_item(&c); break;
-        case 4: answer_event(&c); break;
-        case 5: answer_samples(&c); break;
-        case 6: answer_counts(&c); break;
-        default: printf("bad case\n"); return 1;
-        }
-        printf("\n");
-    }
-    return 0;
+static void fill_lent(struct lent *x, u32 with) {
+    for (u32 i = 0; i < 600; i++) x->samples[i] = (u16)with;
+    for (u32 i = 0; i < 4200; i++) x->counts[i] = with;
 }
 
 static int same(void) {
-    static struct a_case c;
+    static struct a_case other;
     u32 cases = 0, accepted = 0;
-    while (next_case(&c)) {
-        const struct call *call = &calls[c.op == 2];
-        const u64 ours = call->side[0](c.p, c.n, c.a[0]), theirs = call->side[1](c.p, c.n, c.a[0]);
-        if (ours != theirs) {
-            printf("case %u: %lx and %lx\n", cases, ours, theirs);
+    while (next_case(&input)) {
+        if (input.op >= 32 || !theirs[input.op]) return 2;
+        memcpy(&other, &input, sizeof input);
+        for (u32 i = 0; i < 2; i++) fill_lent(&lent[i], cases);
+        const u64 a = ours[input.op](&input, &lent[0]), b = theirs[input.op](&other, &lent[1]);
+        if (a != b || memcmp(&input, &other, sizeof input) || memcmp(&lent[0], &lent[1], sizeof lent[0])) {
+            printf("case %u, op %u: %lx and %lx, or not the same memory\n", cases, input.op, a, b);
             return 1;
         }
         cases += 1;
-        accepted += theirs >> 48 != 0;
+        accepted += b >> 48 != 0;
     }
-    printf("%u cases answered alike, %u of them accepted\n", cases, accepted);
+    printf("%u cases answered alike by ours and the baseline, %u of them accepted\n", cases, accepted);
     return 0;
 }
 
 int main(int count, char **words) {
     const char *what = count > 1 ? words[1] : "";
-    if (!strcmp(what, "frames")) return check_frames();
-    if (!strcmp(what, "same")) return same();
-    if (!strcmp(what, "answer")) return answer();
     if (!strcmp(what, "list")) {
-        struct row all[256];
-        const u32 n = rows(all);
-        for (u32 i = 0; i < n; i++) printf("%s|%s|%lu\n", all[i].call->name, fill_names[all[i].fill], all[i].size);
+        list();
         return 0;
     }
-    if (!strcmp(what, "repeat") && count == 5) {
-        printf("%lu\n", repeat(row_of(words[3]), words[2][0] == '1', strtoul(words[4], 0, 10)));
+    if (!strcmp(what, "make") && count == 3) return make((u32)strtoul(words[2], 0, 10));
+    if (!strcmp(what, "same")) return same();
+    if (!strcmp(what, "repeat") && count == 4 && next_case(&input)) {
+        printf("%lu\n", repeat(words[2][0] == '1', strtoul(words[3], 0, 10)));
         return 0;
     }
-    if (!strcmp(what, "time") && count == 3) {
-        timed(row_of(words[2]));
+    if (!strcmp(what, "time") && next_case(&input)) {
+        timed();
         return 0;
     }
-    printf("usage: measure frames | same | answer | list | repeat SIDE ROW N | time ROW\n");
+    printf("usage: measure list | make ROW | same | repeat SIDE N | time\n");
     return 2;
 }

@@ -10,7 +10,7 @@ use Rattle.format.specs.Words.{Bytes}
 use Rattle.format.specs.Answers.{Outcome, Done, accepted, refused, andThen}
 use Rattle.ledger.specs.Frames.{Spot, Accepted}
 use Rattle.ledger.specs.Records.{lengthIn, countIn, totalIn, frameIn, entriesIn, historyVerdict, recordVerdict}
-use Rattle.ledger.specs.Calls.{Summary}
+use Rattle.ledger.specs.Calls.{Summary, recordAnswer}
 use Rattle.ledger.specs.Chains.{Header}
 use Rattle.ledger.specs.First.{first}
 use Rattle.ledger.specs.House.{house}
@@ -55,6 +55,35 @@ unfolding judgedAt
 judged-refused b w n p e = go (recordVerdict house first b) e
   where
     go : (v : Done) → refused n p ≡ andThen v (λ u. accepted (here b w)) → v ≡ refused n p
+    go (accepted u) h = let z : _≡_ {A = ℕ} 0 1 = cc in absurd (omega arith)
+    go (refused m q) h = cc
+
+abbrev lengths : List ℕ → Summary
+lengths b = record { length = lengthIn b; count = countIn b; total = totalIn first b }
+
+same-summary : (i j : Summary) → _≡_ {A = Outcome Summary} (accepted i) (accepted j) → i ≡ j
+same-summary i j e = cc
+
+pub record-known : (b : List ℕ) (x : Summary) → accepted x ≡ recordAnswer house first b → Known b x
+unfolding recordAnswer
+record-known b x e = go (recordVerdict house first b) refl e
+  where
+    go : (v : Done) → recordVerdict house first b ≡ v → accepted x ≡ andThen v (λ u. accepted (lengths b)) → Known b x
+    go (accepted u) q h =
+        let s = same-summary x (lengths b) h in
+        record {
+          judged = q;
+          length = ap (λ (j : Summary). j .length) s;
+          count = ap (λ (j : Summary). j .count) s;
+          total = ap (λ (j : Summary). j .total) s;
+        }
+    go (refused n p) q h = let z : _≡_ {A = ℕ} 0 1 = cc in absurd (omega arith)
+
+pub record-refused : (b : List ℕ) (n p : ℕ) → refused n p ≡ recordAnswer house first b → recordVerdict house first b ≡ refused n p
+unfolding recordAnswer
+record-refused b n p e = go (recordVerdict house first b) e
+  where
+    go : (v : Done) → refused n p ≡ andThen v (λ u. accepted (lengths b)) → v ≡ refused n p
     go (accepted u) h = let z : _≡_ {A = ℕ} 0 1 = cc in absurd (omega arith)
     go (refused m q) h = cc
 

@@ -17,11 +17,11 @@ use crate::answers::test;
 use book::refusal::Refusal;
 use book::words::copy;
 use plane::answers::Entry;
-use plane::answers::Judged;
 use plane::answers::Record;
+use plane::answers::RecordFound;
 use plane::history::entry_of;
 use plane::history::undo;
-use plane::judge;
+use plane::record;
 
 // Undoes the entries of an accepted record, from the newest down to number k + 1, in a copy of its frame.
 fn rewind(frame: &mut [u8], buf: &[u8], x: Record, k: usize)
@@ -72,9 +72,9 @@ fn restore_known(buf: &[u8], x: Record, k: usize, out: &mut [u8]) -> Done
 pub fn restore(buf: &[u8], k: usize, out: &mut [u8]) -> Done
     ensures { λ r. ⌜ Restored (now (buf .entry)) k (now (out .entry)) (viewDone r) (now (out .exit)) ⌝ }
 {
-    let judged = judge(buf, 0);
-    match judged {
-        Judged::Refused(r) => Done::Refused(r),
-        Judged::Accepted(x, _) => restore_known(buf, x, k, out),
+    let found = record(buf);
+    match found {
+        RecordFound::Refused(r) => Done::Refused(r),
+        RecordFound::Record(x) => restore_known(buf, x, k, out),
     }
 }

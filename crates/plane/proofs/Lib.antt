@@ -1,3 +1,4 @@
+pub mod Ranges
 pub mod Scanning
 pub mod Storing
 pub mod UndoLaws

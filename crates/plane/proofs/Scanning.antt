@@ -23,6 +23,7 @@ use Rattle.ledger.specs.Frames.{Accepted}
 use Rattle.ledger.specs.House.{house, house-judge}
 use Rattle.ledger.proofs.House.{house-lawful}
 use Rattle.plane.specs.Undoing.{Kinds}
+use Rattle.plane.proofs.Ranges.{high-after, bin-kind, bin-after, bin-under}
 
 -- the frame of accepted bytes
 framed : (o : Outcome Frame) → done o ≡ accepted tt → (f : Frame) × (o ≡ accepted f)
@@ -101,6 +102,18 @@ module _ (s : List ℕ) (w last at k : ℕ) (g : Seeking s w last at k) (h : at 
             sides true y = g .passed (ltb-true w at y)
             sides false y = let v = ltb-false w at y in here-turn .between w (omega arith) b
 
+  -- an item of one word, and a Bin, told by the range of the word
+  pub seek-one : (head key : ℕ) → head ≡ wordAt s at → (at ≡ w → ⊥) → 0x3000 ≤ head → head < 65536 → key ≡ underBy (classOf head) head k
+      → Seeking s w last (at + 1) key
+  seek-one head key e q a b r =
+      let n : at + 1 + 0 ≡ at + 1 = omega arith in
+      subst (λ (x : ℕ). Seeking s w last x key) n (seek-next head (classOf head) e refl q key 0 r (high-after head a b) .2)
+
+  pub seek-bin : (head : ℕ) → head ≡ wordAt s at → (at ≡ w → ⊥) → 0x2000 ≤ head → head < 0x3000 → Seeking s w last (at + 3) k
+  seek-bin head e q a b =
+      let n : at + 1 + 2 ≡ at + 3 = omega arith in
+      subst (λ (x : ℕ). Seeking s w last x k) n (seek-next head (classOf head) e refl q k 2 (bin-under head k a b) (bin-after head a b) .2)
+
 pub seek-end : (s : List ℕ) (w last at k : ℕ) → Seeking s w last at k → last ≤ at → none ≡ spot s w
 seek-end s w last at k g h = go (ltb w at) refl
   where
@@ -175,6 +188,20 @@ note-next s map last at g h head more kind class e c p m =
         let a = ltb-false u at x in
         let w = eqb-false u at v in
         getD-set-other map at u kind 0 w ∙ g .blank u a ∙ sym (ap kindFound (t .between u (omega arith) b))
+
+-- an item of one word, and a Bin, told by the range of the word
+pub note-one : (s map : List ℕ) (last at : ℕ) → Noting s map last at → at < last → (head kind : ℕ) → head ≡ wordAt s at → 0x3000 ≤ head → head < 65536
+    → kind ≡ kindBy (classOf head)
+    → Noting s (set map at kind) last (at + 1)
+note-one s map last at g h head kind e a b p =
+    let n : at + 1 + 0 ≡ at + 1 = omega arith in
+    subst (Noting s (set map at kind) last) n (note-next s map last at g h head 0 kind (classOf head) e refl p (high-after head a b) .2)
+
+pub note-bin : (s map : List ℕ) (last at : ℕ) → Noting s map last at → at < last → (head : ℕ) → head ≡ wordAt s at → 0x2000 ≤ head → head < 0x3000
+    → Noting s (set map at 2) last (at + 3)
+note-bin s map last at g h head e a b =
+    let n : at + 1 + 2 ≡ at + 3 = omega arith in
+    subst (Noting s (set map at 2) last) n (note-next s map last at g h head 2 2 (classOf head) e refl (bin-kind head a b) (bin-after head a b) .2)
 
 pub note-end : (s map : List ℕ) (last at : ℕ) → Noting s map last at → last ≤ at → Kinds s map
 note-end s map last at g h u = go (ltb u at) refl

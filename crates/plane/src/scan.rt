@@ -1,9 +1,11 @@
 // An accepted frame scanned item by item, with no rules again: what stands at a word, and the kinds of all its words.
 ghost use mathlib.Core.Path.{_≡_};
 ghost use mathlib.Core.List.{_∷_, []};
-ghost use Prim.Native.Nat.{ℕ, _≤_, _<_};
+ghost use Prim.Native.Nat.{ℕ, _+_, _*_, _≤_, _<_};
 ghost use lib.ListN.{length, getD};
+ghost use Rattle.format.specs.Words.{wordAt, longAt};
 ghost use Rattle.format.specs.Answers.{accepted};
+ghost use Rattle.format.specs.Book.{classOf};
 ghost use Rattle.format.specs.Spots as spots;
 ghost use Rattle.format.specs.Scans.{kindBy, valueAt, spotFrom, headerKey, underBy};
 ghost use Rattle.book.specs.Views.{view};
@@ -104,6 +106,64 @@ fn spot_from(kind: u8, value: u32, key: u32) -> SpotFound
     })
 }
 
+fn wide(x: u8) -> u16
+    ensures { λ r. ⌜ (r ≡ x) × (r < 256) ⌝ }
+{
+    x as u16
+}
+
+// The word at index i, which is there.
+pub(crate) fn word_in(s: &[u8], i: usize) -> u16
+    requires { ⌜ 2 * i + 1 < length (now s) ⌝ }
+    ensures { λ r. ⌜ r ≡ wordAt (now (s .entry)) i ⌝ }
+{
+    let low = wide(s[2 * i]);
+    let high = wide(s[2 * i + 1]);
+    low + 256 * high
+}
+
+// The number of 32 bits whose words at i and i + 1 are there.
+pub(crate) fn long_in(s: &[u8], i: usize) -> u32
+    requires { ⌜ 2 * i + 3 < length (now s) ⌝ }
+    ensures { λ r. ⌜ r ≡ longAt (now (s .entry)) i ⌝ }
+{
+    let low = word_in(s, i) as u32;
+    let high = word_in(s, i + 1) as u32;
+    low + 65536 * high
+}
+
+// The first word that begins a Bin, the first that begins a Sample, and the first behind them: from there on items have one word, and headers
+// are the highest. Most words of a frame are told by these alone.
+const BIN: u16 = 0x2000;
+
+const SAMPLE: u16 = 0x3000;
+
+const HIT_COUNT: u16 = 0x4000;
+
+const HEADER: u16 = 0x8000;
+
+// The kind of an item of one word.
+fn kind_high(w: u16) -> u8
+    requires { ⌜ 0x3000 ≤ w ⌝ }
+    ensures { λ r. ⌜ r ≡ kindBy (classOf w) ⌝ }
+{
+    if w < HIT_COUNT {
+        return 1;
+    }
+    0
+}
+
+// The key behind an item of one word.
+fn key_high(w: u16, key: u32) -> u32
+    requires { ⌜ 0x3000 ≤ w ⌝ }
+    ensures { λ r. ⌜ r ≡ underBy (classOf w) w key ⌝ }
+{
+    if HEADER <= w {
+        return header_key(w);
+    }
+    key
+}
+
 // What stands at word w of an accepted frame.
 pub(crate) fn spot_in(f: &[u8], w: usize) -> SpotFound
     requires { ⌜ Accepted house (now f) ⌝ }
@@ -113,15 +173,23 @@ pub(crate) fn spot_in(f: &[u8], w: usize) -> SpotFound
     let mut at: usize = 3;
     let mut key: u32 = 0;
     while at < last {
-        let head = word(f, at);
-        let class = classify(head);
+        let head = word_in(f, at);
         if at == w {
-            let kind = kind_of(class);
+            let kind = kind_of(classify(head));
             let value = value_at(f, kind, at);
             return spot_from(kind, value, key);
         }
+        if SAMPLE <= head {
+            key = key_high(head, key);
+            at += 1;
+            continue;
+        }
+        if BIN <= head {
+            at += 3;
+            continue;
+        }
         let header = header_key(head);
-        key = key_behind(class, head, header, key);
+        key = key_behind(classify(head), head, header, key);
         let more = words_after(head) as usize;
         at = at + 1 + more;
     }
@@ -136,7 +204,17 @@ pub(crate) fn note_kinds(f: &[u8], map: &mut [u8])
     let last = f.len() / 2 - 1;
     let mut at: usize = 3;
     while at < last {
-        let head = word(f, at);
+        let head = word_in(f, at);
+        if SAMPLE <= head {
+            map[at] = kind_high(head);
+            at += 1;
+            continue;
+        }
+        if BIN <= head {
+            map[at] = 2;
+            at += 3;
+            continue;
+        }
         map[at] = kind_of(classify(head));
         let more = words_after(head) as usize;
         at = at + 1 + more;

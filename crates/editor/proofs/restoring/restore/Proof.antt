@@ -1,29 +1,29 @@
 -- `editor::restoring::restore` meets its contract.
 -- Assumes nothing.
 use mathlib.Core.Path.{sym, ap, _∙_}
-use Rattle.plane.specs.Views.{viewJudged}
-use Rattle.editor.proofs.KnownLaws.{judged-known, judged-refused}
+use Rattle.plane.specs.Views.{viewRecord}
+use Rattle.editor.proofs.KnownLaws.{record-known, record-refused}
 use Rattle.editor.proofs.RestoreLaws.{restored-unknown}
 use borrow.Author.Needs.{needs}
 use Rattle.editor.proofs.restoring.restore.Statement.{statement}
 use Rattle.editor.proofs.restoring.restore.Tie as tie
 
-judge-requires : tie.Need-judge-requires
-judge-requires c κs = search needs
+record-requires : tie.Need-record-requires
+record-requires c κs = search needs
 
-enum-known-judged : tie.Need-enum-known-judged
-enum-known-judged c = search needs
+enum-known-found : tie.Need-enum-known-found
+enum-known-found c = search needs
 
-enum-known-judged-2 : tie.Need-enum-known-judged-2
-enum-known-judged-2 c = search needs
+enum-known-found-2 : tie.Need-enum-known-found-2
+enum-known-found-2 c = search needs
 
 restore-known-requires : tie.Need-restore-known-requires
 restore-known-requires c κs =
     let j = c .before .before in
-    judged-known _ 0 _ _ (sym (ap viewJudged (j .judged2 .given .1)) ∙ j .before .before .judge .ensures) .0
+    record-known _ _ (sym (ap viewRecord (j .found2 .given .1)) ∙ j .before .before .«record» .ensures)
 
 returns : tie.Need-returns
-returns c = restored-unknown _ _ _ _ _ (judged-refused _ 0 _ _ (sym (ap viewJudged (c .before .judged .given .1)) ∙ c .before .before .before .judge .ensures))
+returns c = restored-unknown _ _ _ _ _ (record-refused _ _ _ (sym (ap viewRecord (c .before .found .given .1)) ∙ c .before .before .before .«record» .ensures))
 
 same-length : tie.Need-same-length
 same-length c = search needs
@@ -35,9 +35,9 @@ pub restore-spec : {M : Type 1} → statement M
 restore-spec =
     tie.close
     (tie.spec
-    judge-requires
-    enum-known-judged
-    enum-known-judged-2
+    record-requires
+    enum-known-found
+    enum-known-found-2
     restore-known-requires
     returns
     same-length

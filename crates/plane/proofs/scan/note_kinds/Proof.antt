@@ -1,11 +1,11 @@
--- `plane::scan::note_kinds` meets its contract: the words passed are noted, the others still blank.`
+-- `plane::scan::note_kinds` meets its contract: the words passed are noted, the others still blank.
 -- Assumes nothing.
 use Prim.Native.Nat.{_-_}
 use mathlib.Core.Path.{_≡_, refl}
 use lib.ListN.{length, length-set}
 use native.Mathlib.Omega.{arith}
 use borrow.Author.Needs.{needs}
-use Rattle.plane.proofs.Scanning.{Noting, sized, note-start, note-next, note-end}
+use Rattle.plane.proofs.Scanning.{Noting, sized, note-start, note-next, note-one, note-bin, note-end}
 use Rattle.plane.proofs.scan.note_kinds.Statement.{statement}
 use Rattle.plane.proofs.scan.note_kinds.Tie as tie
 
@@ -21,8 +21,39 @@ sub-last c = omega (arith, sized _ (c .before .before .pre .0) .some-words)
 loop-holds : tie.Need-loop-holds Inv-loop μ-loop
 loop-holds c = (note-start _ _ (c .before .before .pre .0) (c .before .before .pre .1) (c .before .before .pre .2), refl)
 
-word-requires : tie.Need-word-requires Inv-loop μ-loop
-word-requires c κs = search needs
+word-in-requires : tie.Need-word-in-requires Inv-loop μ-loop
+word-in-requires c κs = omega (arith, c .before .loop .inv .0 .ends)
+
+kind-high-requires : tie.Need-kind-high-requires Inv-loop μ-loop
+kind-high-requires c κs = omega arith
+
+slice-write-map : tie.Need-slice-write-map Inv-loop μ-loop
+slice-write-map c = let g = c .before .before .before .before .loop .inv .0 in omega (arith, g .few, g .long)
+
+add-at : tie.Need-add-at Inv-loop μ-loop
+add-at c = omega (arith, c .before .before .before .before .loop .inv .0 .few)
+
+loop-less : tie.Need-loop-less Inv-loop μ-loop
+loop-less c = omega arith
+
+loop-again : tie.Need-loop-again Inv-loop μ-loop
+loop-again c =
+    let w = c .before .before in
+    (note-one _ _ _ _ (w .before .before .loop .inv .0) (w .before .loop-test .taken) _ _ (w .word-in .ensures) (omega arith) (omega arith) (c .kind-high .ensures), rw length-set (w .before .before .loop .inv .1))
+
+slice-write-map-2 : tie.Need-slice-write-map-2 Inv-loop μ-loop
+slice-write-map-2 c = let g = c .before .before .before .before .loop .inv .0 in omega (arith, g .few, g .long)
+
+add-at-2 : tie.Need-add-at-2 Inv-loop μ-loop
+add-at-2 c = omega (arith, c .before .before .before .before .loop .inv .0 .few)
+
+loop-less-2 : tie.Need-loop-less-2 Inv-loop μ-loop
+loop-less-2 c = omega arith
+
+loop-again-2 : tie.Need-loop-again-2 Inv-loop μ-loop
+loop-again-2 c =
+    let w = c .before .before in
+    (note-bin _ _ _ _ (w .before .before .loop .inv .0) (w .before .loop-test .taken) _ (w .word-in .ensures) (omega arith) (omega arith), rw length-set (w .before .before .loop .inv .1))
 
 classify-requires : tie.Need-classify-requires Inv-loop μ-loop
 classify-requires c κs = search needs
@@ -30,8 +61,8 @@ classify-requires c κs = search needs
 kind-of-requires : tie.Need-kind-of-requires Inv-loop μ-loop
 kind-of-requires c κs = search needs
 
-slice-write-map : tie.Need-slice-write-map Inv-loop μ-loop
-slice-write-map c = let g = c .before .before .before .before .loop .inv .0 in omega (arith, g .few, g .long)
+slice-write-map-3 : tie.Need-slice-write-map-3 Inv-loop μ-loop
+slice-write-map-3 c = let g = c .before .before .before .before .before .before .loop .inv .0 in omega (arith, g .few, g .long)
 
 words-after-requires : tie.Need-words-after-requires Inv-loop μ-loop
 words-after-requires c κs = search needs
@@ -39,22 +70,22 @@ words-after-requires c κs = search needs
 cast-more : tie.Need-cast-more Inv-loop μ-loop
 cast-more c = search needs
 
-add-at : tie.Need-add-at Inv-loop μ-loop
-add-at c = omega (arith, c .before .before .before .before .before .loop .inv .0 .few)
+add-at-3 : tie.Need-add-at-3 Inv-loop μ-loop
+add-at-3 c = omega (arith, c .before .before .before .before .before .before .before .loop .inv .0 .few)
 
-add-at-2 : tie.Need-add-at-2 Inv-loop μ-loop
-add-at-2 c = omega (arith, c .before .before .before .before .before .loop .inv .0 .few)
+add-at-4 : tie.Need-add-at-4 Inv-loop μ-loop
+add-at-4 c = omega (arith, c .before .before .before .before .before .before .before .loop .inv .0 .few)
 
-loop-less : tie.Need-loop-less Inv-loop μ-loop
-loop-less c =
-    let w = c .before .before .before in
-    let m = note-next _ _ _ _ (w .before .before .loop .inv .0) (w .before .loop-test .taken) _ _ _ _ (w .word .ensures) (c .before .before .classify .ensures) (c .before .kind-of .ensures) (c .words-after .ensures) in
+loop-less-3 : tie.Need-loop-less-3 Inv-loop μ-loop
+loop-less-3 c =
+    let w = c .before .before .before .before .before in
+    let m = note-next _ _ _ _ (w .before .before .loop .inv .0) (w .before .loop-test .taken) _ _ _ _ (w .word-in .ensures) (c .before .before .classify .ensures) (c .before .kind-of .ensures) (c .words-after .ensures) in
     omega (arith, m .0)
 
-loop-again : tie.Need-loop-again Inv-loop μ-loop
-loop-again c =
-    let w = c .before .before .before in
-    let m = note-next _ _ _ _ (w .before .before .loop .inv .0) (w .before .loop-test .taken) _ _ _ _ (w .word .ensures) (c .before .before .classify .ensures) (c .before .kind-of .ensures) (c .words-after .ensures) in
+loop-again-3 : tie.Need-loop-again-3 Inv-loop μ-loop
+loop-again-3 c =
+    let w = c .before .before .before .before .before in
+    let m = note-next _ _ _ _ (w .before .before .loop .inv .0) (w .before .loop-test .taken) _ _ _ _ (w .word-in .ensures) (c .before .before .classify .ensures) (c .before .kind-of .ensures) (c .words-after .ensures) in
     (m .2, rw length-set (w .before .before .loop .inv .1))
 
 same-length : tie.Need-same-length Inv-loop μ-loop
@@ -71,15 +102,24 @@ note-kinds-spec =
     μ-loop
     sub-last
     loop-holds
-    word-requires
-    classify-requires
-    kind-of-requires
+    word-in-requires
+    kind-high-requires
     slice-write-map
-    words-after-requires
-    cast-more
     add-at
-    add-at-2
     loop-less
     loop-again
+    slice-write-map-2
+    add-at-2
+    loop-less-2
+    loop-again-2
+    classify-requires
+    kind-of-requires
+    slice-write-map-3
+    words-after-requires
+    cast-more
+    add-at-3
+    add-at-4
+    loop-less-3
+    loop-again-3
     same-length
     returns)

@@ -1,0 +1,158 @@
+// answer: cases on standard input (crates/agree has their format), the baseline's lines on standard output, for `second compare`. The ops that
+// are there: 1, 2, 4 to 10, 12 to 16.
+#include "baseline.h"
+#include "cases.h"
+
+// Of the C library; the compiler comes without its headers.
+int printf(const char *format, ...);
+
+static int refused(struct refusal r) {
+    if (r.number) printf("refused %u at %u", r.number, r.place);
+    return r.number != 0;
+}
+
+static void done(struct refusal r) {
+    if (!refused(r)) printf("ok");
+}
+
+// The check sum of a lent buffer, a step at a time.
+struct sum {
+    u64 a, b;
+};
+
+static struct sum summed(struct sum s, u64 element) {
+    const u64 modulus = 4294967291;
+    const u64 a = (s.a + element) % modulus;
+    return (struct sum){ a, (s.b + a) % modulus };
+}
+
+static void buffer(usize elements, struct sum s) { printf(" | %lu %lu", elements, s.b << 32 | s.a); }
+
+static void bytes(const u8 *p, usize n) {
+    struct sum s = { 1, 0 };
+    for (usize i = 0; i < n; i++) s = summed(s, p[i]);
+    buffer(n, s);
+}
+
+static void frame(const struct a_case *c) {
+    const struct verdict v = baseline_read(c->p, c->n);
+    if (!refused((struct refusal){ v.number, v.place })) printf("ok %c %u %u %u", v.kind, v.card, v.sequence, v.items);
+}
+
+// How many fields a class of the word book has.
+static const u8 fields[15] = { [1] = 3, [2] = 3, [3] = 3, [4] = 1, [5] = 2, [6] = 2, [7] = 1, [11] = 1, [12] = 3, [13] = 1 };
+
+static void item(const struct a_case *c) {
+    struct item x;
+    if (refused(baseline_item(c->p, c->n, c->a[0], &x))) return;
+    printf("ok %u", x.class);
+    for (u32 i = 0; i < fields[x.class]; i++) printf(" %lu", x.fields[i]);
+    printf(" next %u", x.next);
+}
+
+static void event(const struct a_case *c) {
+    struct event x;
+    if (refused(baseline_event(c->p, c->n, c->a[0], &x))) return;
+    printf("ok %u %lu %u %u %u", x.type, x.timestamp, x.number, x.size, x.index);
+}
+
+static void samples(const struct a_case *c) {
+    static u16 out[600];
+    struct sum s = { 1, 0 };
+    const usize room = c->a[3] <= 600 ? c->a[3] : 600;
+    for (usize i = 0; i < room; i++) out[i] = (u16)c->a[4];
+    done(baseline_samples(c->p, c->n, c->a[0], (u32)c->a[1], (u32)c->a[2], out, room));
+    for (usize i = 0; i < room; i++) s = summed(s, out[i]);
+    buffer(room, s);
+}
+
+static void counts(const struct a_case *c) {
+    static u32 out[4200];
+    struct sum s = { 1, 0 };
+    const usize room = c->a[2] <= 4200 ? c->a[2] : 4200;
+    for (usize i = 0; i < room; i++) out[i] = (u32)c->a[3];
+    done(baseline_counts(c->p, c->n, (u32)c->a[0], (u32)c->a[1], out, room));
+    for (usize i = 0; i < room; i++) s = summed(s, out[i]);
+    buffer(room, s);
+}
+
+static void written(struct refusal r, usize length, const struct a_case *c) {
+    if (!refused(r)) printf("ok %lu", length);
+    bytes(c->p, c->n);
+}
+
+static void begin(struct a_case *c) {
+    struct draft d = { 0 };
+    const struct refusal r = baseline_begin(c->p, c->n, "DMC"[c->a[0]], (u32)c->a[1], (u32)c->a[2], &d);
+    written(r, d.length, c);
+}
+
+static void add(struct a_case *c) {
+    struct draft d = { 0 };
+    const struct item x = { (u32)c->a[1], 0, { c->a[2], c->a[3], c->a[4] } };
+    const struct refusal r = baseline_add(c->p, c->n, c->a[0], x, &d);
+    written(r, d.length, c);
+}
+
+static void add_text(struct a_case *c) {
+    struct draft d = { 0 };
+    const struct refusal r = baseline_add_text(c->p, c->n, c->a[0], c->q, c->m, &d);
+    written(r, d.length, c);
+}
+
+static void close_frame(struct a_case *c) {
+    usize length = 0;
+    const struct refusal r = baseline_close(c->p, c->n, c->a[0], &length);
+    written(r, length, c);
+}
+
+static void record(const struct a_case *c) {
+    struct record x;
+    if (!refused(baseline_record(c->p, c->n, &x))) printf("ok %u %u %u", x.length, x.count, x.total);
+}
+
+static void entry(const struct a_case *c) {
+    struct entry x;
+    if (!refused(baseline_entry(c->p, c->n, c->a[0], &x)))
+        printf("ok %u %u %u %u %u %u", x.word, x.kind, x.old, x.new, x.operator, x.reason);
+}
+
+static void open_record(struct a_case *c) {
+    done(baseline_open(c->p, c->n, c->q, c->m));
+    bytes(c->p, c->n);
+}
+
+static void edit(struct a_case *c) {
+    done(baseline_edit(c->p, c->n, (struct correction){ c->a[0], (u32)c->a[1], (u32)c->a[2], (u32)c->a[3] }));
+    bytes(c->p, c->n);
+}
+
+static void restore(struct a_case *c) {
+    done(baseline_restore(c->p, c->n, c->a[0], c->q, c->m));
+    bytes(c->q, c->m);
+}
+
+int main(void) {
+    static struct a_case c;
+    while (next_case(&c)) {
+        switch (c.op) {
+        case 1: frame(&c); break;
+        case 2: item(&c); break;
+        case 4: event(&c); break;
+        case 5: samples(&c); break;
+        case 6: counts(&c); break;
+        case 7: begin(&c); break;
+        case 8: add(&c); break;
+        case 9: add_text(&c); break;
+        case 10: close_frame(&c); break;
+        case 12: record(&c); break;
+        case 13: entry(&c); break;
+        case 14: open_record(&c); break;
+        case 15: edit(&c); break;
+        case 16: restore(&c); break;
+        default: printf("bad case\n"); return 1;
+        }
+        printf("\n");
+    }
+    return 0;
+}

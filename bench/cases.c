@@ -1,0 +1,29 @@
+#include "cases.h"
+
+long read(int from, void *to, usize n);
+
+static u64 number(const u8 *s, u32 bytes) {
+    u64 x = 0;
+    for (u32 i = bytes; i-- > 0;) x = x << 8 | s[i];
+    return x;
+}
+
+int fill(u8 *to, usize n) {
+    while (n > 0) {
+        const long got = read(0, to, n);
+        if (got <= 0) return 0;
+        to += got;
+        n -= (usize)got;
+    }
+    return 1;
+}
+
+int next_case(struct a_case *c) {
+    u8 head[72];
+    if (!fill(head, sizeof head)) return 0;
+    c->op = head[0];
+    for (u32 i = 0; i < 7; i++) c->a[i] = number(head + 8 + 8 * i, 8);
+    c->n = number(head + 64, 4);
+    c->m = number(head + 68, 4);
+    return c->n <= PAYLOAD && c->m <= PAYLOAD && fill(c->p, c->n) && fill(c->q, c->m);
+}

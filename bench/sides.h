@@ -1,0 +1,21 @@
+// The calls that are measured, of the proved library and of the baseline, both behind the same table: what is around a call costs the same.
+#ifndef SIDES_H
+#define SIDES_H
+#include "cases.h"
+
+// Memory that a call fills; its lengths are the case's.
+struct lent {
+    u16 samples[600];
+    u32 counts[4200];
+};
+
+// A call on a case, its answer as one number: a refusal's number and place, or something above 2^48.
+typedef u64 (*side)(struct a_case *c, struct lent *out);
+
+static inline u64 refusal_number(u32 number, u64 place) { return (u64)number << 16 | place; }
+
+static inline u64 accepted_number(u64 high, u64 low) { return (u64)1 << 48 | high << 16 | low; }
+
+extern const side ours[32], theirs[32]; // by op; 0 where the call is not measured
+
+#endif
