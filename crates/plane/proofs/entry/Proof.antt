@@ -17,7 +17,7 @@ tells c = told _ _ (sym (ap viewRecord (c .found2 .given .1)) ∙ c .before .bef
 
 inside : (c : tie.After-struct-known2)
     → (1 ≤ c .before .before .before .before .before .before .before .before .args .j)
-    × (16 + c .before .before .before .before .found2 .given .0 .0 .length + 16 * (c .before .before .before .before .before .before .before .before .args .j - 1) + 16 ≤ length (now (c .before .before .before .before .before .before .before .before .args .buf)))
+    × (16 + c .before .before .before .before .found2 .given .0 .0 .length + 16 * (c .before .before .before .before .before .before .before .before .args .j - 1) ≤ length (now (c .before .before .before .before .before .before .before .before .args .buf)))
 inside c =
     let f = c .before .before .before .before in
     let t = tells f in
