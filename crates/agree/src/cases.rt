@@ -3,7 +3,7 @@ ghost use Prim.Native.Nat.{_+_, _*_, _%_};
 ghost use mathlib.Core.Path.{_≡_};
 
 // The head, taken apart.
-pub struct Case {
+pub(crate) struct Case {
     // How many bytes of the head came: 0 at the end of the input.
     pub got: usize,
     // The op. The seven bytes after it belong to this number, so that it is a listed op only where they are zero.
@@ -56,26 +56,26 @@ fn of_head(head: &[u8], got: usize) -> Case {
 }
 
 // Reads a head from standard input, as far as it comes.
-pub fn read() -> Case {
+pub(crate) fn read() -> Case {
     let mut head = [0u8; 72];
     let got = io::read_full(0, &mut head);
     of_head(&head, got)
 }
 
 // The low 8, 16 and 32 bits of an argument. An op uses them where its row below allows no more.
-pub fn low8(x: u64) -> u8
+pub(crate) fn low8(x: u64) -> u8
     ensures { λ r. ⌜ r ≡ x % 256 ⌝ }
 {
     (x % 256) as u8
 }
 
-pub fn low16(x: u64) -> u16
+pub(crate) fn low16(x: u64) -> u16
     ensures { λ r. ⌜ r ≡ x % 65536 ⌝ }
 {
     (x % 65536) as u16
 }
 
-pub fn low32(x: u64) -> u32
+pub(crate) fn low32(x: u64) -> u32
     ensures { λ r. ⌜ r ≡ x % 4294967296 ⌝ }
 {
     (x % 4294967296) as u32
@@ -102,7 +102,7 @@ impl Case {
     }
 
     // Whether the head is whole and has nothing but what its op allows: a row for each op that is there.
-    pub fn is_allowed(self) -> bool {
+    pub(crate) fn is_allowed(self) -> bool {
         let op = self.op;
         match op {
             0 => self.within(Case::WORD, 0, 0, 0, 0, false, false),

@@ -4,7 +4,7 @@ ghost use Prim.Native.Nat.{_≤_};
 ghost use lib.ListN.{length};
 
 // Adds a text.
-pub fn append(line: &mut [u8], at: usize, text: &[u8]) -> usize
+pub(crate) fn append(line: &mut [u8], at: usize, text: &[u8]) -> usize
     ensures { λ r. ⌜ r ≤ length (now (line .exit)) ⌝ }
 {
     let room = line.len();
@@ -19,7 +19,7 @@ pub fn append(line: &mut [u8], at: usize, text: &[u8]) -> usize
 }
 
 // Adds a number in decimals, with no leading zero.
-pub fn decimal(line: &mut [u8], at: usize, n: u64) -> usize
+pub(crate) fn decimal(line: &mut [u8], at: usize, n: u64) -> usize
     ensures { λ r. ⌜ r ≤ length (now (line .exit)) ⌝ }
 {
     let mut digits = [0u8; 20];
@@ -28,7 +28,7 @@ pub fn decimal(line: &mut [u8], at: usize, n: u64) -> usize
 }
 
 // Adds a space and a number.
-pub fn value(line: &mut [u8], at: usize, n: u64) -> usize
+pub(crate) fn value(line: &mut [u8], at: usize, n: u64) -> usize
     ensures { λ r. ⌜ r ≤ length (now (line .exit)) ⌝ }
 {
     let next = append(line, at, b" ");
@@ -36,14 +36,14 @@ pub fn value(line: &mut [u8], at: usize, n: u64) -> usize
 }
 
 // The line of an accepted call that answers no values.
-pub fn ok(line: &mut [u8]) -> usize
+pub(crate) fn ok(line: &mut [u8]) -> usize
     ensures { λ r. ⌜ r ≤ length (now (line .exit)) ⌝ }
 {
     append(line, 0, b"ok")
 }
 
 // The line of an accepted call that answers one value.
-pub fn ok1(line: &mut [u8], a: u64) -> usize
+pub(crate) fn ok1(line: &mut [u8], a: u64) -> usize
     ensures { λ r. ⌜ r ≤ length (now (line .exit)) ⌝ }
 {
     let at = ok(line);
@@ -51,7 +51,7 @@ pub fn ok1(line: &mut [u8], a: u64) -> usize
 }
 
 // The line of an accepted call that answers two values.
-pub fn ok2(line: &mut [u8], a: u64, b: u64) -> usize
+pub(crate) fn ok2(line: &mut [u8], a: u64, b: u64) -> usize
     ensures { λ r. ⌜ r ≤ length (now (line .exit)) ⌝ }
 {
     let at = ok1(line, a);
@@ -59,14 +59,14 @@ pub fn ok2(line: &mut [u8], a: u64, b: u64) -> usize
 }
 
 // The line of an accepted call that answers three values, and four.
-pub fn ok3(line: &mut [u8], a: u64, b: u64, c: u64) -> usize
+pub(crate) fn ok3(line: &mut [u8], a: u64, b: u64, c: u64) -> usize
     ensures { λ r. ⌜ r ≤ length (now (line .exit)) ⌝ }
 {
     let at = ok2(line, a, b);
     value(line, at, c)
 }
 
-pub fn ok4(line: &mut [u8], a: u64, b: u64, c: u64, d: u64) -> usize
+pub(crate) fn ok4(line: &mut [u8], a: u64, b: u64, c: u64, d: u64) -> usize
     ensures { λ r. ⌜ r ≤ length (now (line .exit)) ⌝ }
 {
     let at = ok3(line, a, b, c);
@@ -74,7 +74,7 @@ pub fn ok4(line: &mut [u8], a: u64, b: u64, c: u64, d: u64) -> usize
 }
 
 // The line of a refused call.
-pub fn refused(line: &mut [u8], number: u32, place: usize) -> usize
+pub(crate) fn refused(line: &mut [u8], number: u32, place: usize) -> usize
     ensures { λ r. ⌜ r ≤ length (now (line .exit)) ⌝ }
 {
     let next = append(line, 0, b"refused");
@@ -84,7 +84,7 @@ pub fn refused(line: &mut [u8], number: u32, place: usize) -> usize
 }
 
 // Adds the length of a lent buffer and its check sum.
-pub fn buffer(line: &mut [u8], at: usize, elements: usize, sum: u64) -> usize
+pub(crate) fn buffer(line: &mut [u8], at: usize, elements: usize, sum: u64) -> usize
     ensures { λ r. ⌜ r ≤ length (now (line .exit)) ⌝ }
 {
     let next = append(line, at, b" |");
@@ -93,7 +93,7 @@ pub fn buffer(line: &mut [u8], at: usize, elements: usize, sum: u64) -> usize
 }
 
 // Adds the first `made` bytes of a line and a line feed; where there are none, what is said of a bad case.
-pub fn finished(out: &mut [u8], at: usize, line: &[u8], made: usize) -> usize
+pub(crate) fn finished(out: &mut [u8], at: usize, line: &[u8], made: usize) -> usize
     requires { ⌜ made ≤ length (now line) ⌝ }
     ensures { λ r. ⌜ r ≤ length (now (out .exit)) ⌝ }
 {

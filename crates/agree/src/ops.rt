@@ -9,7 +9,7 @@ use crate::ops_record;
 use crate::ops_writer;
 
 // Answers a case whose payloads are p and q; 0 where it is none.
-pub fn answer(case: Case, p: &mut [u8], q: &mut [u8], line: &mut [u8]) -> usize {
+pub(crate) fn answer(case: Case, p: &mut [u8], q: &mut [u8], line: &mut [u8]) -> usize {
     if !case.is_allowed() {
         return 0;
     }

@@ -25,6 +25,6 @@ fn row(class: Class) -> u64 {
 }
 
 // Op 0: the class of the word a0.
-pub fn classify(a0: u64, line: &mut [u8]) -> usize {
+pub(crate) fn classify(a0: u64, line: &mut [u8]) -> usize {
     lines::ok1(line, row(book::class::classify(cases::low16(a0))))
 }

@@ -20,13 +20,13 @@ fn told(answer: Done, left: &[u8], line: &mut [u8]) -> usize {
 }
 
 // Op 14: opens a record of the frame q in p.
-pub fn open(p: &mut [u8], q: &[u8], line: &mut [u8]) -> usize {
+pub(crate) fn open(p: &mut [u8], q: &[u8], line: &mut [u8]) -> usize {
     let answer = editor::opening::open(p, q);
     told(answer, p, line)
 }
 
 // Op 15: edits p: word a0, value a1, operator a2, reason a3.
-pub fn edit(p: &mut [u8], a0: u64, a1: u64, a2: u64, a3: u64, line: &mut [u8]) -> usize {
+pub(crate) fn edit(p: &mut [u8], a0: u64, a1: u64, a2: u64, a3: u64, line: &mut [u8]) -> usize {
     let c = Correction {
         word: a0 as usize,
         value: cases::low32(a1),
@@ -38,7 +38,7 @@ pub fn edit(p: &mut [u8], a0: u64, a1: u64, a2: u64, a3: u64, line: &mut [u8]) -
 }
 
 // Op 16: restores the record p to a0 into q.
-pub fn restore(p: &[u8], q: &mut [u8], a0: u64, line: &mut [u8]) -> usize {
+pub(crate) fn restore(p: &[u8], q: &mut [u8], a0: u64, line: &mut [u8]) -> usize {
     let answer = editor::restoring::restore(p, a0 as usize, q);
     told(answer, q, line)
 }

@@ -27,6 +27,6 @@ fn told(answer: Followed, line: &mut [u8]) -> usize {
 }
 
 // Op 11: the follower in the state a0 is fed the word a1.
-pub fn follow(a0: u64, a1: u64, line: &mut [u8]) -> usize {
+pub(crate) fn follow(a0: u64, a1: u64, line: &mut [u8]) -> usize {
     told(state_of(a0).follow(cases::low16(a1)), line)
 }

@@ -27,7 +27,7 @@ fn accepted(f: Frame, line: &mut [u8]) -> usize {
 }
 
 // Op 1: the verdict on the frame p.
-pub fn read(p: &[u8], line: &mut [u8]) -> usize {
+pub(crate) fn read(p: &[u8], line: &mut [u8]) -> usize {
     let reading = frame::reading::read(p);
     match reading {
         Reading::Accepted(f) => accepted(f, line),
@@ -59,7 +59,7 @@ fn found(x: FoundItem, line: &mut [u8]) -> usize {
 }
 
 // Op 2: the item of the frame p at ordinal a0.
-pub fn item(p: &[u8], a0: u64, line: &mut [u8]) -> usize {
+pub(crate) fn item(p: &[u8], a0: u64, line: &mut [u8]) -> usize {
     let answer = frame::items::item(p, a0 as usize);
     match answer {
         Found::Item(x) => found(x, line),
@@ -68,7 +68,7 @@ pub fn item(p: &[u8], a0: u64, line: &mut [u8]) -> usize {
 }
 
 // Op 3: the text of the frame p at ordinal a0, by its length and check sum.
-pub fn text(p: &[u8], a0: u64, line: &mut [u8]) -> usize {
+pub(crate) fn text(p: &[u8], a0: u64, line: &mut [u8]) -> usize {
     let part = frame::items::text(p, a0 as usize);
     lines::ok2(line, part.len() as u64, sums::bytes(part))
 }

@@ -18,7 +18,7 @@ fn told(x: Event, line: &mut [u8]) -> usize {
 }
 
 // Op 4: event a0 of the frame p.
-pub fn event(p: &[u8], a0: u64, line: &mut [u8]) -> usize {
+pub(crate) fn event(p: &[u8], a0: u64, line: &mut [u8]) -> usize {
     let answer = questions::event::event(p, a0 as usize);
     match answer {
         EventFound::Event(x) => told(x, line),
@@ -46,7 +46,15 @@ fn samples_into(
 }
 
 // Op 5: samples of event a0, chip a1, channel a2 of the frame p into a3 words, each a4 before.
-pub fn samples(p: &[u8], a0: u64, a1: u64, a2: u64, a3: u64, a4: u64, line: &mut [u8]) -> usize {
+pub(crate) fn samples(
+    p: &[u8],
+    a0: u64,
+    a1: u64,
+    a2: u64,
+    a3: u64,
+    a4: u64,
+    line: &mut [u8],
+) -> usize {
     let n = a3 as usize;
     if 600 < n {
         return 0;
@@ -69,7 +77,7 @@ fn counts_into(p: &[u8], chip: u16, channel: u16, out: &mut [u32], line: &mut [u
 }
 
 // Op 6: counts of chip a0, channel a1 of the frame p into a2 words of 32 bits, each a3 before.
-pub fn counts(p: &[u8], a0: u64, a1: u64, a2: u64, a3: u64, line: &mut [u8]) -> usize {
+pub(crate) fn counts(p: &[u8], a0: u64, a1: u64, a2: u64, a3: u64, line: &mut [u8]) -> usize {
     let n = a2 as usize;
     if 4200 < n {
         return 0;

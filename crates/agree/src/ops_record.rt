@@ -5,7 +5,7 @@ use plane::answers::EntryFound;
 use plane::answers::RecordFound;
 
 // Op 12: the verdict on the record p.
-pub fn record(p: &[u8], line: &mut [u8]) -> usize {
+pub(crate) fn record(p: &[u8], line: &mut [u8]) -> usize {
     let answer = plane::record(p);
     match answer {
         RecordFound::Record(x) => lines::ok3(line, x.length as u64, x.count as u64, x.total as u64),
@@ -26,7 +26,7 @@ fn told(x: Entry, line: &mut [u8]) -> usize {
 }
 
 // Op 13: entry a0 of the record p.
-pub fn entry(p: &[u8], a0: u64, line: &mut [u8]) -> usize {
+pub(crate) fn entry(p: &[u8], a0: u64, line: &mut [u8]) -> usize {
     let answer = plane::entry(p, a0 as usize);
     match answer {
         EntryFound::Entry(x) => told(x, line),

@@ -36,7 +36,7 @@ fn kind_of(code: u64) -> Kind {
 }
 
 // Op 7: begins a frame of kind a0, card a1 and sequence word a2 in p.
-pub fn begin(p: &mut [u8], a0: u64, a1: u64, a2: u64, line: &mut [u8]) -> usize {
+pub(crate) fn begin(p: &mut [u8], a0: u64, a1: u64, a2: u64, line: &mut [u8]) -> usize {
     let answer = writer::calls::begin(p, kind_of(a0), cases::low16(a1), cases::low16(a2));
     let at = told(answer, line);
     left(p, line, at)
@@ -162,7 +162,15 @@ fn wide(
 }
 
 // Op 8: adds an item of class a1 with the fields a2, a3, a4 to p of length a0.
-pub fn add(p: &mut [u8], a0: u64, a1: u64, a2: u64, a3: u64, a4: u64, line: &mut [u8]) -> usize {
+pub(crate) fn add(
+    p: &mut [u8],
+    a0: u64,
+    a1: u64,
+    a2: u64,
+    a3: u64,
+    a4: u64,
+    line: &mut [u8],
+) -> usize {
     if (a1 == 5) | (a1 == 12) | (a1 == 13) {
         return wide(p, a0, a1, a2, a3, a4, line);
     }
@@ -178,14 +186,14 @@ pub fn add(p: &mut [u8], a0: u64, a1: u64, a2: u64, a3: u64, a4: u64, line: &mut
 }
 
 // Op 9: adds the text q to p of length a0.
-pub fn add_text(p: &mut [u8], q: &[u8], a0: u64, line: &mut [u8]) -> usize {
+pub(crate) fn add_text(p: &mut [u8], q: &[u8], a0: u64, line: &mut [u8]) -> usize {
     let answer = writer::calls::add_text(p, a0 as usize, q);
     let at = told(answer, line);
     left(p, line, at)
 }
 
 // Op 10: closes p of length a0.
-pub fn close(p: &mut [u8], a0: u64, line: &mut [u8]) -> usize {
+pub(crate) fn close(p: &mut [u8], a0: u64, line: &mut [u8]) -> usize {
     let answer = writer::calls::close(p, a0 as usize);
     let at = told(answer, line);
     left(p, line, at)

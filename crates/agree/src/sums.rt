@@ -12,7 +12,7 @@ fn add(a: u64, e: u64) -> u64
 }
 
 // The check sum of bytes.
-pub fn bytes(s: &[u8]) -> u64
+pub(crate) fn bytes(s: &[u8]) -> u64
     ensures { λ r. ⌜ r ≡ checkSum (now (s .entry)) ⌝ }
 {
     let mut a = 1;
@@ -27,7 +27,7 @@ pub fn bytes(s: &[u8]) -> u64
 }
 
 // The check sum of numbers of 16 bits.
-pub fn words(s: &[u16]) -> u64
+pub(crate) fn words(s: &[u16]) -> u64
     ensures { λ r. ⌜ r ≡ checkSum (now (s .entry)) ⌝ }
 {
     let mut a = 1;
@@ -42,7 +42,7 @@ pub fn words(s: &[u16]) -> u64
 }
 
 // The check sum of numbers of 32 bits.
-pub fn longs(s: &[u32]) -> u64
+pub(crate) fn longs(s: &[u32]) -> u64
     ensures { λ r. ⌜ r ≡ checkSum (now (s .entry)) ⌝ }
 {
     let mut a = 1;
