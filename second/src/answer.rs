@@ -8,8 +8,9 @@ use crate::cases::*;
 use crate::follower::{follow, Follower};
 use crate::frame;
 use crate::item::Item;
+use crate::listing::listing;
 use crate::record;
-use crate::rules::{Kind, Refusal};
+use crate::rules::{refuse, Kind, Refusal, ROOM};
 use crate::writer;
 
 /// The line for input that is no case.
@@ -134,11 +135,25 @@ fn record_call(case: &mut Case) -> String {
             let done = record::edit(&mut case.p, a[0], a[1], a[2], a[3]);
             format!("{} | {}", verdict(done.map(|()| vec![])), sum(&case.p))
         }
+        LIST => {
+            let done = list(&case.p, &mut case.q);
+            format!("{} | {}", verdict(done.map(|n| numbers(&[n as u64]))), sum(&case.q))
+        }
         _ => {
             let done = record::restore(&case.p, a[0], &mut case.q);
             format!("{} | {}", verdict(done.map(|()| vec![])), sum(&case.q))
         }
     }
+}
+
+/// Puts the listing of a buffer at the start of another.
+fn list(buffer: &[u8], out: &mut [u8]) -> Result<usize, Refusal> {
+    let text = listing(buffer);
+    let Some(start) = out.get_mut(..text.len()) else {
+        return refuse(ROOM);
+    };
+    start.copy_from_slice(text.as_bytes());
+    Ok(text.len())
 }
 
 /// All lines of an input. A bad case is the last line.

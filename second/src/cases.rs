@@ -8,7 +8,7 @@
 
 use crate::book::Class;
 
-pub const OPS: usize = 17;
+pub const OPS: usize = 18;
 pub const MAX_PAYLOAD: usize = 24_576;
 const FIXED_BYTES: usize = 72;
 
@@ -29,10 +29,11 @@ pub const ENTRY: u8 = 13;
 pub const OPEN: u8 = 14;
 pub const EDIT: u8 = 15;
 pub const RESTORE: u8 = 16;
+pub const LIST: u8 = 17;
 
 pub const NAMES: [&str; OPS] = [
     "classify", "read", "item", "text", "event", "samples", "counts", "begin", "add", "add text",
-    "close", "follow", "record", "entry", "open", "edit", "restore",
+    "close", "follow", "record", "entry", "open", "edit", "restore", "list",
 ];
 
 /// One call: the op, its arguments, and the payloads P and Q.
@@ -98,7 +99,7 @@ fn table(case: &Case) -> Option<(Vec<u64>, bool, bool)> {
         ADD => ([vec![ANY, 13], field_limits(case.a[1])?].concat(), true, false),
         ADD_TEXT | RESTORE => (vec![ANY], true, true),
         FOLLOW => (vec![256, U16], false, false),
-        OPEN => (vec![], true, true),
+        OPEN | LIST => (vec![], true, true),
         EDIT => (vec![U32, U32, U32, U32], true, false),
         _ => return None,
     })

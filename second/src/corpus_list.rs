@@ -1,7 +1,7 @@
 //! Buffers for `list`: fixed ones at the edges, and fresh ones, sound and
 //! damaged.
 
-use crate::cases::{Cases, RECORD};
+use crate::cases::{Case, Cases, LIST, MAX_PAYLOAD, RECORD};
 use crate::damage::put_word;
 use crate::known::{figures, filled, framed, long_frames, MONITOR};
 use crate::listing::{listing, READ};
@@ -90,6 +90,20 @@ pub fn fixed() -> Vec<(&'static str, Vec<u8>)> {
         ("first-entry-refused", with_byte(edited(&third, 512), 16 + 34 + 14, 0)),
         ("longest-frame", about(&long_frames()[0].bytes)),
     ]
+}
+
+/// The fixed buffers listed into room that is short, exact and more.
+pub fn list_cases() -> Vec<Case> {
+    let mut cases = Vec::new();
+    for (_, record) in fixed() {
+        let need = listing(&record).len();
+        let rooms = if need < 1000 { vec![0, need - 1, need, need + 3] } else { vec![need] };
+        for room in rooms {
+            let room = vec![0x5A; room.min(MAX_PAYLOAD)];
+            cases.push(Case::new(LIST, &[]).p(&record).q(&room));
+        }
+    }
+    cases
 }
 
 /// Fresh buffers as they are made for the record question.

@@ -5,6 +5,7 @@ use crate::cases::*;
 use crate::damage::{damaged_frame, flip_bit, put_word};
 use crate::draft::{small_size, sound, Draft};
 use crate::frame;
+use crate::listing::listing;
 use crate::make::ordinal;
 use crate::make_writer::{lend, room};
 use crate::record::{header_bytes, target_at, Entry, Target, ENTRY_BYTES, HEADER_BYTES};
@@ -182,6 +183,11 @@ pub fn record_case(rng: &mut Rng, op: u8) -> Case {
             let length = room(rng, need, need.max(2));
             let q = rng.bytes(length);
             Case::new(RESTORE, &[ordinal(rng, count + 1)]).p(&p).q(&q)
+        }
+        LIST => {
+            let need = listing(&p).len();
+            let length = room(rng, need, need).min(MAX_PAYLOAD);
+            Case::new(LIST, &[]).p(&p).q(&rng.bytes(length))
         }
         _ => Case::new(op, &[]).p(&p),
     }

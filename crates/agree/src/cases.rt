@@ -138,6 +138,7 @@ impl Case {
                 false,
             ),
             16 => self.within(u64::MAX, 0, 0, 0, 0, true, true),
+            17 => self.within(0, 0, 0, 0, 0, true, true),
             _ => false,
         }
     }

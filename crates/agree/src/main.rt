@@ -2,17 +2,18 @@
 // standard input and writes one line for each. README.md says what a case and its line look like, and how an op is added.
 //
 // The ops that are there: 0 classify, 1 read, 2 item, 3 text, 4 event, 5 samples, 6 counts, 7 begin, 8 add, 9 add text, 10 close, 11 follow, 12 record, 13 entry, 14 open, 15 edit,
-// 16 restore. Any other is a bad case.
+// 16 restore, 17 list. Any other is a bad case.
 mod cases;
-mod lines;
 mod ops;
 mod ops_book;
 mod ops_editor;
 mod ops_follower;
 mod ops_frame;
+mod ops_list;
 mod ops_questions;
 mod ops_record;
 mod ops_writer;
+mod reply;
 mod sums;
 
 ghost use Prim.Native.Nat.{_≤_};
@@ -63,7 +64,7 @@ fn answered(case: Case, p: &mut [u8], q: &mut [u8], out: &mut [u8], waiting: usi
     let mut line = [0u8; 512];
     let made = line_of(case, p, q, &mut line);
     After {
-        waiting: lines::finished(out, waiting, &line, made),
+        waiting: reply::finished(out, waiting, &line, made),
         more: 0 < made,
     }
 }

@@ -4,6 +4,7 @@ use crate::ops_book;
 use crate::ops_editor;
 use crate::ops_follower;
 use crate::ops_frame;
+use crate::ops_list;
 use crate::ops_questions;
 use crate::ops_record;
 use crate::ops_writer;
@@ -32,6 +33,7 @@ pub(crate) fn answer(case: Case, p: &mut [u8], q: &mut [u8], line: &mut [u8]) ->
         14 => ops_editor::open(p, q, line),
         15 => ops_editor::edit(p, case.a0, case.a1, case.a2, case.a3, line),
         16 => ops_editor::restore(p, q, case.a0, line),
+        17 => ops_list::list(p, q, line),
         _ => 0,
     }
 }

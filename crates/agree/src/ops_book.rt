@@ -1,6 +1,6 @@
 // The op over the word book.
 use crate::cases;
-use crate::lines;
+use crate::reply;
 use book::class::Class;
 
 // The row of document 01's word book, from 1; 0 for none.
@@ -26,5 +26,5 @@ fn row(class: Class) -> u64 {
 
 // Op 0: the class of the word a0.
 pub(crate) fn classify(a0: u64, line: &mut [u8]) -> usize {
-    lines::ok1(line, row(book::class::classify(cases::low16(a0))))
+    reply::ok1(line, row(book::class::classify(cases::low16(a0))))
 }

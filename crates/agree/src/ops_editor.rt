@@ -1,6 +1,6 @@
 // The ops over the editor: open, edit, restore.
 use crate::cases;
-use crate::lines;
+use crate::reply;
 use crate::sums;
 use editor::answers::Done;
 use editor::editing::Correction;
@@ -9,12 +9,12 @@ use editor::editing::Correction;
 fn told(answer: Done, left: &[u8], line: &mut [u8]) -> usize {
     match answer {
         Done::Accepted => {
-            let at = lines::ok(line);
-            lines::buffer(line, at, left.len(), sums::bytes(left))
+            let at = reply::ok(line);
+            reply::buffer(line, at, left.len(), sums::bytes(left))
         }
         Done::Refused(r) => {
-            let at = lines::refused(line, r.number, r.place);
-            lines::buffer(line, at, left.len(), sums::bytes(left))
+            let at = reply::refused(line, r.number, r.place);
+            reply::buffer(line, at, left.len(), sums::bytes(left))
         }
     }
 }

@@ -1,6 +1,6 @@
 // The op over the follower of sequence numbers.
 use crate::cases;
-use crate::lines;
+use crate::reply;
 use follower::Followed;
 use follower::Follower;
 
@@ -21,8 +21,8 @@ fn code_of(state: Follower) -> u64 {
 
 fn told(answer: Followed, line: &mut [u8]) -> usize {
     match answer {
-        Followed::Accepted { lost, next } => lines::ok2(line, lost as u64, code_of(next)),
-        Followed::Refused { number, place } => lines::refused(line, number, place),
+        Followed::Accepted { lost, next } => reply::ok2(line, lost as u64, code_of(next)),
+        Followed::Refused { number, place } => reply::refused(line, number, place),
     }
 }
 

@@ -1,20 +1,20 @@
 // The ops over the questions on a frame: events, samples, counts.
 use crate::cases;
-use crate::lines;
+use crate::reply;
 use crate::sums;
 use questions::answers::Event;
 use questions::answers::EventFound;
 use questions::answers::Filled;
 
 fn told(x: Event, line: &mut [u8]) -> usize {
-    let at = lines::ok4(
+    let at = reply::ok4(
         line,
         x.kind as u64,
         x.timestamp,
         x.number as u64,
         x.size as u64,
     );
-    lines::value(line, at, x.index as u64)
+    reply::value(line, at, x.index as u64)
 }
 
 // Op 4: event a0 of the frame p.
@@ -22,14 +22,14 @@ pub(crate) fn event(p: &[u8], a0: u64, line: &mut [u8]) -> usize {
     let answer = questions::event::event(p, a0 as usize);
     match answer {
         EventFound::Event(x) => told(x, line),
-        EventFound::Refused(r) => lines::refused(line, r.number, r.place),
+        EventFound::Refused(r) => reply::refused(line, r.number, r.place),
     }
 }
 
 fn filled(answer: Filled, line: &mut [u8]) -> usize {
     match answer {
-        Filled::Done => lines::ok(line),
-        Filled::Refused(r) => lines::refused(line, r.number, r.place),
+        Filled::Done => reply::ok(line),
+        Filled::Refused(r) => reply::refused(line, r.number, r.place),
     }
 }
 
@@ -42,7 +42,7 @@ fn samples_into(
     line: &mut [u8],
 ) -> usize {
     let at = filled(questions::samples::samples(p, e, chip, channel, out), line);
-    lines::buffer(line, at, out.len(), sums::words(out))
+    reply::buffer(line, at, out.len(), sums::words(out))
 }
 
 // Op 5: samples of event a0, chip a1, channel a2 of the frame p into a3 words, each a4 before.
@@ -73,7 +73,7 @@ pub(crate) fn samples(
 
 fn counts_into(p: &[u8], chip: u16, channel: u16, out: &mut [u32], line: &mut [u8]) -> usize {
     let at = filled(questions::counts::counts(p, chip, channel, out), line);
-    lines::buffer(line, at, out.len(), sums::longs(out))
+    reply::buffer(line, at, out.len(), sums::longs(out))
 }
 
 // Op 6: counts of chip a0, channel a1 of the frame p into a2 words of 32 bits, each a3 before.

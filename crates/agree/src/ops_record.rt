@@ -1,5 +1,5 @@
 // The ops over a record: its verdict, an entry.
-use crate::lines;
+use crate::reply;
 use plane::answers::Entry;
 use plane::answers::EntryFound;
 use plane::answers::RecordFound;
@@ -8,21 +8,21 @@ use plane::answers::RecordFound;
 pub(crate) fn record(p: &[u8], line: &mut [u8]) -> usize {
     let answer = plane::record(p);
     match answer {
-        RecordFound::Record(x) => lines::ok3(line, x.length as u64, x.count as u64, x.total as u64),
-        RecordFound::Refused(r) => lines::refused(line, r.number, r.place),
+        RecordFound::Record(x) => reply::ok3(line, x.length as u64, x.count as u64, x.total as u64),
+        RecordFound::Refused(r) => reply::refused(line, r.number, r.place),
     }
 }
 
 fn told(x: Entry, line: &mut [u8]) -> usize {
-    let at = lines::ok4(
+    let at = reply::ok4(
         line,
         x.word as u64,
         x.kind as u64,
         x.old as u64,
         x.new as u64,
     );
-    let next = lines::value(line, at, x.operator as u64);
-    lines::value(line, next, x.reason as u64)
+    let next = reply::value(line, at, x.operator as u64);
+    reply::value(line, next, x.reason as u64)
 }
 
 // Op 13: entry a0 of the record p.
@@ -30,6 +30,6 @@ pub(crate) fn entry(p: &[u8], a0: u64, line: &mut [u8]) -> usize {
     let answer = plane::entry(p, a0 as usize);
     match answer {
         EntryFound::Entry(x) => told(x, line),
-        EntryFound::Refused(r) => lines::refused(line, r.number, r.place),
+        EntryFound::Refused(r) => reply::refused(line, r.number, r.place),
     }
 }

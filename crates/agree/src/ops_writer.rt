@@ -1,6 +1,6 @@
 // The ops over the writer: begin, add, add text, close.
 use crate::cases;
-use crate::lines;
+use crate::reply;
 use crate::sums;
 use book::items::Bin;
 use book::items::Channel;
@@ -17,14 +17,14 @@ use writer::answers::Written;
 
 fn told(answer: Written, line: &mut [u8]) -> usize {
     match answer {
-        Written::Length(n) => lines::ok1(line, n as u64),
-        Written::Refused(r) => lines::refused(line, r.number, r.place),
+        Written::Length(n) => reply::ok1(line, n as u64),
+        Written::Refused(r) => reply::refused(line, r.number, r.place),
     }
 }
 
 // The line with the buffer as the call left it.
 fn left(p: &[u8], line: &mut [u8], at: usize) -> usize {
-    lines::buffer(line, at, p.len(), sums::bytes(p))
+    reply::buffer(line, at, p.len(), sums::bytes(p))
 }
 
 fn kind_of(code: u64) -> Kind {

@@ -3,3 +3,5 @@ pub mod Putting
 pub mod Listings
 pub mod Figures
 pub mod Unique
+pub mod Splits
+pub mod NothingHidden
