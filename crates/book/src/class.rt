@@ -23,6 +23,21 @@ pub enum Class {
     Unassigned,
 }
 
+impl Class {
+    // The first words of the classes with the shortest prefixes: each reaches from its own to the next one's, the Channel's to the last word.
+    pub const LAST_CELL: u16 = 0x1800;
+
+    pub const BIN: u16 = 0x2000;
+
+    pub const SAMPLE: u16 = 0x3000;
+
+    pub const HIT_COUNT: u16 = 0x4000;
+
+    pub const HISTOGRAM: u16 = 0x8000;
+
+    pub const CHANNEL: u16 = 0xC000;
+}
+
 // The class of a word below 0x1800, by the prefixes of seven bits and more.
 fn classify_long(w: u16) -> Class
     requires { ⌜ w < 0x1800 ⌝ }
@@ -62,13 +77,13 @@ fn classify_low(w: u16) -> Class
     requires { ⌜ w < 0x4000 ⌝ }
     ensures { λ r. ⌜ view r ≡ classOf w ⌝ }
 {
-    if 0x3000 <= w {
+    if Class::SAMPLE <= w {
         return Class::Sample;
     }
-    if 0x2000 <= w {
+    if Class::BIN <= w {
         return Class::Bin;
     }
-    if 0x1800 <= w {
+    if Class::LAST_CELL <= w {
         return Class::LastCell;
     }
     classify_long(w)
@@ -79,13 +94,13 @@ fn classify_low(w: u16) -> Class
 pub fn classify(w: u16) -> Class
     ensures { λ r. ⌜ view r ≡ classOf w ⌝ }
 {
-    if w < 0x4000 {
+    if w < Class::HIT_COUNT {
         return classify_low(w);
     }
-    if w < 0x8000 {
+    if w < Class::HISTOGRAM {
         return Class::HitCount;
     }
-    if w < 0xC000 {
+    if w < Class::CHANNEL {
         return Class::Histogram;
     }
     Class::Channel

@@ -1,6 +1,7 @@
 pub mod BookFigures
 pub mod PrefixLaws
 pub mod BookLaws
+pub mod RangeLaws
 pub mod PageLaws
 pub mod Unassigned
 pub mod WordLaws

@@ -1,16 +1,19 @@
 -- The one loop: what it keeps, for whatever kind of frame its first state is the start of.
 -- Assumes nothing.
-use Prim.Native.Nat.{ℕ, _+_, _*_, _≤_, _<_}
+use Prim.Native.Nat.{ℕ, zero, suc, _+_, _*_, _≤_, _<_}
 use mathlib.Core.Path.{_≡_, refl, sym, ap, subst, _∙_}
 use mathlib.Core.List.{List}
 use mathlib.Core.Bool.{Bool, true, false}
+use native.Mathlib.Nat.{add-zero}
 use native.Mathlib.Omega.{arith}
 use lib.ListN.{length}
-use lib.Dec.{eqb}
+use lib.Dec.{eqb, ltb}
+use borrow.Author.Tests.{ltb-true}
 use Rattle.format.specs.Words.{pick}
 use Rattle.format.specs.Answers.{Outcome, accepted, refused}
 use Rattle.format.specs.Rules.{Kind, dataKind, monitorKind, commandKind, Where, outside, unheaded, commands}
 use Rattle.format.specs.Steps.{St, start, Stepped, moved, stopped, stepOf, Summary, summed}
+use Rattle.frame.specs.Runs.{onward, turnsOf}
 use Rattle.format.proofs.StepLaws.{Going, going-start, going-moved, going-stopped, going-end}
 
 -- two kinds with one first state are one
@@ -38,10 +41,11 @@ live-start s last card n st₀ kind h e =
 
 module _ (s : List ℕ) (last card n : ℕ) (st₀ : St) (at count index : ℕ) (st : St) (l : Live s last card n st₀ at count index st) (h : at < last) (o : Stepped) (q : o ≡ stepOf card s last at st) where
   pub live-moved : (st′ : St) (next index′ : ℕ) → o ≡ moved st′ next → index′ ≡ pick (eqb count n) at index
-      → (at < next) × Live s last card n st₀ next (count + 1) index′ st′
+      → (at < next) × (next ≤ last) × Live s last card n st₀ next (count + 1) index′ st′
   live-moved st′ next index′ m i =
       let g = going-moved s last (l .room) (l .kind) card n at count index st (l .going) h st′ next (sym m ∙ q) in (
         g .0,
+        g .1,
         record {
           room = l .room;
           kind = l .kind;
@@ -54,6 +58,30 @@ module _ (s : List ℕ) (last card n : ℕ) (st₀ : St) (at count index : ℕ) 
   live-stopped k kind m e =
       subst (λ (j : Kind). refused k at ≡ summed j card s last n) (start-one (l .kind) kind (sym (l .from) ∙ e))
       (going-stopped s last (l .room) (l .kind) card n at count index st (l .going) h k (sym m ∙ q))
+
+-- one turn more of a run, whose item is not the one asked for
+live-more : (s : List ℕ) (last card n : ℕ) (st₀ : St) (count index : ℕ) (o : Stepped)
+    → ((st₁ : St) (i : ℕ) → o ≡ moved st₁ i → Live s last card n st₀ i count index st₁) → eqb count n ≡ false → (st′ : St) (at′ : ℕ) → onward card s last o ≡ moved st′ at′
+    → Live s last card n st₀ at′ (count + 1) index st′
+live-more s last card n st₀ count index (stopped m) l f st′ at′ e = absurd (let z : _≡_ {A = ℕ} 0 1 = cc in omega arith)
+live-more s last card n st₀ count index (moved st₁ i) l f st′ at′ e = go (ltb i last) refl e
+  where
+    go : (b : Bool) → ltb i last ≡ b → pick b (stepOf card s last i st₁) (stopped 0) ≡ moved st′ at′ → Live s last card n st₀ at′ (count + 1) index st′
+    go false h e = absurd (let z : _≡_ {A = ℕ} 0 1 = cc in omega arith)
+    go true h e = live-moved s last card n st₀ i count index st₁ (l st₁ i refl) (ltb-true i last h) (stepOf card s last i st₁) refl st′ at′ index e (ap (λ (b : Bool). pick b i index) (sym f)) .2
+
+-- the turns of a run, none of whose items is the one asked for
+pub live-run : (s : List ℕ) (last card n : ℕ) (st₀ : St) (at count index : ℕ) (st : St) → Live s last card n st₀ at count index st
+    → (k : ℕ) → ((i : ℕ) → i < k → eqb (count + i) n ≡ false) → (st′ : St) (at′ : ℕ) → turnsOf card s last k at st ≡ moved st′ at′ → Live s last card n st₀ at′ (count + k) index st′
+unfolding turnsOf
+live-run s last card n st₀ at count index st l zero f st′ at′ e =
+    let a : at ≡ at′ = cc in
+    let b : st ≡ st′ = cc in
+    rw (sym a, sym b, add-zero count) l
+live-run s last card n st₀ at count index st l (suc k) f st′ at′ e =
+    subst (λ (c : ℕ). Live s last card n st₀ at′ c index st′) (let z : count + k + 1 ≡ count + suc k = omega arith in z)
+    (live-more s last card n st₀ (count + k) index (turnsOf card s last k at st)
+    (λ st₁ i q. live-run s last card n st₀ at count index st l k (λ j g. f j (omega arith)) st₁ i q) (f k (omega arith)) st′ at′ e)
 
 pub live-end : (s : List ℕ) (last card n : ℕ) (st₀ : St) (at count index : ℕ) (st : St) → Live s last card n st₀ at count index st → last ≤ at
     → (kind : Kind) → st₀ ≡ start kind → accepted (record { count = count; index = index; state = st }) ≡ summed kind card s last n

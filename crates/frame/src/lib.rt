@@ -8,6 +8,7 @@ pub mod items;
 pub mod partial;
 pub mod reading;
 pub mod rules;
+mod runs;
 pub mod state;
 pub mod texts;
 pub mod walk;

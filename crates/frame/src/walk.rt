@@ -21,6 +21,8 @@ use crate::rules::sample;
 use crate::rules::start_event;
 use crate::rules::text;
 use crate::rules::time_bin;
+use crate::runs::ahead;
+use crate::runs::run_at;
 use crate::state::Kind;
 use crate::state::State;
 use crate::texts::is_closed;
@@ -150,7 +152,8 @@ fn noted(count: usize, n: usize, at: usize, index: usize) -> usize
     index
 }
 
-// Item by item from the left, over the words before word `last`; the index of item n is noted on the way.
+// Item by item from the left, over the words before word `last`, and run by run where items come in runs; the index of item n is noted on the
+// way.
 pub(crate) fn walk(s: &[u8], last: usize, kind: Kind, card: u16, n: usize) -> Walked
     requires { ⌜ 2 * last ≤ length (now s) ⌝ }
     ensures { λ r. ⌜ viewWalk r ≡ summed (viewKind kind) card (now (s .entry)) last n ⌝ }
@@ -164,9 +167,17 @@ pub(crate) fn walk(s: &[u8], last: usize, kind: Kind, card: u16, n: usize) -> Wa
         let turn = step(s, last, at, card, st);
         match turn {
             Step::Moved(after, next) => {
-                st = after;
-                at = next;
                 count += 1;
+                let run = run_at(s, last, card, next, after, ahead(count, n));
+                let mode = after.mode;
+                st = State {
+                    mode,
+                    key: after.key,
+                    next: run.next,
+                    opener: after.opener,
+                };
+                at = run.at;
+                count += run.count;
             }
             Step::Stopped(number) => {
                 return Walked::Refused(Refusal { number, place: at });

@@ -1,29 +1,13 @@
 -- The kind of an item, the words after it and the key behind it, by the range of its first word.
 -- Assumes nothing.
-use Prim.Native.Nat.{ℕ, _/_, _<_, _≤_}
+use Prim.Native.Nat.{ℕ, _<_, _≤_}
 use mathlib.Core.Path.{_≡_, refl, sym, ap, _∙_}
 use mathlib.Core.Bool.{Bool, true, false}
-use native.Mathlib.Omega.{arith}
-use lib.Dec.{lit<, ltb}
+use lib.Dec.{ltb}
 use borrow.Author.Tests.{ltb-true, ltb-false}
 use Rattle.format.specs.Book.{Class, channel, histogram, hitCount, sample, bin, classOf, after}
 use Rattle.format.specs.Scans.{kindBy, underBy, headerKey}
-use Rattle.format.proofs.BookLaws.{entry}
-
-sample-is : (w : ℕ) → 0x3000 ≤ w → w < 0x4000 → sample ≡ classOf w
-sample-is w a b = entry w 3 (lit< tt) (omega arith)
-
-bin-is : (w : ℕ) → 0x2000 ≤ w → w < 0x3000 → bin ≡ classOf w
-bin-is w a b = entry w 4 (lit< tt) (omega arith)
-
-hits-is : (w : ℕ) → 0x4000 ≤ w → w < 0x8000 → hitCount ≡ classOf w
-hits-is w a b = entry w 2 (lit< tt) (omega arith)
-
-histogram-is : (w : ℕ) → 0x8000 ≤ w → w < 0xC000 → histogram ≡ classOf w
-histogram-is w a b = entry w 1 (lit< tt) (omega arith)
-
-channel-is : (w : ℕ) → 0xC000 ≤ w → w < 65536 → channel ≡ classOf w
-channel-is w a b = entry w 0 (lit< tt) (omega arith)
+use Rattle.format.proofs.RangeLaws.{bin-is, sample-is, hits-is, histogram-is, channel-is}
 
 -- what holds of the four classes from 0x3000 on
 high : (P : Class → Type 0) → P sample → P hitCount → P histogram → P channel → (w : ℕ) → 0x3000 ≤ w → w < 65536 → P (classOf w)

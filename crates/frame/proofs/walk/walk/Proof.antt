@@ -6,7 +6,7 @@ use native.Mathlib.Omega.{arith}
 use lib.ListN.{length}
 use borrow.Author.Needs.{needs}
 use Rattle.frame.specs.Views.{viewKind, viewState, viewStep}
-use Rattle.frame.proofs.Loop.{Live, live-start, live-moved, live-stopped, live-end, live-few}
+use Rattle.frame.proofs.Loop.{Live, live-start, live-moved, live-run, live-stopped, live-end, live-few}
 use Rattle.frame.proofs.walk.walk.Statement.{statement}
 use Rattle.frame.proofs.walk.walk.Tie as tie
 
@@ -36,15 +36,38 @@ add-count c =
     let f = live-few _ _ _ _ _ _ _ _ _ (c .before .before .before .before .before .before .loop .inv .1) in
     omega (arith, f .0, f .1)
 
+ahead-requires : tie.Need-ahead-requires Inv-loop μ-loop
+ahead-requires c κs = search needs
+
+run-at-requires : tie.Need-run-at-requires Inv-loop μ-loop
+run-at-requires c κs =
+    let d = c .before in
+    let m = live-moved _ _ _ _ _ _ _ _ _ (d .before .before .before .before .before .before .loop .inv .1) (d .before .before .before .before .before .loop-test .taken) _ (d .before .before .before .step .ensures) _ _ _ (ap viewStep (d .before .turn .given .1)) (d .before .before .before .before .noted .ensures) in
+    (m .1, d .before .before .before .before .before .before .loop .inv .0)
+
+add-count-2 : tie.Need-add-count-2 Inv-loop μ-loop
+add-count-2 c =
+    let q = c .before in
+    let d = q .before .before in
+    let m = live-moved _ _ _ _ _ _ _ _ _ (d .before .before .before .before .before .before .loop .inv .1) (d .before .before .before .before .before .loop-test .taken) _ (d .before .before .before .step .ensures) _ _ _ (ap viewStep (d .before .turn .given .1)) (d .before .before .before .before .noted .ensures) in
+    let e = q .run-at .ensures in
+    let l = live-run _ _ _ _ _ _ _ _ _ (m .2) _ (λ i h. q .before .ahead .ensures i (omega (arith, e .few))) _ _ (e .turns) in
+    omega (arith, live-few _ _ _ _ _ _ _ _ _ l .0)
+
 loop-less : tie.Need-loop-less Inv-loop μ-loop
 loop-less c =
-    let m = live-moved _ _ _ _ _ _ _ _ _ (c .before .before .before .before .before .before .loop .inv .1) (c .before .before .before .before .before .loop-test .taken) _ (c .before .before .before .step .ensures) _ _ _ (ap viewStep (c .before .turn .given .1)) (c .before .before .before .before .noted .ensures) in
-    omega (arith, m .0)
+    let q = c .before in
+    let d = q .before .before in
+    let m = live-moved _ _ _ _ _ _ _ _ _ (d .before .before .before .before .before .before .loop .inv .1) (d .before .before .before .before .before .loop-test .taken) _ (d .before .before .before .step .ensures) _ _ _ (ap viewStep (d .before .turn .given .1)) (d .before .before .before .before .noted .ensures) in
+    omega (arith, m .0, q .run-at .ensures .onwards)
 
 loop-again : tie.Need-loop-again Inv-loop μ-loop
 loop-again c =
-    let m = live-moved _ _ _ _ _ _ _ _ _ (c .before .before .before .before .before .before .loop .inv .1) (c .before .before .before .before .before .loop-test .taken) _ (c .before .before .before .step .ensures) _ _ _ (ap viewStep (c .before .turn .given .1)) (c .before .before .before .before .noted .ensures) in
-    (c .before .before .before .before .before .before .loop .inv .0, m .1)
+    let q = c .before in
+    let d = q .before .before in
+    let m = live-moved _ _ _ _ _ _ _ _ _ (d .before .before .before .before .before .before .loop .inv .1) (d .before .before .before .before .before .loop-test .taken) _ (d .before .before .before .step .ensures) _ _ _ (ap viewStep (d .before .turn .given .1)) (d .before .before .before .before .noted .ensures) in
+    let e = q .run-at .ensures in
+    (d .before .before .before .before .before .before .loop .inv .0, live-run _ _ _ _ _ _ _ _ _ (m .2) _ (λ i h. q .before .ahead .ensures i (omega (arith, e .few))) _ _ (e .turns))
 
 enum-known-turn-2 : tie.Need-enum-known-turn-2 Inv-loop μ-loop
 enum-known-turn-2 c = search needs
@@ -68,6 +91,9 @@ walk-spec =
     step-requires
     enum-known-turn
     add-count
+    ahead-requires
+    run-at-requires
+    add-count-2
     loop-less
     loop-again
     enum-known-turn-2

@@ -1,0 +1,15 @@
+-- `frame::runs::ahead` meets its contract.
+-- Assumes nothing.
+use native.Mathlib.Omega.{arith}
+use Rattle.frame.proofs.Running.{before, behind}
+use Rattle.frame.proofs.runs.ahead.Statement.{statement}
+use Rattle.frame.proofs.runs.ahead.Tie as tie
+
+returns : tie.Need-returns
+returns c = λ i h. before _ _ i (c .if1 .taken) h
+
+returns-2 : tie.Need-returns-2
+returns-2 c = λ i h. behind _ _ i (c .if1 .left)
+
+pub ahead-spec : {M : Type 1} → statement M
+ahead-spec = tie.close (tie.spec returns returns-2)

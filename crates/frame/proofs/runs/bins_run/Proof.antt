@@ -1,0 +1,32 @@
+-- `frame::runs::bins_run` meets its contract.
+-- Assumes nothing.
+use native.Mathlib.Omega.{arith}
+use borrow.Author.Needs.{needs}
+use Rattle.frame.proofs.runs.bins_run.Statement.{statement}
+use Rattle.frame.proofs.runs.bins_run.Tie as tie
+
+sub-least : tie.Need-sub-least
+sub-least c = search needs
+
+least-requires : tie.Need-least-requires
+least-requires c κs = search needs
+
+mul-past-bins : tie.Need-mul-past-bins
+mul-past-bins c = search needs
+
+add-past-bins : tie.Need-add-past-bins
+add-past-bins c = search needs
+
+past-bins-requires : tie.Need-past-bins-requires
+past-bins-requires c κs = (omega arith, omega arith, omega arith)
+
+sub-count : tie.Need-sub-count
+sub-count c = search needs
+
+returns : tie.Need-returns
+returns c =
+    let e = c .before .past-bins .ensures in
+    λ card key opener. record { turns = e .2 card _ key opener (omega arith) (c .before .before .before .before .pre .1); few = omega arith; onwards = e .0 }
+
+pub bins-run-spec : {M : Type 1} → statement M
+bins-run-spec = tie.close (tie.spec sub-least least-requires mul-past-bins add-past-bins past-bins-requires sub-count returns)

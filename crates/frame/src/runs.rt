@@ -1,0 +1,205 @@
+// Runs: items of one manner, one behind the other. Most words of a frame stand in them, so the walk takes a run at once, behind an item that
+// leaves the frame where the run's items stand. Each item of a run is one that `step` would take, and the run ends before any other.
+ghost use mathlib.Core.Path.{_≡_};
+ghost use Prim.Native.Nat.{ℕ, _+_, _-_, _*_, _/_, _%_, _≤_, _<_};
+ghost use lib.ListN.{length};
+ghost use lib.Dec.{eqb};
+ghost use mathlib.Core.Bool.{false};
+ghost use Rattle.format.specs.Rules.{inside, afterSample, headed};
+ghost use Rattle.frame.specs.Views.{viewState};
+ghost use Rattle.frame.specs.Runs.{Turns, Ran};
+use crate::inside::long;
+use crate::inside::word;
+use crate::state::Mode;
+use crate::state::State;
+use book::class::Class;
+use book::items::Bin;
+use book::items::HitCount;
+use book::items::TimeBin;
+
+// A channel's samples have times below this.
+const TIMES: u32 = TimeBin::LAST as u32 + 1;
+
+// The words of a Bin.
+const BIN_WORDS: usize = 3;
+
+// The most items of a run, where none is asked for.
+const MANY: usize = 4096;
+
+// A run: the index behind it, how many items it has, and the state's `next` behind it; nothing else of the state is changed by a run.
+pub(crate) struct Run {
+    pub at: usize,
+    pub count: usize,
+    pub next: u32,
+}
+
+// How many items may be passed before item n, with `count` behind us: that one is to be noted.
+pub(crate) fn ahead(count: usize, n: usize) -> usize
+    ensures { λ r. ⌜ ((i : ℕ) → i < r → eqb (count + i) n ≡ false) ⌝ }
+{
+    if count <= n {
+        return n - count;
+    }
+    MANY
+}
+
+fn least(a: usize, b: usize) -> usize
+    ensures { λ r. ⌜ (r ≤ a) × (r ≤ b) ⌝ }
+{
+    if a <= b {
+        return a;
+    }
+    b
+}
+
+// The times that are left from this one on.
+fn times_left(time: u32) -> usize
+    ensures { λ r. ⌜ r ≡ 512 - time ⌝ }
+{
+    if time <= TIMES {
+        return (TIMES - time) as usize;
+    }
+    0
+}
+
+// Behind the Samples from here on.
+fn past_samples(s: &[u8], at: usize, stop: usize) -> usize
+    requires { ⌜ (at ≤ stop) × (2 * stop ≤ length (now s)) ⌝ }
+    ensures { λ r. ⌜ (at ≤ r) × (r ≤ stop) × ((card last key next opener : ℕ) → stop ≤ last → (at < stop → next + (stop - at) ≤ 512) → Turns card (now (s .entry)) last (r - at) afterSample key next opener at (next + (r - at)) r) ⌝ }
+{
+    let mut i = at;
+    while i < stop {
+        let w = word(s, i);
+        if w < Class::SAMPLE {
+            return i;
+        }
+        if Class::HIT_COUNT <= w {
+            return i;
+        }
+        i += 1;
+    }
+    i
+}
+
+// Behind the Hit counts from here on that are right in a frame of the card.
+fn past_hits(s: &[u8], at: usize, stop: usize, card: u16) -> usize
+    requires { ⌜ (at ≤ stop) × (2 * stop ≤ length (now s)) ⌝ }
+    ensures { λ r. ⌜ (at ≤ r) × (r ≤ stop) × ((last key next opener : ℕ) → stop ≤ last → Turns card (now (s .entry)) last (r - at) inside key next opener at next r) ⌝ }
+{
+    let mut i = at;
+    while i < stop {
+        let w = word(s, i);
+        if w < Class::HIT_COUNT {
+            return i;
+        }
+        if Class::HISTOGRAM <= w {
+            return i;
+        }
+        if HitCount::of_word(w).valid(card) {
+            i += 1;
+        } else {
+            return i;
+        }
+    }
+    i
+}
+
+// The index behind some Bins, and the least number that a further one may have.
+struct Binned {
+    at: usize,
+    next: u32,
+}
+
+// Behind the Bins from here on that have a count and rise from the number `least` on; there is room for whole Bins before `stop`.
+fn past_bins(s: &[u8], at: usize, stop: usize, least: u32) -> Binned
+    requires { ⌜ (at ≤ stop) × ((stop - at) % 3 ≡ 0) × (2 * stop ≤ length (now s)) ⌝ }
+    ensures { λ r. ⌜ (at ≤ r .at) × (r .at ≤ stop) × ((card last key opener : ℕ) → stop ≤ last → 2 * last ≤ length (now (s .entry)) → Turns card (now (s .entry)) last ((r .at - at) / 3) headed key least opener at (r .next) (r .at)) ⌝ }
+{
+    let mut i = at;
+    let mut next = least;
+    while i < stop {
+        let w = word(s, i);
+        if w < Class::BIN {
+            return Binned { at: i, next };
+        }
+        if Class::SAMPLE <= w {
+            return Binned { at: i, next };
+        }
+        let number = Bin::of_word(w) as u32;
+        if number < next {
+            return Binned { at: i, next };
+        }
+        if long(s, i + 1) < Bin::LEAST_COUNT {
+            return Binned { at: i, next };
+        }
+        next = number + 1;
+        i += BIN_WORDS;
+    }
+    Binned { at: i, next }
+}
+
+fn samples_run(s: &[u8], last: usize, at: usize, next: u32, most: usize) -> Run
+    requires { ⌜ (at ≤ last) × (2 * last ≤ length (now s)) ⌝ }
+    ensures { λ r. ⌜ ((card key opener : ℕ) → Ran card (now (s .entry)) last at afterSample key next opener most (r .at) (r .count) (r .next)) ⌝ }
+{
+    let room = least(last - at, least(times_left(next), most));
+    let end = past_samples(s, at, at + room);
+    let count = end - at;
+    let time = next + count as u32;
+    Run {
+        at: end,
+        count,
+        next: time,
+    }
+}
+
+fn hits_run(s: &[u8], last: usize, card: u16, at: usize, next: u32, most: usize) -> Run
+    requires { ⌜ (at ≤ last) × (2 * last ≤ length (now s)) ⌝ }
+    ensures { λ r. ⌜ ((key opener : ℕ) → Ran card (now (s .entry)) last at inside key next opener most (r .at) (r .count) (r .next)) ⌝ }
+{
+    let room = least(last - at, most);
+    let end = past_hits(s, at, at + room, card);
+    let count = end - at;
+    Run {
+        at: end,
+        count,
+        next,
+    }
+}
+
+fn bins_run(s: &[u8], last: usize, at: usize, next: u32, most: usize) -> Run
+    requires { ⌜ (at ≤ last) × (2 * last ≤ length (now s)) ⌝ }
+    ensures { λ r. ⌜ ((card key opener : ℕ) → Ran card (now (s .entry)) last at headed key next opener most (r .at) (r .count) (r .next)) ⌝ }
+{
+    let room = least((last - at) / BIN_WORDS, most);
+    let binned = past_bins(s, at, at + BIN_WORDS * room, next);
+    let count = (binned.at - at) / BIN_WORDS;
+    Run {
+        at: binned.at,
+        count,
+        next: binned.next,
+    }
+}
+
+// The run of at most so many items that begins at the word `at`, of the words before word `last`.
+pub(crate) fn run_at(s: &[u8], last: usize, card: u16, at: usize, st: State, most: usize) -> Run
+    requires { ⌜ (at ≤ last) × (2 * last ≤ length (now s)) ⌝ }
+    ensures { λ r. ⌜ Ran card (now (s .entry)) last at (viewState st .mode) (st .key) (st .next) (st .opener) most (r .at) (r .count) (r .next) ⌝ }
+{
+    let mode = st.mode;
+    let none = Run {
+        at,
+        count: 0,
+        next: st.next,
+    };
+    match mode {
+        Mode::AfterSample => samples_run(s, last, at, st.next, most),
+        Mode::Inside => hits_run(s, last, card, at, st.next, most),
+        Mode::Headed => bins_run(s, last, at, st.next, most),
+        Mode::AfterTime => none,
+        Mode::AfterChannel => none,
+        Mode::Outside => none,
+        Mode::Unheaded => none,
+        Mode::Commands => none,
+    }
+}
