@@ -10,7 +10,7 @@ use native.Mathlib.Omega.{arith}
 use lib.Dec.{leb, eqb}
 use lib.ListN.{length, getD, take, drop, drop-of-length-le}
 use lib.Seq.{drop-cons}
-use borrow.Author.Tests.{le-leb, ne-eqb, lt-leb}
+use borrow.Author.Tests.{le-leb, ne-eqb, lt-leb, leb-true, leb-false}
 use Rattle.format.specs.Words.{nonZero, allZero}
 use Rattle.format.specs.Items.{closed}
 
@@ -43,27 +43,46 @@ module _ (s : List ℕ) (i : ℕ) where
   unfolding nonZero
   none good h e = sym (and-true good) ∙ ap (λ (l : List ℕ). good && nonZero l) (sym (drop-of-length-le s {i = i} h)) ∙ e
 
+and-self : (a : Bool) → a && a ≡ a
+and-self true = refl
+and-self false = refl
+
 -- a text's bytes are closed by its zero, and by the byte after it where there is one
 module _ (s : List ℕ) (n : ℕ) where
-  pub one-left : (b : Bool) → n < length s → length s ≤ n + 1 → b ≡ eqb (getD s n 0) 0 → b ≡ allZero (drop n s)
+  one-left : n < length s → length s ≤ n + 1 → allZero (drop n s) ≡ eqb (getD s n 0) 0
   unfolding allZero
-  one-left b h l e =
-      let g : allZero (getD s n 0 ∷ drop (n + 1) s) ≡ eqb (getD s n 0) 0 = ap (λ (t : List ℕ). eqb (getD s n 0) 0 && allZero t) (drop-of-length-le s {i = n + 1} l) ∙ and-true _ in
-      e ∙ sym g ∙ ap allZero (sym (head s n h))
+  one-left h l =
+      ap allZero (head s n h) ∙ ap (λ (t : List ℕ). eqb (getD s n 0) 0 && allZero t) (drop-of-length-le s {i = n + 1} l) ∙ and-true _
 
-  pub none-left : length s ≤ n → true ≡ allZero (drop n s)
+  none-left : length s ≤ n → allZero (drop n s) ≡ true
   unfolding allZero
-  none-left h = ap allZero (sym (drop-of-length-le s {i = n} h))
+  none-left h = ap allZero (drop-of-length-le s {i = n} h)
+
+  pub ended : (a b : Bool) → 1 ≤ n → n ≤ length s → length s ≤ n + 1 → a ≡ eqb (getD s (n - 1) 0) 0 → b ≡ eqb (getD s (length s - 1) 0) 0
+      → a && b ≡ allZero (drop (n - 1) s)
+  unfolding allZero
+  ended a b h l m e f = go (leb (length s) n) refl
+    where
+      d : drop (n - 1) s ≡ getD s (n - 1) 0 ∷ drop n s
+      d = head s (n - 1) (omega arith) ∙ ap (λ (k : ℕ). getD s (n - 1) 0 ∷ drop k s) (let z : n - 1 + 1 ≡ n = omega arith in z)
+
+      whole : allZero (drop (n - 1) s) ≡ a && allZero (drop n s)
+      whole = ap allZero d ∙ ap (λ (t : Bool). t && allZero (drop n s)) (sym e)
+
+      go : (t : Bool) → leb (length s) n ≡ t → a && b ≡ allZero (drop (n - 1) s)
+      go true q =
+          let z : length s - 1 ≡ n - 1 = omega (arith, leb-true (length s) n q) in
+          let g : b ≡ a = f ∙ ap (λ (k : ℕ). eqb (getD s k 0) 0) z ∙ sym e in
+          ap (λ (t : Bool). a && t) g ∙ and-self a ∙ sym (and-true a) ∙ ap (λ (t : Bool). a && t) (sym (none-left (leb-true (length s) n q))) ∙ sym whole
+      go false q =
+          let z : length s - 1 ≡ n = omega (arith, leb-false (length s) n q) in
+          let g : b ≡ allZero (drop n s) = f ∙ ap (λ (k : ℕ). eqb (getD s k 0) 0) z ∙ sym (one-left (leb-false (length s) n q) m) in
+          ap (λ (t : Bool). a && t) g ∙ sym whole
 
   pub no-length : n < 1 → false ≡ closed n s
   no-length h = rw (lt-leb 1 n h)
 
-  pub closed-by : (a b : Bool) → 1 ≤ n → n ≤ length s → a ≡ nonZero (take (n - 1 - 0) s) → b ≡ allZero (drop n s)
-      → a && eqb (getD s (n - 1) 0) 0 && b ≡ closed n s
-  unfolding allZero
-  closed-by a b h l f g =
+  pub closed-by : (a b : Bool) → 1 ≤ n → a ≡ nonZero (take (n - 1 - 0) s) → b ≡ allZero (drop (n - 1) s) → a && b ≡ closed n s
+  closed-by a b h f g =
       let e : nonZero (take (n - 1) s) ≡ a = ap (λ (k : ℕ). nonZero (take k s)) (sym (sub-zero (n - 1))) ∙ sym f in
-      let m : n - 1 + 1 ≡ n = omega arith in
-      let d : drop (n - 1) s ≡ getD s (n - 1) 0 ∷ drop n s = head s (n - 1) (omega arith) ∙ ap (λ (k : ℕ). getD s (n - 1) 0 ∷ drop k s) m in
-      let z : allZero (drop (n - 1) s) ≡ eqb (getD s (n - 1) 0) 0 && b = ap allZero d ∙ ap (λ (t : Bool). eqb (getD s (n - 1) 0) 0 && t) (sym g) in
-      rw (le-leb 1 n h, e, z) (and-assoc a _ _)
+      rw (le-leb 1 n h, e, sym g) refl

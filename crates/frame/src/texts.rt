@@ -1,6 +1,6 @@
 // The bytes of a text: none zero but the final one and the padding.
 ghost use mathlib.Core.Path.{_≡_};
-ghost use Prim.Native.Nat.{_+_, _≤_};
+ghost use Prim.Native.Nat.{_+_, _-_, _≤_};
 ghost use lib.ListN.{length, drop};
 ghost use Rattle.format.specs.Words.{nonZero, allZero};
 ghost use Rattle.format.specs.Items.{closed};
@@ -18,15 +18,14 @@ pub fn no_zero(s: &[u8]) -> bool
     good
 }
 
-// The byte after the text's n, where there is one, is zero.
-fn is_padded(s: &[u8], n: usize) -> bool
-    requires { ⌜ length (now s) ≤ n + 1 ⌝ }
-    ensures { λ r. ⌜ r ≡ allZero (drop n (now (s .entry))) ⌝ }
+// Byte n is zero, and so is the byte after it where there is one: the last byte is the one or the other.
+fn is_ended(s: &[u8], n: usize) -> bool
+    requires { ⌜ (1 ≤ n) × (n ≤ length (now s)) × (length (now s) ≤ n + 1) ⌝ }
+    ensures { λ r. ⌜ r ≡ allZero (drop (n - 1) (now (s .entry))) ⌝ }
 {
-    if n < s.len() {
-        return s[n] == 0;
-    }
-    true
+    let final_zero = s[n - 1] == 0;
+    let last = s.len() - 1;
+    final_zero & (s[last] == 0)
 }
 
 // "n at least 1, byte n zero, earlier bytes not zero, a padding byte zero"
@@ -38,5 +37,5 @@ pub(crate) fn is_closed(s: &[u8], n: usize) -> bool
         return false;
     }
     let k = n - 1;
-    no_zero(&s[0..k]) & (s[k] == 0) & is_padded(s, n)
+    no_zero(&s[0..k]) & is_ended(s, n)
 }

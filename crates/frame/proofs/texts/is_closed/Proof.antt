@@ -22,16 +22,13 @@ part-no-zero-end c = search needs
 no-zero-requires : tie.Need-no-zero-requires
 no-zero-requires c κs = search needs
 
-shared-slice-read-result : tie.Need-shared-slice-read-result
-shared-slice-read-result c = search needs
-
-is-padded-requires : tie.Need-is-padded-requires
-is-padded-requires c κs = search needs
+is-ended-requires : tie.Need-is-ended-requires
+is-ended-requires c κs = search needs
 
 returns-2 : tie.Need-returns-2
 returns-2 c =
-    let start = c .before .before .before .before .before .before in
-    closed-by (now (start .args .s)) (start .args .n) _ _ (omega arith) (omega arith) (c .before .before .no-zero .ensures) (c .is-padded .ensures)
+    let start = c .before .before .before .before .before in
+    closed-by (now (start .args .s)) (start .args .n) _ _ (omega arith) (c .before .no-zero .ensures) (c .is-ended .ensures)
 
 pub is-closed-spec : {M : Type 1} → statement M
 is-closed-spec =
@@ -42,6 +39,5 @@ is-closed-spec =
     part-no-zero-start
     part-no-zero-end
     no-zero-requires
-    shared-slice-read-result
-    is-padded-requires
+    is-ended-requires
     returns-2)
