@@ -2,6 +2,7 @@
 use Prim.Native.Nat.{ℕ, _+_, _%_, _<_, _≤_}
 use mathlib.Core.Path.{_≡_, refl, sym, subst, _∙_}
 use mathlib.Core.Bool.{Bool, true, false}
+use mathlib.Core.Logic.{_↔_}
 use native.Mathlib.Omega.{arith}
 use lib.Dec.{leb, eqb}
 use borrow.Author.Tests.{le-leb, lt-leb, leb-true, leb-false, eq-eqb, ne-eqb, eqb-true, eqb-false}
@@ -101,6 +102,9 @@ given s word n p = given-at s word n p (line s word)
 pub gives : {s : State} {word n p : ℕ} → Given s word n p → follow s word ≡ refused n p
 gives {s} {word} (sequence h) = sym (passes s word h)
 gives {s} {word} (noStart h b) = sym (at-early word h b)
+
+pub from-0-to-255 : (e : ℕ) → InRange (expecting e) ↔ (e ≤ 255)
+from-0-to-255 e = (λ (h : e < 256). omega arith, λ (h : e ≤ 255). omega arith)
 
 in-range-at : (s : State) (word : ℕ) → Line s word → InRange s → InRange (after s (follow s word))
 in-range-at s word (start h) r = rw (← starts s word h) (omega arith)

@@ -20,6 +20,10 @@ use Rattle.follower.proofs.Unique as unique
 pub in-range : (s : State) (word : ℕ) → InRange s → InRange (after s (follow s word))
 in-range = line.in-range
 
+-- ".. from 0 to 255", no more and no fewer
+pub from-0-to-255 : (e : ℕ) → InRange (expecting e) ↔ (e ≤ 255)
+from-0-to-255 = line.from-0-to-255
+
 -- "a refusal leaves it as it was"
 pub refusal-leaves : (s : State) (word n p : ℕ) → follow s word ≡ refused n p → after s (follow s word) ≡ s
 refusal-leaves s word n p e = ap (after s) e
