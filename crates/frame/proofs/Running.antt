@@ -7,7 +7,8 @@ use mathlib.Core.Bool.{Bool, true, false, _&&_}
 use native.Mathlib.Omega.{arith}
 use lib.ListN.{length}
 use lib.Dec.{leb, ltb, eqb}
-use borrow.Author.Tests.{le-leb, lt-ltb, ne-eqb}
+use borrow.Author.Tests.{le-leb, lt-ltb, ne-eqb, eqb-true}
+use Rattle.format.proofs.PrefixLaws.{and-left, and-right}
 use Rattle.format.specs.Words.{wordAt, longAt}
 use Rattle.format.specs.Items.{inRange, whole, Sample, Bin, HitCount}
 use Rattle.format.specs.Rules.{Where, inside, afterSample, headed}
@@ -69,6 +70,18 @@ module _ (card : ℕ) (s : List ℕ) (last : ℕ) where
         more-at (i - at) (i + 1 - at) at _ _ _ i (i + 1) (omega arith) t l
         (ap (λ (n : ℕ). moved (record { mode = afterSample; key = key; next = n; opener = opener }) (i + 1)) (let z : next + (i + 1 - at) ≡ n + 1 = omega arith in z)
         ∙ sample-step card s last i w _ e _ (w % 4096) (sample-is w p q) refl (sample-turn n i (w % 4096) h (omega arith)))
+
+    -- two Samples more, by the number that their words make
+    pub pair-more : (next i a b : ℕ) → at ≤ i → i + 2 ≤ last → a ≡ wordAt s i → b ≡ wordAt s (i + 1) → a < 65536 → b < 65536
+        → eqb ((a + 65536 * b) / 4096 % 16) 3 && eqb ((a + 65536 * b) / 268435456) 3 ≡ true → next + (i + 2 - at) ≤ 512
+        → Turns card s last (i - at) afterSample key next opener at (next + (i - at)) i
+        → Turns card s last (i + 2 - at) afterSample key next opener at (next + (i + 2 - at)) (i + 2)
+    pair-more next i a b h l e f p q g m t =
+        let low : (a + 65536 * b) / 4096 % 16 ≡ 3 = eqb-true _ _ (and-left (eqb ((a + 65536 * b) / 4096 % 16) 3) (eqb ((a + 65536 * b) / 268435456) 3) g) in
+        let high : (a + 65536 * b) / 268435456 ≡ 3 = eqb-true _ _ (and-right (eqb ((a + 65536 * b) / 4096 % 16) 3) (eqb ((a + 65536 * b) / 268435456) 3) g) in
+        let one = sample-more next (next + (i - at)) i a h (omega arith) e (omega arith) (omega arith) (omega arith) refl t in
+        let two = sample-more next (next + (i + 1 - at)) (i + 1) b (omega arith) (omega arith) f (omega arith) (omega arith) (omega arith) refl one in
+        subst (λ (j : ℕ). Turns card s last (j - at) afterSample key next opener at (next + (j - at)) j) (let z : i + 1 + 1 ≡ i + 2 = omega arith in z) two
 
     hit-turn : (next w a b c : ℕ) → true ≡ inRange card (HitCount a b c)
         → moved (record { mode = inside; key = key; next = next; opener = opener }) (w + 1)

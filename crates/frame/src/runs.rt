@@ -4,7 +4,7 @@ ghost use mathlib.Core.Path.{_≡_};
 ghost use Prim.Native.Nat.{ℕ, _+_, _-_, _*_, _/_, _%_, _≤_, _<_};
 ghost use lib.ListN.{length};
 ghost use lib.Dec.{eqb};
-ghost use mathlib.Core.Bool.{false};
+ghost use mathlib.Core.Bool.{false, _&&_};
 ghost use Rattle.format.specs.Rules.{inside, afterSample, headed};
 ghost use Rattle.frame.specs.Views.{viewState};
 ghost use Rattle.frame.specs.Runs.{Turns, Ran};
@@ -62,23 +62,48 @@ fn times_left(time: u32) -> usize
     0
 }
 
-// Behind the Samples from here on.
-fn past_samples(s: &[u8], at: usize, stop: usize) -> usize
+// Two words, the first one low, are both Samples.
+fn two_samples(x: u32) -> bool
+    ensures { λ r. ⌜ r ≡ (eqb (x / 4096 % 16) 3 && eqb (x / 268435456) 3) ⌝ }
+{
+    (x / 4096 % 16 == 3) & (x / 268435456 == 3)
+}
+
+// Behind the Samples from here on, taken two at a time: it is half the work.
+fn past_pairs(s: &[u8], at: usize, stop: usize) -> usize
     requires { ⌜ (at ≤ stop) × (2 * stop ≤ length (now s)) ⌝ }
     ensures { λ r. ⌜ (at ≤ r) × (r ≤ stop) × ((card last key next opener : ℕ) → stop ≤ last → (at < stop → next + (stop - at) ≤ 512) → Turns card (now (s .entry)) last (r - at) afterSample key next opener at (next + (r - at)) r) ⌝ }
 {
     let mut i = at;
-    while i < stop {
-        let w = word(s, i);
-        if w < Class::SAMPLE {
+    while i + 1 < stop {
+        let low = word(s, i) as u32;
+        let high = word(s, i + 1) as u32;
+        if two_samples(low + 65536 * high) {
+            i += 2;
+        } else {
             return i;
         }
-        if Class::HIT_COUNT <= w {
-            return i;
-        }
-        i += 1;
     }
     i
+}
+
+// Behind the Samples from here on: pairs, and one more.
+fn past_samples(s: &[u8], at: usize, stop: usize) -> usize
+    requires { ⌜ (at ≤ stop) × (2 * stop ≤ length (now s)) ⌝ }
+    ensures { λ r. ⌜ (at ≤ r) × (r ≤ stop) × ((card last key next opener : ℕ) → stop ≤ last → (at < stop → next + (stop - at) ≤ 512) → Turns card (now (s .entry)) last (r - at) afterSample key next opener at (next + (r - at)) r) ⌝ }
+{
+    let end = past_pairs(s, at, stop);
+    if stop <= end {
+        return end;
+    }
+    let w = word(s, end);
+    if w < Class::SAMPLE {
+        return end;
+    }
+    if Class::HIT_COUNT <= w {
+        return end;
+    }
+    end + 1
 }
 
 // Behind the Hit counts from here on that are right in a frame of the card.
