@@ -1,7 +1,7 @@
 // Runs: items of one manner, one behind the other. Most words of a frame stand in them, so the walk takes a run at once, behind an item that
 // leaves the frame where the run's items stand. Each item of a run is one that `step` would take, and the run ends before any other.
 ghost use mathlib.Core.Path.{_≡_};
-ghost use Prim.Native.Nat.{ℕ, _+_, _-_, _*_, _/_, _%_, _≤_, _<_};
+ghost use Prim.Native.Nat.{ℕ, _+_, _-_, _*_, _/_, _%_, _≤_, _<_, max};
 ghost use lib.ListN.{length};
 ghost use lib.Dec.{eqb};
 ghost use mathlib.Core.Bool.{false, _&&_};
@@ -129,38 +129,35 @@ fn past_hits(s: &[u8], at: usize, stop: usize, card: u16) -> usize
     i
 }
 
-// The index behind some Bins, and the least number that a further one may have.
+// The index behind some Bins, and the first word that a further one may have.
 struct Binned {
     at: usize,
-    next: u32,
+    first: u64,
 }
 
-// Behind the Bins from here on that have a count and rise from the number `least` on; there is room for whole Bins before `stop`.
-fn past_bins(s: &[u8], at: usize, stop: usize, least: u32) -> Binned
-    requires { ⌜ (at ≤ stop) × ((stop - at) % 3 ≡ 0) × (2 * stop ≤ length (now s)) ⌝ }
-    ensures { λ r. ⌜ (at ≤ r .at) × (r .at ≤ stop) × ((card last key opener : ℕ) → stop ≤ last → 2 * last ≤ length (now (s .entry)) → Turns card (now (s .entry)) last ((r .at - at) / 3) headed key least opener at (r .next) (r .at)) ⌝ }
+// Behind the Bins from here on that have a count and rise from the word `least` on: a Bin's word rises with its number. There is room for whole
+// Bins before `stop`.
+fn past_bins(s: &[u8], at: usize, stop: usize, least: u64) -> Binned
+    requires { ⌜ (at ≤ stop) × ((stop - at) % 3 ≡ 0) × (2 * stop ≤ length (now s)) × (8192 ≤ least) ⌝ }
+    ensures { λ r. ⌜ (at ≤ r .at) × (r .at ≤ stop) × (8192 ≤ r .first) × (r .first ≤ max least 12288) × ((card last key opener : ℕ) → stop ≤ last → 2 * last ≤ length (now (s .entry)) → Turns card (now (s .entry)) last ((r .at - at) / 3) headed key (least - 8192) opener at (r .first - 8192) (r .at)) ⌝ }
 {
     let mut i = at;
-    let mut next = least;
+    let mut first = least;
     while i < stop {
-        let w = word(s, i);
-        if w < Class::BIN {
-            return Binned { at: i, next };
+        let w = word(s, i) as u64;
+        if w < first {
+            return Binned { at: i, first };
         }
-        if Class::SAMPLE <= w {
-            return Binned { at: i, next };
-        }
-        let number = Bin::of_word(w) as u32;
-        if number < next {
-            return Binned { at: i, next };
+        if Class::SAMPLE as u64 <= w {
+            return Binned { at: i, first };
         }
         if long(s, i + 1) < Bin::LEAST_COUNT {
-            return Binned { at: i, next };
+            return Binned { at: i, first };
         }
-        next = number + 1;
+        first = w + 1;
         i += BIN_WORDS;
     }
-    Binned { at: i, next }
+    Binned { at: i, first }
 }
 
 fn samples_run(s: &[u8], last: usize, at: usize, next: u32, most: usize) -> Run
@@ -197,12 +194,14 @@ fn bins_run(s: &[u8], last: usize, at: usize, next: u32, most: usize) -> Run
     ensures { λ r. ⌜ ((card key opener : ℕ) → Ran card (now (s .entry)) last at headed key next opener most (r .at) (r .count) (r .next)) ⌝ }
 {
     let room = least((last - at) / BIN_WORDS, most);
-    let binned = past_bins(s, at, at + BIN_WORDS * room, next);
+    let first = Class::BIN as u64 + next as u64;
+    let binned = past_bins(s, at, at + BIN_WORDS * room, first);
     let count = (binned.at - at) / BIN_WORDS;
+    let number = (binned.first - Class::BIN as u64) as u32;
     Run {
         at: binned.at,
         count,
-        next: binned.next,
+        next: number,
     }
 }
 

@@ -2,6 +2,7 @@
 -- Assumes nothing.
 use native.Mathlib.Omega.{arith}
 use borrow.Author.Needs.{needs}
+use Rattle.frame.proofs.Running.{from-first}
 use Rattle.frame.proofs.runs.bins_run.Statement.{statement}
 use Rattle.frame.proofs.runs.bins_run.Tie as tie
 
@@ -11,6 +12,12 @@ sub-least c = search needs
 least-requires : tie.Need-least-requires
 least-requires c κs = search needs
 
+cast-first : tie.Need-cast-first
+cast-first c = search needs
+
+add-first : tie.Need-add-first
+add-first c = search needs
+
 mul-past-bins : tie.Need-mul-past-bins
 mul-past-bins c = search needs
 
@@ -18,15 +25,43 @@ add-past-bins : tie.Need-add-past-bins
 add-past-bins c = search needs
 
 past-bins-requires : tie.Need-past-bins-requires
-past-bins-requires c κs = (omega arith, omega arith, omega arith)
+past-bins-requires c κs = search needs
 
 sub-count : tie.Need-sub-count
 sub-count c = search needs
 
+cast-number : tie.Need-cast-number
+cast-number c = search needs
+
+sub-number : tie.Need-sub-number
+sub-number c = search needs
+
+cast-number-2 : tie.Need-cast-number-2
+cast-number-2 c = search needs
+
 returns : tie.Need-returns
 returns c =
-    let e = c .before .past-bins .ensures in
-    λ card key opener. record { turns = e .2 card _ key opener (omega arith) (c .before .before .before .before .pre .1); few = omega arith; onwards = e .0 }
+    let e = c .before .before .past-bins .ensures in
+    λ card key opener.
+    record {
+      turns = from-first card _ _ _ key opener _ _ _ _ (e .4 card _ key opener (omega arith) (c .before .before .before .before .before .pre .1));
+      few = omega arith;
+      onwards = e .0;
+    }
 
 pub bins-run-spec : {M : Type 1} → statement M
-bins-run-spec = tie.close (tie.spec sub-least least-requires mul-past-bins add-past-bins past-bins-requires sub-count returns)
+bins-run-spec =
+    tie.close
+    (tie.spec
+    sub-least
+    least-requires
+    cast-first
+    add-first
+    mul-past-bins
+    add-past-bins
+    past-bins-requires
+    sub-count
+    cast-number
+    sub-number
+    cast-number-2
+    returns)
