@@ -13,18 +13,39 @@ ghost use Rattle.plane.specs.Undoing.{Undoing};
 use crate::answers::Entry;
 use crate::answers::Record;
 use crate::answers::Spot;
+use crate::scan::long_in;
 use crate::scan::note_kinds;
-use crate::scan::value_at;
+use crate::scan::value_in;
+use crate::scan::word_in;
 use crate::values::legal;
+use crate::values::put_in;
 use crate::values::put_value;
 use book::words::copy;
 use book::words::long;
 use book::words::word;
 
+// The entry that a slice begins with and has whole.
+fn entry_in(s: &[u8]) -> Entry
+    requires { ⌜ 16 ≤ length (now s) ⌝ }
+    ensures { λ r. ⌜ asEntry r ≡ entryOf first (now (s .entry)) ⌝ }
+{
+    Entry {
+        word: word_in(s, 0),
+        kind: word_in(s, 1),
+        old: long_in(s, 2),
+        new: long_in(s, 4),
+        operator: word_in(s, 6),
+        reason: word_in(s, 7),
+    }
+}
+
 // The entry that a slice begins with; what is past its end is 0.
 pub fn entry_of(s: &[u8]) -> Entry
     ensures { λ r. ⌜ asEntry r ≡ entryOf first (now (s .entry)) ⌝ }
 {
+    if Entry::SIZE <= s.len() {
+        return entry_in(s);
+    }
     Entry {
         word: word(s, 0),
         kind: word(s, 1),
@@ -65,10 +86,12 @@ fn entry_fits(f: &[u8], map: &[u8], e: Entry) -> bool
     if kind == Spot::NONE {
         return false;
     }
-    let value = value_at(f, kind, at);
-    let same = kind as u16 == e.kind;
+    if kind as u16 != e.kind {
+        return false;
+    }
+    let value = value_in(f, kind, at);
     let named = signed(e.operator as u32, e.reason as u32);
-    same & (value == e.new) & legal(e.kind, e.old) & (e.old != e.new) & named
+    (value == e.new) & legal(e.kind, e.old) & (e.old != e.new) & named
 }
 
 // Takes the old value of an entry as standing: an entry that fits says by its own kind where the value is, so the frame is not walked.
@@ -86,9 +109,9 @@ fn walk_back(f: &mut [u8], map: &[u8], b: &[u8], h: usize, n: usize) -> usize
     let mut m = n;
     while 0 < m {
         let at = h + Entry::SIZE * (m - 1);
-        let e = entry_of(&b[at..]);
+        let e = entry_in(&b[at..]);
         if entry_fits(f, map, e) {
-            undo(f, e);
+            put_in(f, e.kind, e.word as usize, e.old);
             m -= 1;
         } else {
             return m;
