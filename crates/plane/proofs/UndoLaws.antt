@@ -2,7 +2,7 @@
 -- the map still tells the kinds of.
 -- Assumes nothing.
 use Prim.Native.Nat.{ℕ, zero, suc, _+_, _-_, _*_, _<_, _≤_}
-use mathlib.Core.Path.{_≡_, refl, sym, ap, subst, _∙_}
+use mathlib.Core.Path.{_≡_, refl, sym, ap, ap₂, subst, _∙_}
 use mathlib.Core.List.{List, []}
 use mathlib.Core.Logic.{_⊎_, ⊎-elim}
 use mathlib.Core.Bool.{Bool, true, false, not, _&&_}
@@ -30,6 +30,7 @@ use Rattle.ledger.specs.Calls.{kindOf}
 use Rattle.ledger.specs.Chains.{Fits}
 use Rattle.ledger.specs.First.{first}
 use Rattle.ledger.specs.House.{toldOf, house, house-spot}
+use Rattle.ledger.specs.Judged.{heldOf}
 use Rattle.ledger.proofs.Judging.{fits-right}
 use Rattle.ledger.proofs.Stores.{sets-whole}
 use Rattle.ledger.proofs.Walking.{judge-none, judge-back, judge-stop}
@@ -82,19 +83,26 @@ item-inside s y w p e =
 abbrev plain : ℕ → ℕ → ℕ → ℕ → ℕ → ℕ → Entry
 plain w k old new o r = record { word = w; kind = k; old = old; new = new; operator = o; reason = r; extra = [] }
 
-module _ (map f : List ℕ) (g : Undoing map f) (w k old new o r : ℕ) where
+-- what the map and the bytes tell of word w
+module _ (map f : List ℕ) (g : Undoing map f) (w : ℕ) where
   -- no Sample or Bin begins there
-  pub unfit-there : getD map w 0 ≡ 0 → false ≡ fits house first f (plain w k old new o r)
-  unfolding fits
-  unfit-there z = go (house .spot f w) refl
+  nothing-there : getD map w 0 ≡ 0 → house .spot f w ≡ none
+  nothing-there z = go (house .spot f w) refl
     where
-      go : (s : Option Spot) → house .spot f w ≡ s → false ≡ atSpot (house .spot f w) (fitsItem house first (plain w k old new o r))
-      go none e = rw e
+      go : (s : Option Spot) → house .spot f w ≡ s → house .spot f w ≡ none
+      go none e = e
       go (some s) e =
           let n : s .kind ≡ 0 = ap kindOf (sym e) ∙ told-kind f w ∙ sym (g .kinds w) ∙ z in
           absurd (⊎-elim (λ q. omega arith) (λ q. omega arith) (kind-is f w s (g .frame) e))
 
-  -- a Sample or Bin begins there: its kind, and the four tests behind that
+  pub unfit-there : (k old new o r : ℕ) → getD map w 0 ≡ 0 → false ≡ fits house first f (plain w k old new o r)
+  unfolding fits
+  unfit-there k old new o r z = rw (nothing-there z)
+
+  pub none-held : getD map w 0 ≡ 0 → none ≡ heldOf (house .spot f w)
+  none-held z = rw (nothing-there z)
+
+  -- a Sample or Bin begins there: its words, its value, its kind, and the four tests behind that
   module _ (kind : ℕ) (m : kind ≡ getD map w 0) (n : kind ≡ 0 → ⊥) where
     item-there : (s : Option Spot) → house .spot f w ≡ s → (q : Spot) × (house .spot f w ≡ some q) × (kind ≡ q .kind)
     item-there none e = absurd (n (m ∙ g .kinds w ∙ sym (told-kind f w) ∙ ap kindOf e))
@@ -105,21 +113,30 @@ module _ (map f : List ℕ) (g : Undoing map f) (w k old new o r : ℕ) where
         let (s, e, q) = item-there (house .spot f w) refl in
         subst (λ (i : ℕ). Inside i w f) (sym q) (item-inside f (g .frame .bytes) w (own s) (stands-there f w s e))
 
-    pub other-there : (kind ≡ k → ⊥) → false ≡ fits house first f (plain w k old new o r)
-    unfolding fits fitsItem all
-    other-there d =
-        let (s, e, q) = item-there (house .spot f w) refl in
-        let z : eqb (s .kind) k ≡ false = ne-eqb (s .kind) k (λ i. d (q ∙ i)) in
-        rw (e, z)
+    value-there : (value : ℕ) → value ≡ valueAt kind f w → (s : Spot) → house .spot f w ≡ some s → kind ≡ s .kind → value ≡ s .value
+    value-there value v s e q = v ∙ ap (λ (i : ℕ). valueAt i f w) q ∙ sym (value-read f (g .frame .bytes) w (own s) (stands-there f w s e))
 
-    pub fit-there : kind ≡ k → (value : ℕ) → value ≡ valueAt kind f w → (lawful named : Bool) → lawful ≡ legalValue k old → named ≡ signed o r
-        → (((eqb value new && lawful) && not (eqb old new)) && named) ≡ fits house first f (plain w k old new o r)
-    unfolding fits fitsItem all first house
-    fit-there d value v lawful named l i =
+    pub some-held : (value : ℕ) → value ≡ valueAt kind f w → some (record { kind = kind; value = value }) ≡ heldOf (house .spot f w)
+    some-held value v =
         let (s, e, q) = item-there (house .spot f w) refl in
-        let z : eqb (s .kind) k ≡ true = eq-eqb (s .kind) k (sym q ∙ d) in
-        let p : value ≡ s .value = v ∙ ap (λ (i : ℕ). valueAt i f w) q ∙ sym (value-read f (g .frame .bytes) w (own s) (stands-there f w s e)) in
-        rw (e, z, p, l, i) (sym (and-true _ ∙ and-true _))
+        ap₂ (λ (i j : ℕ). some (record { kind = i; value = j })) q (value-there value v s e q) ∙ ap heldOf (sym e)
+
+    module _ (k old new o r : ℕ) where
+      pub other-there : (kind ≡ k → ⊥) → false ≡ fits house first f (plain w k old new o r)
+      unfolding fits fitsItem all
+      other-there d =
+          let (s, e, q) = item-there (house .spot f w) refl in
+          let z : eqb (s .kind) k ≡ false = ne-eqb (s .kind) k (λ i. d (q ∙ i)) in
+          rw (e, z)
+
+      pub fit-there : kind ≡ k → (value : ℕ) → value ≡ valueAt kind f w → (lawful named : Bool) → lawful ≡ legalValue k old → named ≡ signed o r
+          → (((eqb value new && lawful) && not (eqb old new)) && named) ≡ fits house first f (plain w k old new o r)
+      unfolding fits fitsItem all first house
+      fit-there d value v lawful named l i =
+          let (s, e, q) = item-there (house .spot f w) refl in
+          let z : eqb (s .kind) k ≡ true = eq-eqb (s .kind) k (sym q ∙ d) in
+          let p = value-there value v s e q in
+          rw (e, z, p, l, i) (sym (and-true _ ∙ and-true _))
 
 -- ---- undoing
 

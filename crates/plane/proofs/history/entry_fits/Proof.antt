@@ -23,14 +23,13 @@ returns-2 : tie.Need-returns-2
 returns-2 c =
     let k = c .before .before in
     let s = k .before .before .before .before .before in
-    other-there (now (s .args .map)) (now (s .args .f)) (s .pre) _ _ _ _ _ _ _ (k .before .kind-at .ensures) (k .if1 .left) (c .if2 .taken)
+    other-there (now (s .args .map)) (now (s .args .f)) (s .pre) _ _ (k .before .kind-at .ensures) (k .if1 .left) _ _ _ _ _ (c .if2 .taken)
 
 value-in-requires : tie.Need-value-in-requires
 value-in-requires c κs =
     let k = c .before .before in
     let s = k .before .before .before .before .before in
-    let e = s .args .e in
-    there-inside (now (s .args .map)) (now (s .args .f)) (s .pre) (e .word) (e .kind) (e .old) (e .new) (e .operator) (e .reason) _ (k .before .kind-at .ensures) (k .if1 .left)
+    there-inside (now (s .args .map)) (now (s .args .f)) (s .pre) _ _ (k .before .kind-at .ensures) (k .if1 .left)
 
 cast-signed : tie.Need-cast-signed
 cast-signed c = search needs
@@ -49,7 +48,7 @@ returns-3 c =
     let v = c .before .before .before .before .before .before in
     let k = v .before .before .before in
     let s = k .before .before .before .before .before in
-    fit-there (now (s .args .map)) (now (s .args .f)) (s .pre) _ _ _ _ _ _ _ (k .before .kind-at .ensures) (k .if1 .left) (v .before .if2 .left) _ (v .value-in .ensures) _ _ (c .before .legal .ensures) (c .before .before .before .signed .ensures)
+    fit-there (now (s .args .map)) (now (s .args .f)) (s .pre) _ _ (k .before .kind-at .ensures) (k .if1 .left) _ _ _ _ _ (v .before .if2 .left) _ (v .value-in .ensures) _ _ (c .before .legal .ensures) (c .before .before .before .signed .ensures)
 
 pub entry-fits-spec : {M : Type 1} → statement M
 entry-fits-spec =
