@@ -2,10 +2,10 @@
 -- each way through the code keeps the promise.
 -- Assumes nothing.
 use Prim.Native.Nat.{ℕ, _+_, _*_, _-_, _≤_, _<_}
-use mathlib.Core.Path.{_≡_, refl, sym, ap, _∙_}
+use mathlib.Core.Path.{_≡_, refl, sym, ap, ap₂, _∙_}
 use mathlib.Core.Bool.{Bool, true, false, not, _&&_, and-true}
 use mathlib.Core.List.{List, [], _∷_}
-use mathlib.Core.Option.{none, some, Option·some-injective}
+use mathlib.Core.Option.{Option, none, some, Option·some-injective}
 use native.Mathlib.Nat.{add-sub-cancel-left}
 use native.Mathlib.Omega.{arith}
 use lib.ListN.{length, take, drop}
@@ -15,6 +15,7 @@ use borrow.Rule.Slice.PartMut.{putMid, same-len-mid}
 use Rattle.format.specs.Words.{pick, Bytes, bytes}
 use Rattle.format.specs.Answers.{Done, accepted, refused, need, firstOf}
 use Rattle.format.specs.Spots.{legalValue, valueWord, valueWords}
+use Rattle.format.proofs.ItemQuestions.{no-some, some-is}
 use Rattle.ledger.specs.Frames.{Spot, Settable}
 use Rattle.ledger.specs.Formats as formats
 use Rattle.ledger.specs.Records.{countIn, frameIn, entryBytes, entriesIn, length-entries, signed, recordVerdict}
@@ -22,6 +23,7 @@ use Rattle.ledger.specs.Calls.{Summary, entryFor, newValue, editTests, editAnsw
 use Rattle.ledger.specs.Chains.{Allowed}
 use Rattle.ledger.specs.First.{first}
 use Rattle.ledger.specs.House.{house}
+use Rattle.ledger.specs.Judged.{Held, heldOf}
 use Rattle.ledger.proofs.Editing.{edit-exactly, exit-written, exit-found}
 use Rattle.ledger.proofs.FirstLaws.{full-limit}
 use Rattle.ledger.proofs.House.{house-lawful}
@@ -38,14 +40,23 @@ use Rattle.editor.proofs.KnownLaws.{frame-long, sum, inside, standing}
 -- ---- tests
 
 -- the tests at the item, each with its number, in their order
-pub tests-answer : (c : Correction) (x : Summary) (s : Spot) (room : ℕ) (fresh sign : Bool) (value signer full end rest more all : Done)
-    → fresh ≡ legalValue (s .kind) (c .value) → value ≡ need (fresh && not (eqb (s .value) (c .value))) 23 0
+pub tests-answer : (c : Correction) (x : Summary) (h : Held) (room : ℕ) (fresh sign : Bool) (value signer full end rest more all : Done)
+    → fresh ≡ legalValue (h .kind) (c .value) → value ≡ need (fresh && not (eqb (h .value) (c .value))) 23 0
     → sign ≡ signed (c .operator) (c .reason) → signer ≡ need sign 24 0
     → full ≡ need (ltb (x .count) 512) 25 0 → end ≡ need (leb (x .total + 16) room) 12 0
-    → rest ≡ also full end → more ≡ also signer rest → all ≡ also value more → all ≡ itemTests (asked c) x s room
-unfolding itemTests newValue house
-tests-answer c x s room fresh sign value signer full end rest more all l v g t u w r₁ r₂ r₃ =
+    → rest ≡ also full end → more ≡ also signer rest → all ≡ also value more → all ≡ itemTests (asked c) x h room
+unfolding itemTests house
+tests-answer c x h room fresh sign value signer full end rest more all l v g t u w r₁ r₂ r₃ =
     rw (r₃, r₂, r₁, v, l, t, g, u, w) (ordered (_ ∷ _ ∷ _ ∷ _ ∷ []))
+
+-- the item that holds a kind and a value
+item-held : (o : Option Spot) (h : Held) → some h ≡ heldOf o → (s : Spot) × (o ≡ some s) × (h ≡ record { kind = s .kind; value = s .value })
+item-held none h e = no-some h (sym e)
+item-held (some s) h e = (s, refl, some-is h _ e)
+
+none-there : (o : Option Spot) → none ≡ heldOf o → none ≡ o
+none-there none e = refl
+none-there (some s) e = no-some _ e
 
 -- of all tests of an edit, those at the item are left where the record is accepted and an item stands there
 module _ (b : List ℕ) (x : Summary) (k : Known b x) (c : Correction) where
@@ -53,13 +64,18 @@ module _ (b : List ℕ) (x : Summary) (k : Known b x) (c : Correction) where
   unfolding first
   limit-left e = rw (length-entries first b (countIn b), ← k .count)
 
-  pub no-target : none ≡ house .spot (frameIn b) (c .word) → editAnswer house first b (asked c) ≡ refused 22 0
+  pub no-target : none ≡ heldOf (house .spot (frameIn b) (c .word)) → editAnswer house first b (asked c) ≡ refused 22 0
   unfolding editAnswer editTests firstOf first
-  no-target e = rw (k .judged, ← e)
+  no-target e = let n = none-there (house .spot (frameIn b) (c .word)) e in rw (k .judged, ← n)
 
-  pub tests-left : (s : Spot) → some s ≡ house .spot (frameIn b) (c .word) → (r : Done) → r ≡ itemTests (asked c) x s (length b) → editAnswer house first b (asked c) ≡ r
-  unfolding itemTests editAnswer editTests firstOf first
-  tests-left s e r q = sym (q ∙ rw (k .judged, ← e, and-true (signed (c .operator) (c .reason)), limit-left (entryFor house (frameIn b) (asked c)), k .total))
+  tests-at : (s : Spot) → house .spot (frameIn b) (c .word) ≡ some s → (r : Done) → r ≡ itemTests (asked c) x (record { kind = s .kind; value = s .value }) (length b) → editAnswer house first b (asked c) ≡ r
+  unfolding itemTests editAnswer editTests newValue firstOf first
+  tests-at s e r q = sym (q ∙ rw (k .judged, e, and-true (signed (c .operator) (c .reason)), limit-left (entryFor house (frameIn b) (asked c)), k .total))
+
+  pub tests-left : (h : Held) → some h ≡ heldOf (house .spot (frameIn b) (c .word)) → (r : Done) → r ≡ itemTests (asked c) x h (length b) → editAnswer house first b (asked c) ≡ r
+  tests-left h e r q =
+      let (s, i, j) = item-held (house .spot (frameIn b) (c .word)) h e in
+      tests-at s i r (q ∙ ap (λ (g : Held). itemTests (asked c) x g (length b)) j)
 
 -- ---- the promise, kept where an edit is refused and where it is made
 module _ (b : List ℕ) (c : formats.Correction) where
@@ -82,25 +98,41 @@ length-stored f kind w v = go (legalValue kind v)
     go true = length-sets f (2 * valueWord kind w) (bytes (valueWords kind v))
     go false = refl
 
-module _ (b : List ℕ) (x : Summary) (c : Correction) (s : Spot) (e : Editable b x (asked c) s) where
+all-written : (b : List ℕ) (x : Summary) → Known b x → (c : Correction) (s : Spot) → house .spot (frameIn b) (c .word) ≡ some s
+    → (l₁ l₂ l₃ : List ℕ) → l₁ ≡ sets b 16 (house .put (frameIn b) (c .word) (c .value)) → l₂ ≡ sets l₁ 10 (bytes ((x .count + 1) ∷ (x .total + 16) ∷ []))
+    → l₃ ≡ sets l₂ (x .total) (entryBytes first (record { word = c .word; kind = s .kind; old = s .value; new = c .value; operator = c .operator; reason = c .reason; extra = [] }))
+    → l₃ ≡ editWritten house first b (asked c)
+unfolding editWritten bytes first
+all-written b x k c s i l₁ l₂ l₃ e₁ e₂ e₃ = rw (e₃, e₂, e₁, i, k .count, k .total)
+
+module _ (b : List ℕ) (x : Summary) (c : Correction) (h : Held) (e : Editable b x (asked c) h) where
+  abbrev the-item : (s : Spot) × (house .spot (frameIn b) (c .word) ≡ some s) × (h ≡ record { kind = s .kind; value = s .value })
+  the-item = item-held (house .spot (frameIn b) (c .word)) h (e .held)
+
+  abbrev item : Spot
+  item = the-item .0
+
+  stands : house .spot (frameIn b) (c .word) ≡ some item
+  stands = the-item .1
+
   allowed : Allowed house first b (asked c)
   allowed = edit-exactly house first b (asked c) (e .known .judged) .0 (e .accepted)
 
-  same-spot : allowed .spot ≡ s
-  same-spot = Option·some-injective (allowed .spot) s (sym (allowed .stands) ∙ e .stands)
+  same-spot : allowed .spot ≡ item
+  same-spot = Option·some-injective (allowed .spot) item (sym (allowed .stands) ∙ stands)
 
   part : take (16 + x .length - 16) (drop 16 b) ≡ frameIn b
   part = rw (add-sub-cancel-left 16 (x .length), e .known .length)
 
-  pub settable : Bytes b → Settable house (frameIn b) (c .word) (c .value) s
+  settable : Bytes b → Settable house (frameIn b) (c .word) (c .value) item
   settable y = record {
     frame = standing b x (e .known) y;
-    stands = e .stands;
+    stands = stands;
     legal = ap (λ (t : Spot). house .legal (t .kind) (c .value)) (sym same-spot) ∙ allowed .legal;
   }
 
   pub word-fits : Bytes b → c .word < 65536
-  word-fits y = house-lawful .index-fits (frameIn b) (c .word) s (standing b x (e .known) y) (e .stands)
+  word-fits y = house-lawful .index-fits (frameIn b) (c .word) item (standing b x (e .known) y) stands
 
   pub signer-fits : (c .operator < 65536) × (c .reason < 65536)
   signer-fits = let o = allowed .operator in let r = allowed .reason in (omega arith, omega arith)
@@ -118,17 +150,18 @@ module _ (b : List ℕ) (x : Summary) (c : Correction) (s : Spot) (e : Editable 
   value-length l₁ kind w v q = same-len-mid 16 (16 + x .length - 16) b l₁ (ap length q ∙ length-stored (take (16 + x .length - 16) (drop 16 b)) kind w v)
 
   -- three stores: the value in the frame's part, two header words, one entry
-  module _ (y : Bytes b) (l₁ : List ℕ) (e₁ : l₁ ≡ stored (take (16 + x .length - 16) (drop 16 b)) (s .kind) (c .word) (c .value)) where
+  module _ (y : Bytes b) (l₁ : List ℕ) (e₁ : l₁ ≡ stored (take (16 + x .length - 16) (drop 16 b)) (h .kind) (c .word) (c .value)) where
     value-stores : putMid 16 (16 + x .length - 16) b l₁ ≡ sets b 16 (house .put (frameIn b) (c .word) (c .value))
     value-stores =
         let k = e .known in
         let g = house .put (frameIn b) (c .word) (c .value) in
         let r : 16 + x .length ≤ length b = let i = inside b x k in let t = sum b x k in omega arith in
-        let l : length g ≡ 16 + x .length - 16 = house-lawful .put-length (frameIn b) (c .word) (c .value) s (settable y) ∙ frame-long b x k ∙ sym (add-sub-cancel-left 16 (x .length)) in
-        ap (putMid 16 (16 + x .length - 16) b) (e₁ ∙ ap (λ (f : List ℕ). stored f (s .kind) (c .word) (c .value)) part ∙ stored-put (frameIn b) (c .word) (c .value) s (settable y)) ∙ part-whole b 16 (16 + x .length) g (omega arith) r l
+        let l : length g ≡ 16 + x .length - 16 = house-lawful .put-length (frameIn b) (c .word) (c .value) item (settable y) ∙ frame-long b x k ∙ sym (add-sub-cancel-left 16 (x .length)) in
+        ap (putMid 16 (16 + x .length - 16) b) (e₁ ∙ ap₂ (λ (f : List ℕ) (i : Held). stored f (i .kind) (c .word) (c .value)) part (the-item .2) ∙ stored-put (frameIn b) (c .word) (c .value) item (settable y)) ∙ part-whole b 16 (16 + x .length) g (omega arith) r l
 
     pub written : (l₂ l₃ : List ℕ) → l₂ ≡ sets (putMid 16 (16 + x .length - 16) b l₁) 10 (bytes ((x .count + 1) ∷ (x .total + 16) ∷ []))
-        → l₃ ≡ sets l₂ (x .total) (entryBytes first (record { word = c .word; kind = s .kind; old = s .value; new = c .value; operator = c .operator; reason = c .reason; extra = [] }))
+        → l₃ ≡ sets l₂ (x .total) (entryBytes first (record { word = c .word; kind = h .kind; old = h .value; new = c .value; operator = c .operator; reason = c .reason; extra = [] }))
         → l₃ ≡ editWritten house first b (asked c)
-    unfolding editWritten bytes first
-    written l₂ l₃ e₂ e₃ = rw (e₃, e₂, value-stores, e .stands, e .known .count, e .known .total)
+    written l₂ l₃ e₂ e₃ =
+        all-written b x (e .known) c item stands _ l₂ l₃ value-stores e₂
+        (e₃ ∙ ap (λ (g : Held). sets l₂ (x .total) (entryBytes first (record { word = c .word; kind = g .kind; old = g .value; new = c .value; operator = c .operator; reason = c .reason; extra = [] }))) (the-item .2))

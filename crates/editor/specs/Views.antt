@@ -2,16 +2,16 @@
 -- Assumes nothing.
 use Prim.Native.Nat.{ℕ, _+_}
 use mathlib.Core.List.{[], _∷_}
-use lib.Dec.{leb, ltb}
+use mathlib.Core.Bool.{not, _&&_}
+use lib.Dec.{leb, ltb, eqb}
 use Rattle.format.specs.Answers as answers
 use Rattle.format.specs.Answers.{accepted, andThen, need, firstOf}
 use Rattle.book.specs.Views.{refusal}
-use Rattle.ledger.specs.Frames as frames
 use Rattle.ledger.specs.Formats as formats
 use Rattle.ledger.specs.Records.{signed}
-use Rattle.ledger.specs.Calls.{Summary, newValue}
+use Rattle.ledger.specs.Calls.{Summary}
 use Rattle.ledger.specs.House.{house}
-use Rattle.plane.specs.declared.answers.Spot.{Spot}
+use Rattle.ledger.specs.Judged.{Held}
 use Rattle.editor.specs.declared.answers.Done.{Done}
 use Rattle.editor.specs.declared.answers.Done.the-variants as done
 use Rattle.editor.specs.declared.editing.Correction.{Correction}
@@ -28,14 +28,11 @@ also a b = andThen a (λ u. b)
 abbrev pub asked : Correction → formats.Correction
 asked c = record { word = c .word; value = c .value; operator = c .operator; reason = c .reason; extra = [] }
 
-abbrev pub spotOf : Spot → frames.Spot
-spotOf s = record { kind = s .kind; value = s .value; key = s .key }
-
--- the tests of an edit of an accepted record at the item s, in a buffer of `room` bytes
-unfoldable pub itemTests : formats.Correction → Summary → frames.Spot → ℕ → answers.Done
-itemTests c x s room =
+-- the tests of an edit of an accepted record at the item h, in a buffer of `room` bytes
+unfoldable pub itemTests : formats.Correction → Summary → Held → ℕ → answers.Done
+itemTests c x h room =
     firstOf
-    (need (newValue house c s) 23 0
+    (need (house .legal (h .kind) (c .value) && not (eqb (h .value) (c .value))) 23 0
     ∷ need (signed (c .operator) (c .reason)) 24 0
     ∷ need (ltb (x .count) 512) 25 0
     ∷ need (leb (x .total + 16) room) 12 0

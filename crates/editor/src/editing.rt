@@ -4,9 +4,10 @@ ghost use Prim.Native.Nat.{_<_};
 ghost use Rattle.ledger.specs.Records.{frameIn};
 ghost use Rattle.ledger.specs.Calls.{editWritten};
 ghost use Rattle.ledger.specs.First.{first};
-ghost use Rattle.ledger.specs.House.{house, toldOf};
-ghost use Rattle.plane.specs.Views.{viewSpot, summaryOf};
-ghost use Rattle.editor.specs.Views.{viewDone, asked, spotOf, itemTests};
+ghost use Rattle.ledger.specs.House.{house};
+ghost use Rattle.ledger.specs.Judged.{heldOf};
+ghost use Rattle.plane.specs.Views.{asHeld, viewHeld, summaryOf};
+ghost use Rattle.editor.specs.Views.{viewDone, asked, itemTests};
 ghost use Rattle.editor.specs.Promises.{Edited};
 ghost use Rattle.editor.specs.Writes.{Known, Editable};
 use crate::answers::Done;
@@ -16,10 +17,10 @@ use crate::stores::put_entry;
 use crate::stores::put_words;
 use book::refusal::Refusal;
 use plane::answers::Entry;
+use plane::answers::Held;
+use plane::answers::HeldFound;
 use plane::answers::Judged;
 use plane::answers::Record;
-use plane::answers::Spot;
-use plane::answers::SpotFound;
 use plane::history::signed;
 use plane::judge;
 use plane::values::legal;
@@ -35,11 +36,11 @@ pub struct Correction {
 }
 
 // The tests of an edit of an accepted record at the item asked for: 23, 24, 25, 12.
-fn edit_tests(c: Correction, x: Record, spot: Spot, room: usize) -> Done
+fn edit_tests(c: Correction, x: Record, held: Held, room: usize) -> Done
     requires { ⌜ x .total < 65536 ⌝ }
-    ensures { λ r. ⌜ viewDone r ≡ itemTests (asked c) (summaryOf x) (spotOf spot) room ⌝ }
+    ensures { λ r. ⌜ viewDone r ≡ itemTests (asked c) (summaryOf x) (asHeld held) room ⌝ }
 {
-    let fresh = legal(spot.kind, c.value) & (spot.value != c.value);
+    let fresh = legal(held.kind, c.value) & (held.value != c.value);
     let value = test(fresh, Refusal::NEW_VALUE);
     let signer = test(signed(c.operator, c.reason), Refusal::SIGNER);
     let full = test(x.count < Record::MOST, Refusal::FULL);
@@ -48,20 +49,20 @@ fn edit_tests(c: Correction, x: Record, spot: Spot, room: usize) -> Done
 }
 
 // An edit that may be made: the value, the two header words that change, and one entry.
-fn write_edit(buf: &mut [u8], c: Correction, x: Record, spot: Spot)
-    requires { ⌜ Editable (now buf) (summaryOf x) (asked c) (spotOf spot) ⌝ }
+fn write_edit(buf: &mut [u8], c: Correction, x: Record, held: Held)
+    requires { ⌜ Editable (now buf) (summaryOf x) (asked c) (asHeld held) ⌝ }
     ensures { λ _. ⌜ now (buf .exit) ≡ editWritten house first (now (buf .entry)) (asked c) ⌝ }
 {
     let start = Record::HEADER;
     let end = start + x.length;
-    put_value(&mut buf[start..end], spot.kind, c.word, c.value);
+    put_value(&mut buf[start..end], held.kind, c.word, c.value);
     let count = (x.count + 1) as u16;
     let total = (x.total + Entry::SIZE) as u16;
     put_words(buf, 2 * Record::COUNT_WORD, &[count, total]);
     let entry = Entry {
         word: c.word as u16,
-        kind: spot.kind,
-        old: spot.value,
+        kind: held.kind,
+        old: held.value,
         new: c.value,
         operator: c.operator as u16,
         reason: c.reason as u16,
@@ -70,18 +71,18 @@ fn write_edit(buf: &mut [u8], c: Correction, x: Record, spot: Spot)
 }
 
 // An edit of an accepted record, at what stands at the word asked for: anything but a Sample or Bin leaves at once with 22.
-fn edit_item(buf: &mut [u8], c: Correction, x: Record, s: SpotFound) -> Done
-    requires { ⌜ Known (now buf) (summaryOf x) × (toldOf (viewSpot s) ≡ house .spot (frameIn (now buf)) (c .word)) ⌝ }
+fn edit_item(buf: &mut [u8], c: Correction, x: Record, s: HeldFound) -> Done
+    requires { ⌜ Known (now buf) (summaryOf x) × (viewHeld s ≡ heldOf (house .spot (frameIn (now buf)) (c .word))) ⌝ }
     ensures { λ r. ⌜ Edited (now (buf .entry)) (asked c) (viewDone r) (now (buf .exit)) ⌝ }
 {
-    let SpotFound::Spot(spot) = s else {
+    let HeldFound::Held(held) = s else {
         return test(false, Refusal::TARGET);
     };
-    let answer = edit_tests(c, x, spot, buf.len());
+    let answer = edit_tests(c, x, held, buf.len());
     match answer {
         Done::Refused(r) => Done::Refused(r),
         Done::Accepted => {
-            write_edit(buf, c, x, spot);
+            write_edit(buf, c, x, held);
             Done::Accepted
         }
     }

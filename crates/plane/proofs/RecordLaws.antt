@@ -26,12 +26,12 @@ use Rattle.ledger.specs.Frames.{Accepted}
 use Rattle.ledger.specs.Formats.{Entry}
 use Rattle.ledger.specs.Records.{lengthIn, countIn, totalIn, frameIn, entryOf, numbered, entriesTo, length-entries, headerRight, historyVerdict, recordVerdict}
 use Rattle.ledger.specs.Calls.{Summary, recordAnswer, entryAnswer}
-use Rattle.ledger.specs.Judged.{judgedAt}
+use Rattle.ledger.specs.Judged.{Held, Judged, heldOf, judgedAt}
 use Rattle.ledger.specs.First.{first}
 use Rattle.ledger.specs.House.{toldOf, house, house-judge, house-spot}
 use Rattle.ledger.proofs.Headers.{header-words}
 use Rattle.ledger.proofs.Judging.{verdict-parts, parts-verdict, frame-refused}
-use Rattle.plane.specs.Views.{summaryAt}
+use Rattle.plane.specs.Views.{unfit, toldBy}
 
 -- ---- the tests of the code, as the rules have them
 
@@ -117,19 +117,52 @@ room b h =
 
 -- ---- answers
 
-pub wrong-header : (b : List ℕ) → headerRight first b ≡ false → refused 20 0 ≡ recordAnswer house first b
-unfolding recordAnswer recordVerdict firstOf
-wrong-header b h = rw h
+abbrev pub lengths : Judged → Summary
+lengths j = record { length = j .length; count = j .count; total = j .total }
 
-pub wrong-frame : (b : List ℕ) (n p : ℕ) → headerRight first b ≡ true → house .judge (frameIn b) ≡ refused n p → refused n p ≡ recordAnswer house first b
-unfolding recordAnswer
-wrong-frame b n p h j = rw (frame-refused house first b n p (header-words first b h) j)
+module _ (b : List ℕ) (w : ℕ) where
+  pub wrong-header : headerRight first b ≡ false → refused 20 0 ≡ judgedAt house first b w
+  unfolding judgedAt recordVerdict firstOf
+  wrong-header h = rw h
 
-pub right-frame : (b : List ℕ) → headerRight first b ≡ true → house .judge (frameIn b) ≡ accepted tt
-    → (o : Done) (len n total : ℕ) → len ≡ lengthIn b → n ≡ countIn b → total ≡ 16 + len + 16 * n → o ≡ historyVerdict house first (frameIn b) (entriesTo first b n)
-    → andThen o (λ u. accepted (summaryAt len n total)) ≡ recordAnswer house first b
-unfolding recordAnswer first
-right-frame b h j o len n total el en et eo = rw (parts-verdict house first b h j, et, eo, el, en)
+  pub wrong-frame : (n p : ℕ) → headerRight first b ≡ true → house .judge (frameIn b) ≡ refused n p → refused n p ≡ judgedAt house first b w
+  unfolding judgedAt
+  wrong-frame n p h j = rw (frame-refused house first b n p (header-words first b h) j)
+
+  pub right-frame : headerRight first b ≡ true → house .judge (frameIn b) ≡ accepted tt
+      → (len n total : ℕ) → len ≡ lengthIn b → n ≡ countIn b → total ≡ 16 + len + 16 * n → (f : List ℕ) → f ≡ frameIn b
+      → (o : Outcome Judged) → o ≡ toldBy f b (record { length = len; count = n; total = total }) w → o ≡ judgedAt house first b w
+  unfolding judgedAt toldBy first
+  right-frame h j len n total el en et f ef o eo = eo ∙ rw (parts-verdict house first b h j, et, ef, el, en)
+
+  -- the record's answer is what is told, without the item
+  judged-told : andThen (judgedAt house first b w) (λ j. accepted (lengths j)) ≡ recordAnswer house first b
+  unfolding judgedAt recordAnswer
+  judged-told = go (recordVerdict house first b)
+    where
+      here : Judged
+      here = record { length = lengthIn b; count = countIn b; total = totalIn first b; held = heldOf (house .spot (frameIn b) w) }
+
+      go : (v : Done) → andThen (andThen v (λ u. accepted here)) (λ j. accepted (lengths j)) ≡ andThen v (λ u. accepted (lengths here))
+      go (accepted u) = refl
+      go (refused n p) = refl
+
+  pub record-told : (o : Outcome Judged) → o ≡ judgedAt house first b w → andThen o (λ j. accepted (lengths j)) ≡ recordAnswer house first b
+  record-told o e = ap (λ (i : Outcome Judged). andThen i (λ j. accepted (lengths j))) e ∙ judged-told
+
+-- the walk back over the entries, and what stands at the word
+module _ (f b : List ℕ) (x : Summary) (w bad : ℕ) (e : unfit bad ≡ historyVerdict house first f (entriesTo first b (x .count))) where
+  pub told-accepted : bad ≡ 0 → (h : Option Held) → h ≡ heldOf (house .spot f w) → accepted (record { length = x .length; count = x .count; total = x .total; held = h }) ≡ toldBy f b x w
+  unfolding toldBy
+  told-accepted z h q =
+      let v : historyVerdict house first f (entriesTo first b (x .count)) ≡ accepted tt = sym e ∙ rw (eq-eqb bad 0 z) in
+      rw (v, q)
+
+  pub told-refused : (bad ≡ 0 → ⊥) → refused 21 bad ≡ toldBy f b x w
+  unfolding toldBy
+  told-refused n =
+      let v : historyVerdict house first f (entriesTo first b (x .count)) ≡ refused 21 bad = sym e ∙ rw (ne-eqb bad 0 n) in
+      rw v
 
 -- what an accepted record tells
 pub record Told (b : List ℕ) (x : Summary) : Type 0 where
@@ -147,7 +180,7 @@ told b x e = go (recordVerdict house first b) refl e
     inner : (x y : Summary) → accepted x ≡ accepted y → x ≡ y
     inner x y q = cc
 
-    go : (o : Done) → recordVerdict house first b ≡ o → accepted x ≡ andThen o (λ u. accepted (summaryAt (lengthIn b) (countIn b) (totalIn first b))) → Told b x
+    go : (o : Done) → recordVerdict house first b ≡ o → accepted x ≡ andThen o (λ u. accepted (record { length = lengthIn b; count = countIn b; total = totalIn first b })) → Told b x
     go (accepted u) v q =
         let i = inner _ _ q in
         let p = verdict-parts house first b v in
@@ -170,20 +203,11 @@ module _ (b : List ℕ) (n p : ℕ) (e : refused n p ≡ recordAnswer house firs
   unfolding recordAnswer
   refused-there = verdict-refused (recordVerdict house first b) _ n p e
 
-  pub judged-refused : (w : ℕ) → refused n p ≡ judgedAt house first b w
-  unfolding judgedAt
-  judged-refused w = rw refused-there
-
   pub entry-refused : (j : ℕ) → refused n p ≡ entryAnswer house first b j
   unfolding entryAnswer
   entry-refused j = rw refused-there
 
 module _ (b : List ℕ) (x : Summary) (t : Told b x) where
-  pub judged-accepted : (w : ℕ) (o : Option spots.Spot) → o ≡ spot (frameIn b) w
-      → accepted (record { length = x .length; count = x .count; total = x .total; spot = toldOf o }) ≡ judgedAt house first b w
-  unfolding judgedAt
-  judged-accepted w o e = rw (t .verdict, t .length, t .count, t .total, e, house-spot (frameIn b) w)
-
   pub entry-none : (j : ℕ) → (leb 1 j && leb j (x .count)) ≡ false → refused 26 0 ≡ entryAnswer house first b j
   unfolding entryAnswer
   entry-none j h = let g : (leb 1 j && leb j (countIn b)) ≡ false = rw (t .count) at h in rw (t .verdict, g)
@@ -209,10 +233,6 @@ module _ (b : List ℕ) (len : ℕ) where
 
   pub part-accepted : Bytes b → (x : Overview) → accepted x ≡ readOf (take (16 + len - 16) (drop 16 b)) → Accepted house (take (16 + len - 16) (drop 16 b))
   part-accepted y x e = record { bytes = part-bytes y; judged = judge-accepted (take (16 + len - 16) (drop 16 b)) x e }
-
-  pub told-frame : Bytes b → (x : Summary) → Told b x → len ≡ x .length → Accepted house (take (16 + len - 16) (drop 16 b))
-  told-frame y x t e =
-      record { bytes = part-bytes y; judged = ap (λ (f : List ℕ). house .judge f) (frame-part b len (e ∙ t .length)) ∙ t .judged }
 
 -- an entry number from 1 to the count
 pub numbers : (j n : ℕ) → (leb 1 j && leb j n) ≡ true → (1 ≤ j) × (j ≤ n)

@@ -2,23 +2,26 @@
 -- the map still tells the kinds of.
 -- Assumes nothing.
 use Prim.Native.Nat.{ℕ, zero, suc, _+_, _-_, _*_, _<_, _≤_}
-use mathlib.Core.Path.{_≡_, refl, sym, ap, subst, _∙_}
+use mathlib.Core.Path.{_≡_, refl, sym, ap, ap₂, subst, _∙_}
 use mathlib.Core.List.{List, []}
 use mathlib.Core.Logic.{_⊎_, ⊎-elim}
 use mathlib.Core.Bool.{Bool, true, false, not, _&&_}
 use mathlib.Core.Option.{Option, none, some}
 use native.Mathlib.Omega.{arith}
 use lib.Dec.{eqb}
-use lib.ListN.{length, getD, take, drop}
-use lib.Seq.{sets}
-use borrow.Author.Tests.{eqb-true, eqb-false, ne-eqb}
-use Rattle.format.specs.Words.{bytes}
+use lib.ListN.{length, getD, take, drop, length-drop}
+use lib.Seq.{sets, length-take-le}
+use borrow.Author.Tests.{eqb-true, eqb-false, eq-eqb, ne-eqb}
+use Rattle.format.specs.Words.{Bytes, bytes}
 use Rattle.format.specs.Answers.{Done}
-use Rattle.format.specs.Spots.{spot, put, legalValue}
+use Rattle.format.specs.Items.{Item, Channel, Histogram, HitCount, Sample, Bin, LastCell, TimeBin, Text, StartEvent, EndEvent, wordsOf}
+use Rattle.format.specs.Frames.{lastOf}
+use Rattle.format.specs.Spots.{spotOf, underAll, spot, put, legalValue}
 use Rattle.format.specs.Spots as spots
 use Rattle.format.specs.Scans.{valueAt, kindFound}
 use Rattle.format.proofs.PutLaws.{stands, put-stores}
-use Rattle.format.proofs.ScanLaws.{value-read}
+use Rattle.format.proofs.ItemQuestions.{no-some}
+use Rattle.format.proofs.ScanLaws.{next-there, value-read}
 use Rattle.ledger.specs.Tests.{all}
 use Rattle.ledger.specs.Frames.{Spot, Accepted, Settable}
 use Rattle.ledger.specs.Formats.{Entry}
@@ -27,12 +30,13 @@ use Rattle.ledger.specs.Calls.{kindOf}
 use Rattle.ledger.specs.Chains.{Fits}
 use Rattle.ledger.specs.First.{first}
 use Rattle.ledger.specs.House.{toldOf, house, house-spot}
+use Rattle.ledger.specs.Judged.{heldOf}
 use Rattle.ledger.proofs.Judging.{fits-right}
 use Rattle.ledger.proofs.Stores.{sets-whole}
 use Rattle.ledger.proofs.Walking.{judge-none, judge-back, judge-stop}
 use Rattle.ledger.proofs.House.{own, stands-there, kind-is, house-lawful}
 use Rattle.plane.specs.Views.{unfit}
-use Rattle.plane.specs.Stored.{stored}
+use Rattle.plane.specs.Stored.{stored, Inside}
 use Rattle.plane.specs.Undoing.{Kinds, Undoing}
 use Rattle.plane.proofs.RecordLaws.{entry-from}
 
@@ -49,35 +53,90 @@ and-true : (a : Bool) → (a && true) ≡ a
 and-true true = refl
 and-true false = refl
 
+-- the words of an item that stands there lie in the frame
+item-inside : (s : List ℕ) → Bytes s → (w : ℕ) (p : spots.Spot) → spot s w ≡ some p → Inside (p .kind) w s
+unfolding wordsOf
+item-inside s y w p e =
+    let h = stands s w p e in
+    let is = h .is in
+    let n = next-there s y (h .frame) (h .accepted) (is .before) (is .item) (is .after) (is .items) w (is .index) in
+    let i = n .wide in
+    let l = n .within in
+    by-item (is .item) (underAll 0 (is .before)) (is .spot) (omega arith)
+  where
+    kind-of : (a b : spots.Spot) → some a ≡ some b → b .kind ≡ a .kind
+    kind-of a b e = cc
+
+    by-item : (x : Item) (k : ℕ) → spotOf k x ≡ some p → w + length (wordsOf x) ≤ lastOf s → Inside (p .kind) w s
+    by-item (Sample v) k q b = record { sample = λ z. omega arith; bin = λ n. absurd (n (kind-of _ p q)) }
+    by-item (Bin i v) k q b = record { sample = λ z. omega arith; bin = λ n. omega arith }
+    by-item (Channel i j c) k q b = no-some p q
+    by-item (Histogram i j c) k q b = no-some p q
+    by-item (HitCount i j c) k q b = no-some p q
+    by-item (LastCell i j) k q b = no-some p q
+    by-item (TimeBin i) k q b = no-some p q
+    by-item (Text i) k q b = no-some p q
+    by-item (StartEvent i j c) k q b = no-some p q
+    by-item (EndEvent i) k q b = no-some p q
+
 -- an entry with nothing after the reason
 abbrev plain : ℕ → ℕ → ℕ → ℕ → ℕ → ℕ → Entry
 plain w k old new o r = record { word = w; kind = k; old = old; new = new; operator = o; reason = r; extra = [] }
 
-module _ (map f : List ℕ) (g : Undoing map f) (w k old new o r : ℕ) where
+-- what the map and the bytes tell of word w
+module _ (map f : List ℕ) (g : Undoing map f) (w : ℕ) where
   -- no Sample or Bin begins there
-  pub unfit-there : getD map w 0 ≡ 0 → false ≡ fits house first f (plain w k old new o r)
-  unfolding fits
-  unfit-there z = go (house .spot f w) refl
+  nothing-there : getD map w 0 ≡ 0 → house .spot f w ≡ none
+  nothing-there z = go (house .spot f w) refl
     where
-      go : (s : Option Spot) → house .spot f w ≡ s → false ≡ atSpot (house .spot f w) (fitsItem house first (plain w k old new o r))
-      go none e = rw e
+      go : (s : Option Spot) → house .spot f w ≡ s → house .spot f w ≡ none
+      go none e = e
       go (some s) e =
           let n : s .kind ≡ 0 = ap kindOf (sym e) ∙ told-kind f w ∙ sym (g .kinds w) ∙ z in
           absurd (⊎-elim (λ q. omega arith) (λ q. omega arith) (kind-is f w s (g .frame) e))
 
-  -- a Sample or Bin begins there: the five tests
-  pub fit-there : (kind value : ℕ) → kind ≡ getD map w 0 → (kind ≡ 0 → ⊥) → value ≡ valueAt kind f w → (lawful named : Bool) → lawful ≡ legalValue k old → named ≡ signed o r
-      → ((((eqb kind k && eqb value new) && lawful) && not (eqb old new)) && named) ≡ fits house first f (plain w k old new o r)
-  unfolding fits fitsItem all first house
-  fit-there kind value m n v lawful named l i = go (house .spot f w) refl
-    where
-      go : (s : Option Spot) → house .spot f w ≡ s
-          → ((((eqb kind k && eqb value new) && lawful) && not (eqb old new)) && named) ≡ atSpot (house .spot f w) (fitsItem house first (plain w k old new o r))
-      go none e = absurd (n (m ∙ g .kinds w ∙ sym (told-kind f w) ∙ ap kindOf e))
-      go (some s) e =
-          let q : kind ≡ s .kind = m ∙ g .kinds w ∙ sym (told-kind f w) ∙ ap kindOf e in
-          let p : value ≡ s .value = v ∙ ap (λ (i : ℕ). valueAt i f w) q ∙ sym (value-read f (g .frame .bytes) w (own s) (stands-there f w s e)) in
-          rw (e, q, p, l, i) (sym (and-true _ ∙ and-true _))
+  pub unfit-there : (k old new o r : ℕ) → getD map w 0 ≡ 0 → false ≡ fits house first f (plain w k old new o r)
+  unfolding fits
+  unfit-there k old new o r z = rw (nothing-there z)
+
+  pub none-held : getD map w 0 ≡ 0 → none ≡ heldOf (house .spot f w)
+  none-held z = rw (nothing-there z)
+
+  -- a Sample or Bin begins there: its words, its value, its kind, and the four tests behind that
+  module _ (kind : ℕ) (m : kind ≡ getD map w 0) (n : kind ≡ 0 → ⊥) where
+    item-there : (s : Option Spot) → house .spot f w ≡ s → (q : Spot) × (house .spot f w ≡ some q) × (kind ≡ q .kind)
+    item-there none e = absurd (n (m ∙ g .kinds w ∙ sym (told-kind f w) ∙ ap kindOf e))
+    item-there (some s) e = (s, e, m ∙ g .kinds w ∙ sym (told-kind f w) ∙ ap kindOf e)
+
+    pub there-inside : Inside kind w f
+    there-inside =
+        let (s, e, q) = item-there (house .spot f w) refl in
+        subst (λ (i : ℕ). Inside i w f) (sym q) (item-inside f (g .frame .bytes) w (own s) (stands-there f w s e))
+
+    value-there : (value : ℕ) → value ≡ valueAt kind f w → (s : Spot) → house .spot f w ≡ some s → kind ≡ s .kind → value ≡ s .value
+    value-there value v s e q = v ∙ ap (λ (i : ℕ). valueAt i f w) q ∙ sym (value-read f (g .frame .bytes) w (own s) (stands-there f w s e))
+
+    pub some-held : (value : ℕ) → value ≡ valueAt kind f w → some (record { kind = kind; value = value }) ≡ heldOf (house .spot f w)
+    some-held value v =
+        let (s, e, q) = item-there (house .spot f w) refl in
+        ap₂ (λ (i j : ℕ). some (record { kind = i; value = j })) q (value-there value v s e q) ∙ ap heldOf (sym e)
+
+    module _ (k old new o r : ℕ) where
+      pub other-there : (kind ≡ k → ⊥) → false ≡ fits house first f (plain w k old new o r)
+      unfolding fits fitsItem all
+      other-there d =
+          let (s, e, q) = item-there (house .spot f w) refl in
+          let z : eqb (s .kind) k ≡ false = ne-eqb (s .kind) k (λ i. d (q ∙ i)) in
+          rw (e, z)
+
+      pub fit-there : kind ≡ k → (value : ℕ) → value ≡ valueAt kind f w → (lawful named : Bool) → lawful ≡ legalValue k old → named ≡ signed o r
+          → (((eqb value new && lawful) && not (eqb old new)) && named) ≡ fits house first f (plain w k old new o r)
+      unfolding fits fitsItem all first house
+      fit-there d value v lawful named l i =
+          let (s, e, q) = item-there (house .spot f w) refl in
+          let z : eqb (s .kind) k ≡ true = eq-eqb (s .kind) k (sym q ∙ d) in
+          let p = value-there value v s e q in
+          rw (e, z, p, l, i) (sym (and-true _ ∙ and-true _))
 
 -- ---- undoing
 
@@ -92,6 +151,14 @@ module _ (f : List ℕ) (a : Accepted house f) (e : Entry) (h : fits house first
 
   settable : Settable house f (e .word) (e .old) (fitting .spot)
   settable = record { frame = a; stands = fitting .stands; legal = ap (λ (k : ℕ). house .legal k (e .old)) (fitting .kind) ∙ fitting .old }
+
+  -- the old value of an entry that fits may be put, and its words lie in the frame
+  pub undo-inside : Inside (e .kind) (e .word) f
+  undo-inside = subst (λ (k : ℕ). Inside k (e .word) f) (fitting .kind) (item-inside f (a .bytes) (e .word) (own (fitting .spot)) (stands-there f (e .word) (fitting .spot) (fitting .stands)))
+
+  pub undo-legal : legalValue (e .kind) (e .old) ≡ true
+  unfolding house
+  undo-legal = fitting .old
 
   -- undoing an entry that fits gives the frame before it
   pub stored-before : stored f (e .kind) (e .word) (e .old) ≡ before house f e
@@ -115,6 +182,11 @@ module _ (f : List ℕ) (a : Accepted house f) (e : Entry) (h : fits house first
       record { frame = before-accepted g i; kinds = λ w. u .kinds w ∙ sym (ap (λ (f : List ℕ). kindFound (spot f w)) i ∙ kinds-kept w) }
 
 -- ---- the loop from the newest entry back
+
+pub part-long : (b : List ℕ) (at n : ℕ) → at + n ≤ length b → n ≤ length (take (length b - at) (drop at b))
+part-long b at n h =
+    let l : length (take (length b - at) (drop at b)) ≡ length b - at = length-take-le (length b - at) (drop at b) (rw (length-drop at b) (omega arith)) in
+    omega arith
 
 numbered-at : (b : List ℕ) (h p at : ℕ) → h ≡ 16 + lengthIn b → at ≡ h + 16 * (suc p - 1) → entryOf first (drop at b) ≡ numbered first b (suc p)
 unfolding numbered first

@@ -9,7 +9,6 @@ use mathlib.Core.Option.{Option, none, some}
 use Rattle.format.specs.Answers.{Outcome, accepted, refused}
 use Rattle.format.specs.Spots as spots
 use Rattle.book.proofs.Unique.{one, undone, equal-once}
-use Rattle.ledger.specs.Frames as frames
 use Rattle.ledger.specs.Formats as formats
 use Rattle.ledger.specs.Records.{entryOf}
 use Rattle.ledger.specs.Calls.{Summary, recordAnswer, entryAnswer}
@@ -18,6 +17,8 @@ use Rattle.ledger.specs.First.{first}
 use Rattle.ledger.specs.House.{house}
 use Rattle.plane.specs.declared.answers.SpotFound.{SpotFound}
 use Rattle.plane.specs.declared.answers.SpotFound.the-variants as found
+use Rattle.plane.specs.declared.answers.HeldFound.{HeldFound}
+use Rattle.plane.specs.declared.answers.HeldFound.the-variants as holding
 use Rattle.plane.specs.declared.answers.RecordFound.{RecordFound}
 use Rattle.plane.specs.declared.answers.RecordFound.the-variants as records
 use Rattle.plane.specs.declared.answers.Judged.{Judged}
@@ -52,18 +53,17 @@ record-back (records.Refused x) = refl
 pub same-record : (r q : RecordFound) → viewRecord r ≡ viewRecord q → r ≡ q
 same-record = undone viewRecord recordBack record-back
 
--- a spot as the book tells it
-abbrev standBack : Option frames.Spot → SpotFound
-standBack none = found.Nothing
-standBack (some p) = found.Spot (record { kind = p .kind; value = p .value; key = p .key })
+abbrev heldBack : Option judged.Held → HeldFound
+heldBack none = holding.Nothing
+heldBack (some h) = holding.Held (record { kind = h .kind; value = h .value })
 
 abbrev judgedBack : Outcome judged.Judged → Judged
-judgedBack (accepted x) = judging.Accepted (record { length = x .length; count = x .count; total = x .total }) (standBack (x .spot))
+judgedBack (accepted x) = judging.Accepted (record { length = x .length; count = x .count; total = x .total }) (heldBack (x .held))
 judgedBack (refused n p) = judging.Refused (record { number = n; place = p })
 
 judged-back : (r : Judged) → judgedBack (viewJudged r) ≡ r
-judged-back (judging.Accepted x (found.Spot p)) = refl
-judged-back (judging.Accepted x found.Nothing) = refl
+judged-back (judging.Accepted x (holding.Held h)) = refl
+judged-back (judging.Accepted x holding.Nothing) = refl
 judged-back (judging.Refused x) = refl
 
 pub same-judged : (r q : Judged) → viewJudged r ≡ viewJudged q → r ≡ q

@@ -1,19 +1,24 @@
 -- What the answers of this crate say in document 01.
 -- Assumes nothing.
 use Prim.Native.Nat.{ℕ}
-use mathlib.Core.List.{[]}
+use mathlib.Core.List.{List, []}
 use mathlib.Core.Option.{Option, none, some}
 use lib.Dec.{eqb}
-use Rattle.format.specs.Answers.{Outcome, accepted, refused, Done, need}
+use Rattle.format.specs.Answers.{Outcome, accepted, refused, Done, need, andThen}
 use Rattle.format.specs.Spots as spots
 use Rattle.book.specs.Views.{refusal}
 use Rattle.ledger.specs.Formats as formats
 use Rattle.ledger.specs.Calls.{Summary}
 use Rattle.ledger.specs.Judged as judged
-use Rattle.ledger.specs.House.{toldOf}
+use Rattle.ledger.specs.Records.{entriesTo, historyVerdict}
+use Rattle.ledger.specs.First.{first}
+use Rattle.ledger.specs.House.{house}
 use Rattle.plane.specs.declared.answers.Spot.{Spot}
 use Rattle.plane.specs.declared.answers.SpotFound.{SpotFound}
 use Rattle.plane.specs.declared.answers.SpotFound.the-variants as found
+use Rattle.plane.specs.declared.answers.Held.{Held}
+use Rattle.plane.specs.declared.answers.HeldFound.{HeldFound}
+use Rattle.plane.specs.declared.answers.HeldFound.the-variants as holding
 use Rattle.plane.specs.declared.answers.Record.{Record}
 use Rattle.plane.specs.declared.answers.RecordFound.{RecordFound}
 use Rattle.plane.specs.declared.answers.RecordFound.the-variants as records
@@ -27,9 +32,6 @@ abbrev pub viewSpot : SpotFound → Option spots.Spot
 viewSpot (found.Spot p) = some (record { kind = p .kind; value = p .value; key = p .key })
 viewSpot found.Nothing = none
 
-abbrev pub summaryAt : ℕ → ℕ → ℕ → Summary
-summaryAt length count total = record { length = length; count = count; total = total }
-
 abbrev pub summaryOf : Record → Summary
 summaryOf r = record { length = r .length; count = r .count; total = r .total }
 
@@ -37,8 +39,15 @@ abbrev pub viewRecord : RecordFound → Outcome Summary
 viewRecord (records.Record r) = accepted (summaryOf r)
 viewRecord (records.Refused r) = refusal r
 
+abbrev pub asHeld : Held → judged.Held
+asHeld h = record { kind = h .kind; value = h .value }
+
+abbrev pub viewHeld : HeldFound → Option judged.Held
+viewHeld (holding.Held h) = some (asHeld h)
+viewHeld holding.Nothing = none
+
 abbrev pub viewJudged : Judged → Outcome judged.Judged
-viewJudged (judging.Accepted r p) = accepted (record { length = r .length; count = r .count; total = r .total; spot = toldOf (viewSpot p) })
+viewJudged (judging.Accepted r h) = accepted (record { length = r .length; count = r .count; total = r .total; held = viewHeld h })
 viewJudged (judging.Refused r) = refusal r
 
 -- document 01's entries hold nothing after the reason
@@ -52,3 +61,9 @@ viewEntry (entries.Refused r) = refusal r
 -- the number of the newest entry that does not fit, or 0, as an answer
 abbrev pub unfit : ℕ → Done
 unfit n = need (eqb n 0) 21 n
+
+-- what is told of a record with these lengths and this count whose header and frame f are right
+unfoldable pub toldBy : List ℕ → List ℕ → Summary → ℕ → Outcome judged.Judged
+toldBy f b x w =
+    andThen (historyVerdict house first f (entriesTo first b (x .count)))
+    (λ u. accepted (record { length = x .length; count = x .count; total = x .total; held = judged.heldOf (house .spot f w) }))

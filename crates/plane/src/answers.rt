@@ -23,6 +23,18 @@ pub enum SpotFound {
     Nothing,
 }
 
+// What an edit asks of a Sample or Bin: its kind and its value.
+pub struct Held {
+    pub kind: u16,
+    pub value: u32,
+}
+
+// The same of a word of a frame: a Sample or Bin that begins there, or nothing that may be corrected.
+pub enum HeldFound {
+    Held(Held),
+    Nothing,
+}
+
 // An accepted record: its frame's length in bytes, how many entries it has, and its own length in bytes.
 pub struct Record {
     pub length: usize,
@@ -68,7 +80,7 @@ pub enum RecordFound {
 
 // An accepted record, and what stands at the word asked for.
 pub enum Judged {
-    Accepted(Record, SpotFound),
+    Accepted(Record, HeldFound),
     Refused(Refusal),
 }
 

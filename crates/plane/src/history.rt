@@ -7,24 +7,48 @@ ghost use Rattle.ledger.specs.Records as records;
 ghost use Rattle.ledger.specs.Records.{lengthIn, entryOf, entriesTo, fits, historyVerdict};
 ghost use Rattle.ledger.specs.First.{first};
 ghost use Rattle.ledger.specs.House.{house};
-ghost use Rattle.plane.specs.Views.{asEntry, unfit};
+ghost use Rattle.ledger.specs.Judged.{heldOf};
+ghost use Rattle.plane.specs.Views.{viewHeld, asEntry, unfit};
 ghost use Rattle.plane.specs.Stored.{stored};
-ghost use Rattle.plane.specs.Undoing.{Undoing};
+ghost use Rattle.plane.specs.Undoing.{Kinds, Undoing};
 use crate::answers::Entry;
+use crate::answers::Held;
+use crate::answers::HeldFound;
 use crate::answers::Record;
 use crate::answers::Spot;
+use crate::scan::long_in;
 use crate::scan::note_kinds;
-use crate::scan::value_at;
+use crate::scan::value_in;
+use crate::scan::word_in;
 use crate::values::legal;
+use crate::values::put_in;
 use crate::values::put_value;
 use book::words::copy;
 use book::words::long;
 use book::words::word;
 
+// The entry that a slice begins with and has whole.
+fn entry_in(s: &[u8]) -> Entry
+    requires { ⌜ 16 ≤ length (now s) ⌝ }
+    ensures { λ r. ⌜ asEntry r ≡ entryOf first (now (s .entry)) ⌝ }
+{
+    Entry {
+        word: word_in(s, 0),
+        kind: word_in(s, 1),
+        old: long_in(s, 2),
+        new: long_in(s, 4),
+        operator: word_in(s, 6),
+        reason: word_in(s, 7),
+    }
+}
+
 // The entry that a slice begins with; what is past its end is 0.
 pub fn entry_of(s: &[u8]) -> Entry
     ensures { λ r. ⌜ asEntry r ≡ entryOf first (now (s .entry)) ⌝ }
 {
+    if Entry::SIZE <= s.len() {
+        return entry_in(s);
+    }
     Entry {
         word: word(s, 0),
         kind: word(s, 1),
@@ -65,10 +89,27 @@ fn entry_fits(f: &[u8], map: &[u8], e: Entry) -> bool
     if kind == Spot::NONE {
         return false;
     }
-    let value = value_at(f, kind, at);
-    let same = kind as u16 == e.kind;
+    if kind as u16 != e.kind {
+        return false;
+    }
+    let value = value_in(f, kind, at);
     let named = signed(e.operator as u32, e.reason as u32);
-    same & (value == e.new) & legal(e.kind, e.old) & (e.old != e.new) & named
+    (value == e.new) & legal(e.kind, e.old) & (e.old != e.new) & named
+}
+
+// What stands at word w of a frame whose kinds are in the map.
+pub(crate) fn held_at(f: &[u8], map: &[u8], w: usize) -> HeldFound
+    requires { ⌜ Undoing (now map) (now f) ⌝ }
+    ensures { λ r. ⌜ viewHeld r ≡ heldOf (house .spot (now (f .entry)) w) ⌝ }
+{
+    let kind = kind_at(map, w);
+    if kind == Spot::NONE {
+        return HeldFound::Nothing;
+    }
+    HeldFound::Held(Held {
+        kind: kind as u16,
+        value: value_in(f, kind, w),
+    })
 }
 
 // Takes the old value of an entry as standing: an entry that fits says by its own kind where the value is, so the frame is not walked.
@@ -86,9 +127,9 @@ fn walk_back(f: &mut [u8], map: &[u8], b: &[u8], h: usize, n: usize) -> usize
     let mut m = n;
     while 0 < m {
         let at = h + Entry::SIZE * (m - 1);
-        let e = entry_of(&b[at..]);
+        let e = entry_in(&b[at..]);
         if entry_fits(f, map, e) {
-            undo(f, e);
+            put_in(f, e.kind, e.word as usize, e.old);
             m -= 1;
         } else {
             return m;
@@ -100,28 +141,24 @@ fn walk_back(f: &mut [u8], map: &[u8], b: &[u8], h: usize, n: usize) -> usize
 // The same over a copy of the frame, made in f, with its kinds noted in a map of zeros.
 fn unwind(f: &mut [u8], map: &mut [u8], frame: &[u8], b: &[u8], n: usize) -> usize
     requires { ⌜ Accepted house (now frame) × (length (now f) ≡ length (now frame)) × (4096 ≤ length (now map)) × ((i : ℕ) → getD (now map) i 0 ≡ 0) × (length (now frame) ≡ lengthIn (now b)) × (16 + lengthIn (now b) + 16 * n ≤ length (now b)) ⌝ }
-    ensures { λ r. ⌜ unfit r ≡ historyVerdict house first (now (frame .entry)) (entriesTo first (now (b .entry)) n) ⌝ }
+    ensures { λ r. ⌜ (unfit r ≡ historyVerdict house first (now (frame .entry)) (entriesTo first (now (b .entry)) n)) × Kinds (now (frame .entry)) (now (map .exit)) ⌝ }
 {
     note_kinds(frame, map);
     copy(frame, f);
     walk_back(f, map, b, Record::HEADER + frame.len(), n)
 }
 
-// In lent memory: a map of 4,096 zeros, and room for the copy.
-fn history_in(map: &mut [u8], scratch: &mut [u8], frame: &[u8], b: &[u8], n: usize) -> usize
+// In lent memory: a map of 4,096 zeros, in which the frame's kinds are left, and room for the copy.
+pub(crate) fn history_in(
+    map: &mut [u8],
+    scratch: &mut [u8],
+    frame: &[u8],
+    b: &[u8],
+    n: usize,
+) -> usize
     requires { ⌜ Accepted house (now frame) × (length (now frame) ≤ length (now scratch)) × (4096 ≤ length (now map)) × ((i : ℕ) → getD (now map) i 0 ≡ 0) × (length (now frame) ≡ lengthIn (now b)) × (16 + lengthIn (now b) + 16 * n ≤ length (now b)) ⌝ }
-    ensures { λ r. ⌜ unfit r ≡ historyVerdict house first (now (frame .entry)) (entriesTo first (now (b .entry)) n) ⌝ }
+    ensures { λ r. ⌜ (unfit r ≡ historyVerdict house first (now (frame .entry)) (entriesTo first (now (b .entry)) n)) × Kinds (now (frame .entry)) (now (map .exit)) ⌝ }
 {
     let len = frame.len();
     unwind(&mut scratch[..len], map, frame, b, n)
-}
-
-// The number of the newest of n entries that does not fit the frame as it was then, or 0.
-pub(crate) fn history(frame: &[u8], b: &[u8], n: usize) -> usize
-    requires { ⌜ Accepted house (now frame) × (length (now frame) ≡ lengthIn (now b)) × (16 + lengthIn (now b) + 16 * n ≤ length (now b)) ⌝ }
-    ensures { λ r. ⌜ unfit r ≡ historyVerdict house first (now (frame .entry)) (entriesTo first (now (b .entry)) n) ⌝ }
-{
-    let mut map = [0u8; 4096];
-    let mut scratch = [0u8; 8192];
-    history_in(&mut map, &mut scratch, frame, b, n)
 }

@@ -1,14 +1,15 @@
 // The plane record, a frame with its edit history, is judged: record, entry, and what stands at a word of its frame.
 ghost use mathlib.Core.Path.{_≡_};
-ghost use Prim.Native.Nat.{_+_, _*_};
-ghost use mathlib.Core.List.{List};
+ghost use Prim.Native.Nat.{ℕ, _+_, _*_, _≤_};
+ghost use lib.ListN.{length, getD};
 ghost use Rattle.format.specs.Spots as spots;
-ghost use Rattle.format.specs.Answers.{accepted, andThen};
+ghost use Rattle.ledger.specs.Frames.{Accepted};
+ghost use Rattle.ledger.specs.Records.{lengthIn};
 ghost use Rattle.ledger.specs.Calls.{recordAnswer, entryAnswer};
 ghost use Rattle.ledger.specs.Judged.{judgedAt};
 ghost use Rattle.ledger.specs.First.{first};
 ghost use Rattle.ledger.specs.House.{house};
-ghost use Rattle.plane.specs.Views.{viewSpot, viewRecord, viewJudged, viewEntry, unfit, summaryAt};
+ghost use Rattle.plane.specs.Views.{viewSpot, viewRecord, viewJudged, viewEntry, summaryOf, toldBy};
 
 pub mod answers;
 pub mod header;
@@ -28,7 +29,8 @@ use frame::reading::Reading;
 use frame::reading::read;
 use header::header_right;
 use history::entry_of;
-use history::history;
+use history::held_at;
+use history::history_in;
 use scan::spot_in;
 
 // The Sample or Bin that begins at word w of a frame, with its kind, value and order key; nothing where another item or none begins there, and
@@ -43,27 +45,40 @@ pub fn spot(f: &[u8], w: usize) -> SpotFound
     }
 }
 
-// An accepted record, where the newest entry that does not fit has number `bad`, or 21 with that number where it is not 0.
-fn summary(bad: usize, length: usize, count: usize, total: usize) -> RecordFound
-    ensures { λ r. ⌜ viewRecord r ≡ andThen (unfit bad) (λ u. accepted (summaryAt length count total)) ⌝ }
+// What is answered of a record whose header and frame are right, in lent memory: a map of 4,096 zeros, and room for a copy of the frame.
+fn told_in(
+    map: &mut [u8],
+    scratch: &mut [u8],
+    frame: &[u8],
+    b: &[u8],
+    x: Record,
+    w: usize,
+) -> Judged
+    requires { ⌜ Accepted house (now frame) × (length (now frame) ≤ length (now scratch)) × (4096 ≤ length (now map)) × ((i : ℕ) → getD (now map) i 0 ≡ 0) × (length (now frame) ≡ lengthIn (now b)) × (16 + lengthIn (now b) + 16 * x .count ≤ length (now b)) ⌝ }
+    ensures { λ r. ⌜ viewJudged r ≡ toldBy (now (frame .entry)) (now (b .entry)) (summaryOf x) w ⌝ }
 {
+    let bad = history_in(map, scratch, frame, b, x.count);
     if bad == 0 {
-        return RecordFound::Record(Record {
-            length,
-            count,
-            total,
-        });
+        return Judged::Accepted(x, held_at(frame, map, w));
     }
-    RecordFound::Refused(Refusal {
+    Judged::Refused(Refusal {
         number: Refusal::ENTRY,
         place: bad,
     })
 }
 
-// Whether a buffer begins with a record, and of what frame length, entry count and total length. Refuses by 20, then as the frame is refused,
-// then by 21 with the number of the newest entry that does not fit.
-pub fn record(buf: &[u8]) -> RecordFound
-    ensures { λ r. ⌜ viewRecord r ≡ recordAnswer house first (now (buf .entry)) ⌝ }
+fn told(frame: &[u8], b: &[u8], x: Record, w: usize) -> Judged
+    requires { ⌜ Accepted house (now frame) × (length (now frame) ≡ lengthIn (now b)) × (16 + lengthIn (now b) + 16 * x .count ≤ length (now b)) ⌝ }
+    ensures { λ r. ⌜ viewJudged r ≡ toldBy (now (frame .entry)) (now (b .entry)) (summaryOf x) w ⌝ }
+{
+    let mut map = [0u8; 4096];
+    let mut scratch = [0u8; 8192];
+    told_in(&mut map, &mut scratch, frame, b, x, w)
+}
+
+// Whether a buffer begins with a record, as `record` answers, and what stands at word w of its frame.
+pub fn judge(buf: &[u8], w: usize) -> Judged
+    ensures { λ r. ⌜ viewJudged r ≡ judgedAt house first (now (buf .entry)) w ⌝ }
 {
     if header_right(buf) {
         let length = word(buf, Record::LENGTH_WORD) as usize;
@@ -73,33 +88,34 @@ pub fn record(buf: &[u8]) -> RecordFound
         let part = &buf[start..end];
         let reading = read(part);
         match reading {
-            Reading::Refused(r) => RecordFound::Refused(r),
+            Reading::Refused(r) => Judged::Refused(r),
             Reading::Accepted(_frame) => {
                 let total = end + Entry::SIZE * count;
-                summary(history(part, buf, count), length, count, total)
+                let x = Record {
+                    length,
+                    count,
+                    total,
+                };
+                told(part, buf, x, w)
             }
         }
     } else {
-        RecordFound::Refused(Refusal {
+        Judged::Refused(Refusal {
             number: Refusal::HEADER,
             place: 0,
         })
     }
 }
 
-// Whether a buffer begins with a record, as `record` answers, and what stands at word w of its frame.
-pub fn judge(buf: &[u8], w: usize) -> Judged
-    ensures { λ r. ⌜ viewJudged r ≡ judgedAt house first (now (buf .entry)) w ⌝ }
+// Whether a buffer begins with a record, and of what frame length, entry count and total length. Refuses by 20, then as the frame is refused,
+// then by 21 with the number of the newest entry that does not fit.
+pub fn record(buf: &[u8]) -> RecordFound
+    ensures { λ r. ⌜ viewRecord r ≡ recordAnswer house first (now (buf .entry)) ⌝ }
 {
-    let found = record(buf);
-    match found {
-        RecordFound::Refused(r) => Judged::Refused(r),
-        RecordFound::Record(x) => {
-            let start = Record::HEADER;
-            let end = start + x.length;
-            let stands = spot_in(&buf[start..end], w);
-            Judged::Accepted(x, stands)
-        }
+    let judged = judge(buf, 0);
+    match judged {
+        Judged::Refused(r) => RecordFound::Refused(r),
+        Judged::Accepted(x, _held) => RecordFound::Record(x),
     }
 }
 

@@ -12,6 +12,7 @@ ghost use Rattle.book.specs.Views.{view};
 ghost use Rattle.ledger.specs.Frames.{Accepted};
 ghost use Rattle.ledger.specs.House.{house};
 ghost use Rattle.plane.specs.Views.{viewSpot};
+ghost use Rattle.plane.specs.Stored.{Inside};
 ghost use Rattle.plane.specs.Undoing.{Kinds};
 use crate::answers::Spot;
 use crate::answers::SpotFound;
@@ -90,6 +91,17 @@ pub(crate) fn value_at(f: &[u8], kind: u8, w: usize) -> u32
         return Sample::of_word(word(f, w)).value as u32;
     }
     long(f, w + 1)
+}
+
+// The same where the item's words lie in the frame.
+pub(crate) fn value_in(f: &[u8], kind: u8, w: usize) -> u32
+    requires { ⌜ Inside kind w (now f) ⌝ }
+    ensures { λ r. ⌜ r ≡ valueAt kind (now (f .entry)) w ⌝ }
+{
+    if kind == Spot::SAMPLE {
+        return Sample::of_word(word_in(f, w)).value as u32;
+    }
+    long_in(f, w + 1)
 }
 
 // An item of the kind as a spot: anything but a Sample or Bin is nothing.

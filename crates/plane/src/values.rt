@@ -2,12 +2,12 @@
 ghost use mathlib.Core.Path.{_≡_};
 ghost use mathlib.Core.Bool.{true};
 ghost use mathlib.Core.List.{_∷_, []};
-ghost use Prim.Native.Nat.{_*_, _≤_};
+ghost use Prim.Native.Nat.{_+_, _*_, _≤_, _<_};
 ghost use lib.ListN.{length};
 ghost use lib.Seq.{sets};
 ghost use Rattle.format.specs.Words.{bytes};
 ghost use Rattle.format.specs.Spots.{legalValue};
-ghost use Rattle.plane.specs.Stored.{stored};
+ghost use Rattle.plane.specs.Stored.{stored, Inside};
 use crate::answers::Spot;
 use book::items::Bin;
 use book::items::Sample;
@@ -22,18 +22,27 @@ pub fn legal(kind: u16, value: u32) -> bool
     (kind == Spot::BIN as u16) & (Bin::LEAST_COUNT <= value)
 }
 
-// Stores a word at byte `at`, low byte first, as far as there is room.
+// Stores a word at byte `at`, low byte first, where there is room.
+fn word_put(buf: &mut [u8], at: usize, w: u16)
+    requires { ⌜ at + 1 < length (now buf) ⌝ }
+    ensures { λ _. ⌜ now (buf .exit) ≡ sets (now (buf .entry)) at (bytes (w ∷ [])) ⌝ }
+{
+    buf[at] = (w % 256) as u8;
+    buf[at + 1] = (w / 256) as u8;
+}
+
+// The same, as far as there is room.
 pub fn put_word(buf: &mut [u8], at: usize, w: u16)
     ensures { λ _. ⌜ now (buf .exit) ≡ sets (now (buf .entry)) at (bytes (w ∷ [])) ⌝ }
 {
     if buf.len() <= at {
         return;
     }
-    buf[at] = (w % 256) as u8;
-    if buf.len() <= at + 1 {
+    if buf.len() - at == 1 {
+        buf[at] = (w % 256) as u8;
         return;
     }
-    buf[at + 1] = (w / 256) as u8;
+    word_put(buf, at, w);
 }
 
 // Puts a legal value in the item of the kind at word w: a Sample's in its own word, a Bin's count in the two words after its first.
@@ -52,6 +61,22 @@ fn put_legal(f: &mut [u8], kind: u16, w: usize, value: u32)
     put_word(f, 2 * w + 4, (value / 65536) as u16);
 }
 
+// The same where the item's words lie in the frame.
+pub(crate) fn put_in(f: &mut [u8], kind: u16, w: usize, value: u32)
+    requires { ⌜ Inside kind w (now f) × (legalValue kind value ≡ true) ⌝ }
+    ensures { λ _. ⌜ now (f .exit) ≡ stored (now (f .entry)) kind w value ⌝ }
+{
+    if kind == Spot::SAMPLE as u16 {
+        let x = Sample {
+            value: value as u16,
+        };
+        word_put(f, 2 * w, x.word());
+        return;
+    }
+    word_put(f, 2 * w + 2, (value % 65536) as u16);
+    word_put(f, 2 * w + 4, (value / 65536) as u16);
+}
+
 // Puts a value in the item of the kind whose first word is word w; leaves the bytes where an item of that kind may not hold it.
 pub fn put_value(f: &mut [u8], kind: u16, w: usize, value: u32)
     ensures { λ _. ⌜ now (f .exit) ≡ stored (now (f .entry)) kind w value ⌝ }
@@ -60,6 +85,10 @@ pub fn put_value(f: &mut [u8], kind: u16, w: usize, value: u32)
         return;
     }
     if legal(kind, value) {
+        if w + 2 < f.len() / 2 {
+            put_in(f, kind, w, value);
+            return;
+        }
         put_legal(f, kind, w, value);
     }
 }

@@ -1,65 +1,117 @@
--- `plane::judge` meets its contract.
+-- `plane::judge` meets its contract: the header, the frame, then the history.
 -- Assumes nothing.
 use denote.Ref.{now}
-use Prim.Native.Nat.{ℕ}
-use mathlib.Core.Path.{refl, ap, sym, _∙_}
-use mathlib.Core.List.{List}
-use Rattle.plane.specs.Views.{summaryOf, viewRecord}
-use Rattle.plane.proofs.RecordLaws.{frame-part, room, Told, told, told-frame, judged-refused, judged-accepted}
+use Prim.Native.Nat.{_+_, _-_}
+use mathlib.Core.Path.{_≡_, refl, ap, sym, _∙_}
+use mathlib.Core.Bool.{true}
+use lib.ListN.{length, take, drop}
 use native.Mathlib.Omega.{arith}
-use Rattle.format.specs.Spots.{spot}
+use Rattle.format.specs.Steps.{readOf}
+use Rattle.ledger.specs.Records.{lengthIn, countIn, frameIn, headerRight}
+use Rattle.ledger.specs.First.{first}
+use Rattle.frame.specs.Views.{viewReading}
+use Rattle.plane.proofs.RecordLaws.{judge-refused, judge-accepted, frame-part, room, wrong-header, wrong-frame, right-frame, length-is, count-is, part-accepted}
 use borrow.Author.Needs.{needs}
 use Rattle.plane.proofs.judge.Statement.{statement}
 use Rattle.plane.proofs.judge.Tie as tie
 
--- what an accepted record tells
-tells : (c : tie.After-found2) → Told (now (c .before .before .before .before .args .buf)) (summaryOf (c .found2 .given .0 .0))
-tells c = told _ _ (sym (ap viewRecord (c .found2 .given .1)) ∙ c .before .before .«record» .ensures)
+-- the header is right; its words tell the frame's length and the entry count; the part lent is the frame
+right : (c : tie.Then1) → headerRight first (now (c .before .before .before .args .buf)) ≡ true
+right c = sym (c .before .header-right .ensures) ∙ c .if1 .taken
 
-record-requires : tie.Need-record-requires
-record-requires c κs = search needs
+long : (c : tie.After-word) → c .word .result ≡ lengthIn (now (c .before .before .before .before .args .buf))
+long c = length-is _ _ (c .word .ensures)
 
-enum-known-found : tie.Need-enum-known-found
-enum-known-found c = search needs
+many : (c : tie.After-word2) → c .word2 .result ≡ countIn (now (c .before .before .before .before .before .args .buf))
+many c = count-is _ _ (c .word2 .ensures)
 
-enum-known-found-2 : tie.Need-enum-known-found-2
-enum-known-found-2 c = search needs
+lent : (c : tie.After-word) → take (16 + c .word .result - 16) (drop 16 (now (c .before .before .before .before .args .buf))) ≡ frameIn (now (c .before .before .before .before .args .buf))
+lent c = frame-part _ _ (long c)
+
+header-right-requires : tie.Need-header-right-requires
+header-right-requires c κs = search needs
+
+word-requires : tie.Need-word-requires
+word-requires c κs = search needs
+
+cast-length : tie.Need-cast-length
+cast-length c = search needs
+
+word-requires-2 : tie.Need-word-requires-2
+word-requires-2 c κs = search needs
+
+cast-count : tie.Need-cast-count
+cast-count c = search needs
 
 add-end : tie.Need-add-end
-add-end c = let t = tells (c .before .before) in omega (arith, room _ (t .header) .within, t .length)
+add-end c = search needs
 
-sub-spot-in : tie.Need-sub-spot-in
-sub-spot-in c = search needs
+sub-part : tie.Need-sub-part
+sub-part c = search needs
 
-part-spot-in-start : tie.Need-part-spot-in-start
-part-spot-in-start c = search needs
+part-part-start : tie.Need-part-part-start
+part-part-start c = search needs
 
-part-spot-in-end : tie.Need-part-spot-in-end
-part-spot-in-end c = let t = tells (c .before .before) in omega (arith, room _ (t .header) .within, t .length)
+part-part-end : tie.Need-part-part-end
+part-part-end c = omega (arith, room _ (right (c .before .before)) .within, long (c .before))
 
-spot-in-requires : tie.Need-spot-in-requires
-spot-in-requires c κs = told-frame _ _ (λ i. (c .before .before .before .before .before .before .shared-slice-known .given i) .fits) _ (tells (c .before .before .before)) refl
+read-requires : tie.Need-read-requires
+read-requires c κs = search needs
+
+enum-known-reading : tie.Need-enum-known-reading
+enum-known-reading c = search needs
+
+enum-known-reading-2 : tie.Need-enum-known-reading-2
+enum-known-reading-2 c = search needs
+
+mul-total : tie.Need-mul-total
+mul-total c = search needs
+
+add-total : tie.Need-add-total
+add-total c = search needs
+
+told-requires : tie.Need-told-requires
+told-requires c κs =
+    let w = c .before .before .before .before .before .before in
+    let r = room _ (right (w .before)) in
+    let reads = sym (ap viewReading (c .before .reading2 .given .1)) ∙ c .before .before .before .read .ensures in
+    (part-accepted (now (w .before .before .before .before .args .buf)) (w .word .result) (λ i. (w .before .before .before .shared-slice-known .given i) .fits) _ reads, ap length (lent w) ∙ r .frame, omega (arith, r .within, many (c .before .before .before .before .before)))
 
 returns : tie.Need-returns
-returns c = judged-refused _ _ _ (sym (ap viewRecord (c .before .found .given .1)) ∙ c .before .before .before .«record» .ensures) _
+returns c =
+    let w = c .before .before .before .before .before .before in
+    wrong-frame _ _ _ _ (right (w .before)) (judge-refused _ _ _ (sym (ap viewReading (c .before .reading .given .1)) ∙ c .before .before .before .read .ensures ∙ ap readOf (lent w)))
 
 returns-2 : tie.Need-returns-2
 returns-2 c =
-    let t = tells (c .before .before .before .before) in
-    let args = c .before .before .before .before .before .before .before .before .args in
-    judged-accepted _ _ t _ _ (c .spot-in .ensures ∙ ap (λ (f : List ℕ). spot f (args .w)) (frame-part (now (args .buf)) _ (t .length)))
+    let w = c .before .before .before .before .before .before .before in
+    let buf = now (w .before .before .before .before .args .buf) in
+    let n = c .before .before .before .before .before .before in
+    let reads = sym (ap viewReading (c .before .before .reading2 .given .1)) ∙ c .before .before .before .before .read .ensures ∙ ap readOf (lent w) in
+    right-frame buf _ (right (w .before)) (judge-accepted _ _ reads) _ _ _ (long w) (many n) refl _ (lent w) _ (c .told .ensures)
+
+returns-3 : tie.Need-returns-3
+returns-3 c = wrong-header _ _ (sym (c .before .header-right .ensures) ∙ c .if1 .left)
 
 pub judge-spec : {M : Type 1} → statement M
 judge-spec =
     tie.close
     (tie.spec
-    record-requires
-    enum-known-found
-    enum-known-found-2
+    header-right-requires
+    word-requires
+    cast-length
+    word-requires-2
+    cast-count
     add-end
-    sub-spot-in
-    part-spot-in-start
-    part-spot-in-end
-    spot-in-requires
+    sub-part
+    part-part-start
+    part-part-end
+    read-requires
+    enum-known-reading
+    enum-known-reading-2
+    mul-total
+    add-total
+    told-requires
     returns
-    returns-2)
+    returns-2
+    returns-3)

@@ -1,125 +1,28 @@
--- `plane::record` meets its contract: the header, the frame, then the history.
+-- `plane::record` meets its contract.
 -- Assumes nothing.
-use denote.Ref.{now}
-use Prim.Native.Nat.{ℕ, _+_, _-_}
-use mathlib.Core.Path.{_≡_, refl, ap, sym, _∙_}
-use mathlib.Core.Bool.{true}
-use mathlib.Core.List.{List}
-use lib.ListN.{length, take, drop}
-use native.Mathlib.Omega.{arith}
-use Rattle.format.specs.Steps.{readOf}
-use Rattle.ledger.specs.Records.{lengthIn, countIn, frameIn, entriesTo, headerRight, historyVerdict}
-use Rattle.ledger.specs.First.{first}
-use Rattle.ledger.specs.House.{house}
-use Rattle.frame.specs.Views.{viewReading}
-use Rattle.plane.proofs.RecordLaws.{judge-refused, judge-accepted, frame-part, room, wrong-header, wrong-frame, right-frame, length-is, count-is, part-accepted}
+use mathlib.Core.Path.{ap, sym, _∙_}
+use Rattle.plane.specs.Views.{viewJudged}
+use Rattle.plane.proofs.RecordLaws.{record-told}
 use borrow.Author.Needs.{needs}
 use Rattle.plane.proofs.record.Statement.{statement}
 use Rattle.plane.proofs.record.Tie as tie
 
--- the header is right; its words tell the frame's length and the entry count; the part lent is the frame
-right : (c : tie.Then1) → headerRight first (now (c .before .before .before .args .buf)) ≡ true
-right c = sym (c .before .header-right .ensures) ∙ c .if1 .taken
+judge-requires : tie.Need-judge-requires
+judge-requires c κs = search needs
 
-long : (c : tie.After-word) → c .word .result ≡ lengthIn (now (c .before .before .before .before .args .buf))
-long c = length-is _ _ (c .word .ensures)
+enum-known-judged : tie.Need-enum-known-judged
+enum-known-judged c = search needs
 
-many : (c : tie.After-word2) → c .word2 .result ≡ countIn (now (c .before .before .before .before .before .args .buf))
-many c = count-is _ _ (c .word2 .ensures)
-
-lent : (c : tie.After-word) → take (16 + c .word .result - 16) (drop 16 (now (c .before .before .before .before .args .buf))) ≡ frameIn (now (c .before .before .before .before .args .buf))
-lent c = frame-part _ _ (long c)
-
-header-right-requires : tie.Need-header-right-requires
-header-right-requires c κs = search needs
-
-word-requires : tie.Need-word-requires
-word-requires c κs = search needs
-
-cast-length : tie.Need-cast-length
-cast-length c = search needs
-
-word-requires-2 : tie.Need-word-requires-2
-word-requires-2 c κs = search needs
-
-cast-count : tie.Need-cast-count
-cast-count c = search needs
-
-add-end : tie.Need-add-end
-add-end c = search needs
-
-sub-part : tie.Need-sub-part
-sub-part c = search needs
-
-part-part-start : tie.Need-part-part-start
-part-part-start c = search needs
-
-part-part-end : tie.Need-part-part-end
-part-part-end c = omega (arith, room _ (right (c .before .before)) .within, long (c .before))
-
-read-requires : tie.Need-read-requires
-read-requires c κs = search needs
-
-enum-known-reading : tie.Need-enum-known-reading
-enum-known-reading c = search needs
-
-enum-known-reading-2 : tie.Need-enum-known-reading-2
-enum-known-reading-2 c = search needs
-
-mul-total : tie.Need-mul-total
-mul-total c = search needs
-
-add-total : tie.Need-add-total
-add-total c = search needs
-
-history-requires : tie.Need-history-requires
-history-requires c κs =
-    let w = c .before .before .before .before .before .before in
-    let r = room _ (right (w .before)) in
-    let reads = sym (ap viewReading (c .before .reading2 .given .1)) ∙ c .before .before .before .read .ensures in
-    (part-accepted (now (w .before .before .before .before .args .buf)) (w .word .result) (λ i. (w .before .before .before .shared-slice-known .given i) .fits) _ reads, ap length (lent w) ∙ r .frame, omega (arith, r .within, many (c .before .before .before .before .before)))
-
-summary-requires : tie.Need-summary-requires
-summary-requires c κs = search needs
+enum-known-judged-2 : tie.Need-enum-known-judged-2
+enum-known-judged-2 c = search needs
 
 returns : tie.Need-returns
-returns c =
-    let w = c .before .before .before .before .before .before in
-    wrong-frame _ _ _ (right (w .before)) (judge-refused _ _ _ (sym (ap viewReading (c .before .reading .given .1)) ∙ c .before .before .before .read .ensures ∙ ap readOf (lent w)))
+returns c = record-told _ _ _ (sym (ap viewJudged (c .before .judged .given .1)) ∙ c .before .before .before .judge .ensures)
 
 returns-2 : tie.Need-returns-2
-returns-2 c =
-    let w = c .before .before .before .before .before .before .before .before in
-    let buf = now (w .before .before .before .before .args .buf) in
-    let n = c .before .before .before .before .before .before .before in
-    let reads = sym (ap viewReading (c .before .before .before .reading2 .given .1)) ∙ c .before .before .before .before .before .read .ensures ∙ ap readOf (lent w) in
-    c .summary .ensures
-    ∙ right-frame buf (right (w .before)) (judge-accepted _ _ reads) _ _ _ _ (long w) (many n) refl
-    (c .before .history .ensures ∙ ap (λ (f : List ℕ). historyVerdict house first f (entriesTo first buf (n .word2 .result))) (lent w))
-
-returns-3 : tie.Need-returns-3
-returns-3 c = wrong-header _ (sym (c .before .header-right .ensures) ∙ c .if1 .left)
+returns-2 c = record-told _ _ _ (sym (ap viewJudged (c .before .judged2 .given .1)) ∙ c .before .before .before .judge .ensures)
 
 pub record-spec : {M : Type 1} → statement M
 record-spec =
     tie.close
-    (tie.spec
-    header-right-requires
-    word-requires
-    cast-length
-    word-requires-2
-    cast-count
-    add-end
-    sub-part
-    part-part-start
-    part-part-end
-    read-requires
-    enum-known-reading
-    enum-known-reading-2
-    mul-total
-    add-total
-    history-requires
-    summary-requires
-    returns
-    returns-2
-    returns-3)
+    (tie.spec judge-requires enum-known-judged enum-known-judged-2 returns returns-2)

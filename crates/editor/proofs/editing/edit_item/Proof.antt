@@ -2,9 +2,7 @@
 -- Assumes nothing.
 use native.Mathlib.Omega.{arith}
 use mathlib.Core.Path.{refl, sym, ap, _∙_}
-use Rattle.ledger.specs.House.{toldOf}
-use Rattle.plane.specs.Views.{viewSpot}
-use Rattle.plane.specs.declared.answers.SpotFound.{SpotFound}
+use Rattle.plane.specs.Views.{viewHeld}
 use Rattle.editor.specs.Views.{viewDone}
 use Rattle.editor.proofs.KnownLaws.{sum, few, short}
 use Rattle.editor.proofs.EditLaws.{no-target, tests-left, edited-refused, edited-written}
@@ -25,7 +23,7 @@ returns : tie.Need-returns
 returns c =
     let t = c .before in
     let start = t .before .before .before in
-    edited-refused _ _ _ 22 0 (c .test .ensures) (no-target _ _ (start .pre .0) (start .args .c) (sym (ap (λ (s : SpotFound). toldOf (viewSpot s)) (t .enum-told .given .1)) ∙ start .pre .1))
+    edited-refused _ _ _ 22 0 (c .test .ensures) (no-target _ _ (start .pre .0) (start .args .c) (sym (ap viewHeld (t .enum-told .given .1)) ∙ start .pre .1))
 
 edit-tests-requires : tie.Need-edit-tests-requires
 edit-tests-requires c κs =
@@ -44,11 +42,11 @@ write-edit-requires c κs =
     let t = c .before .before .before in
     let s = t .before .before in
     let start = s .before .before .before in
-    let there = sym (ap (λ (s : SpotFound). toldOf (viewSpot s)) (s .s .given .1)) ∙ start .pre .1 in
+    let there = sym (ap viewHeld (s .s .given .1)) ∙ start .pre .1 in
     record {
       known = start .pre .0;
       accepted = tests-left _ _ (start .pre .0) (start .args .c) _ there _ (sym (ap viewDone (c .before .enum-told2 .given .1)) ∙ t .edit-tests .ensures);
-      stands = sym there;
+      held = there;
     }
 
 returns-2 : tie.Need-returns-2
@@ -56,7 +54,7 @@ returns-2 c =
     let t = c .before .before .before in
     let s = t .before .before in
     let start = s .before .before .before in
-    let there = sym (ap (λ (s : SpotFound). toldOf (viewSpot s)) (s .s .given .1)) ∙ start .pre .1 in
+    let there = sym (ap viewHeld (s .s .given .1)) ∙ start .pre .1 in
     edited-refused _ _ _ _ _ refl (tests-left _ _ (start .pre .0) (start .args .c) _ there _ (sym (ap viewDone (c .before .answer .given .1)) ∙ t .edit-tests .ensures))
 
 same-length : tie.Need-same-length
@@ -68,7 +66,7 @@ returns-3 c =
     let t = w .before .before .before .before in
     let s = t .before .before in
     let start = s .before .before .before in
-    let there = sym (ap (λ (s : SpotFound). toldOf (viewSpot s)) (s .s .given .1)) ∙ start .pre .1 in
+    let there = sym (ap viewHeld (s .s .given .1)) ∙ start .pre .1 in
     edited-written _ _ _ (tests-left _ _ (start .pre .0) (start .args .c) _ there _ (sym (ap viewDone (w .before .before .enum-told2 .given .1)) ∙ t .edit-tests .ensures)) (w .write-edit .ensures)
 
 pub edit-item-spec : {M : Type 1} → statement M

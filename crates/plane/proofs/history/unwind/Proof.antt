@@ -32,7 +32,10 @@ same-length-2 : tie.Need-same-length-2
 same-length-2 c = search needs
 
 returns : tie.Need-returns
-returns c = let s = c .before .before .before .before .before .before .before .before .before .before .before .before .before .before .before .before .before in same-history _ (now (s .args .f)) _ (s .pre .1) (c .before .before .before .before .before .before .before .copy .ensures) _ _ (c .before .before .walk-back .ensures)
+returns c =
+    let k = c .before .before .before .before .before .before .before .before .before .before .before in
+    let s = c .before .before .before .before .before .before .before .before .before .before .before .before .before .before .before .before .before in
+    (same-history _ (now (s .args .f)) _ (s .pre .1) (c .before .before .before .before .before .before .before .copy .ensures) _ _ (c .before .before .walk-back .ensures), k .note-kinds .ensures)
 
 pub unwind-spec : {M : Type 1} → statement M
 unwind-spec =

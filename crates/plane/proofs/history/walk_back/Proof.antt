@@ -1,6 +1,7 @@
 -- `plane::history::walk_back` meets its contract: what the entries left do to the frame at hand is what all of them do to the first.
 -- Assumes nothing.
-use Prim.Native.Nat.{_+_, _*_, _≤_}
+use denote.Ref.{now}
+use Prim.Native.Nat.{_+_, _*_, _-_, _≤_}
 use mathlib.Core.Path.{_≡_, refl, sym, _∙_}
 use lib.ListN.{length}
 use borrow.Author.Needs.{needs}
@@ -9,7 +10,7 @@ use Rattle.ledger.specs.Records.{lengthIn, entriesTo, historyVerdict}
 use Rattle.ledger.specs.First.{first}
 use Rattle.ledger.specs.House.{house}
 use Rattle.plane.specs.Undoing.{Undoing}
-use Rattle.plane.proofs.UndoLaws.{stored-before, undoing-next, turn-back, turn-stop, turn-done}
+use Rattle.plane.proofs.UndoLaws.{part-long, undo-inside, undo-legal, stored-before, undoing-next, turn-back, turn-stop, turn-done}
 use Rattle.plane.proofs.history.walk_back.Statement.{statement}
 use Rattle.plane.proofs.history.walk_back.Tie as tie
 
@@ -31,23 +32,33 @@ mul-at c = search needs
 add-at : tie.Need-add-at Inv-loop μ-loop
 add-at c = search needs
 
-sub-entry-of : tie.Need-sub-entry-of Inv-loop μ-loop
-sub-entry-of c = search needs
+sub-entry-in : tie.Need-sub-entry-in Inv-loop μ-loop
+sub-entry-in c = search needs
 
-part-entry-of-start : tie.Need-part-entry-of-start Inv-loop μ-loop
-part-entry-of-start c = search needs
+part-entry-in-start : tie.Need-part-entry-in-start Inv-loop μ-loop
+part-entry-in-start c = search needs
 
-part-entry-of-end : tie.Need-part-entry-of-end Inv-loop μ-loop
-part-entry-of-end c = search needs
+part-entry-in-end : tie.Need-part-entry-in-end Inv-loop μ-loop
+part-entry-in-end c = search needs
 
-entry-of-requires : tie.Need-entry-of-requires Inv-loop μ-loop
-entry-of-requires c κs = search needs
+entry-in-requires : tie.Need-entry-in-requires Inv-loop μ-loop
+entry-in-requires c κs =
+    let l = c .before .before in
+    let a = l .before .before .before .before .args in
+    part-long (now (a .b)) (a .h + 16 * (l .loop .m - 1)) 16 (omega arith)
 
 entry-fits-requires : tie.Need-entry-fits-requires Inv-loop μ-loop
 entry-fits-requires c κs = c .before .before .before .before .loop .inv .0
 
-undo-requires : tie.Need-undo-requires Inv-loop μ-loop
-undo-requires c κs = search needs
+cast-put-in : tie.Need-cast-put-in Inv-loop μ-loop
+cast-put-in c = search needs
+
+put-in-requires : tie.Need-put-in-requires Inv-loop μ-loop
+put-in-requires c κs =
+    let u = c .before .before in
+    let i = u .before .before .before .before .before .before .loop .inv in
+    let t = sym (u .before .entry-fits .ensures) ∙ u .if1 .taken in
+    (undo-inside _ (i .0 .frame) _ t, undo-legal _ (i .0 .frame) _ t)
 
 sub-m : tie.Need-sub-m Inv-loop μ-loop
 sub-m c = search needs
@@ -58,18 +69,18 @@ loop-less c = search needs
 loop-again : tie.Need-loop-again Inv-loop μ-loop
 loop-again c =
     let u = c .before .before in
-    let f = u .before .before .before in
+    let f = u .before .before .before .before in
     let r = f .before .before in
     let l = r .before .before .before .loop in
     let i = l .inv in
-    let t = sym (f .entry-fits .ensures) ∙ u .before .before .if1 .taken in
-    let g = u .undo .ensures ∙ stored-before _ (i .0 .frame) _ t in (
+    let t = sym (f .entry-fits .ensures) ∙ u .before .before .before .if1 .taken in
+    let g = u .put-in .ensures ∙ stored-before _ (i .0 .frame) _ t in (
       undoing-next _ (i .0 .frame) _ t _ _ (i .0) g,
       omega arith,
-      u .undo .kept .0 ∙ i .2,
+      u .put-in .kept .0 ∙ i .2,
       i .3,
       i .4,
-      turn-back _ _ _ (i .3) _ (l .m) _ (omega arith) (r .entry-of .ensures) (omega arith) (omega arith) t _ g ∙ i .5,
+      turn-back _ _ _ (i .3) _ (l .m) _ (omega arith) (r .entry-in .ensures) (omega arith) (omega arith) t _ g ∙ i .5,
     )
 
 same-length : tie.Need-same-length Inv-loop μ-loop
@@ -80,7 +91,7 @@ returns c =
     let r = c .before .before .before in
     let l = r .before .before .before .loop in
     let i = l .inv in
-    turn-stop _ _ _ (i .3) _ (l .m) _ (omega arith) (r .entry-of .ensures) (omega arith) (omega arith) (sym (c .before .entry-fits .ensures) ∙ c .if1 .left) ∙ i .5
+    turn-stop _ _ _ (i .3) _ (l .m) _ (omega arith) (r .entry-in .ensures) (omega arith) (omega arith) (sym (c .before .entry-fits .ensures) ∙ c .if1 .left) ∙ i .5
 
 same-length-2 : tie.Need-same-length-2 Inv-loop μ-loop
 same-length-2 c = c .before .loop .inv .2
@@ -98,12 +109,13 @@ walk-back-spec =
     sub-at
     mul-at
     add-at
-    sub-entry-of
-    part-entry-of-start
-    part-entry-of-end
-    entry-of-requires
+    sub-entry-in
+    part-entry-in-start
+    part-entry-in-end
+    entry-in-requires
     entry-fits-requires
-    undo-requires
+    cast-put-in
+    put-in-requires
     sub-m
     loop-less
     loop-again

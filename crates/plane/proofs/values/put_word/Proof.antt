@@ -1,8 +1,7 @@
 -- `plane::values::put_word` meets its contract.
 -- Assumes nothing.
 use native.Mathlib.Omega.{arith}
-use native.Mathlib.Numerals.{add-one}
-use Rattle.format.specs.Words.{bytes}
+use lib.ListN.{length-set}
 use Rattle.plane.proofs.Storing.{word-out, word-half}
 use borrow.Author.Needs.{needs}
 use Rattle.plane.proofs.values.put_word.Statement.{statement}
@@ -11,49 +10,40 @@ use Rattle.plane.proofs.values.put_word.Tie as tie
 returns : tie.Need-returns
 returns c = word-out _ _ _ (omega arith)
 
+sub-if2 : tie.Need-sub-if2
+sub-if2 c = search needs
+
 cast-buf : tie.Need-cast-buf
 cast-buf c = search needs
 
 slice-write-buf : tie.Need-slice-write-buf
 slice-write-buf c = search needs
 
-add-if2 : tie.Need-add-if2
-add-if2 c = search needs
-
 same-length : tie.Need-same-length
 same-length c = search needs
 
 returns-2 : tie.Need-returns-2
-returns-2 c = word-half _ _ _ (omega arith)
+returns-2 c = word-half _ _ _ (rw length-set (omega arith))
 
-cast-buf-2 : tie.Need-cast-buf-2
-cast-buf-2 c = search needs
-
-add-buf : tie.Need-add-buf
-add-buf c = search needs
-
-slice-write-buf-2 : tie.Need-slice-write-buf-2
-slice-write-buf-2 c = search needs
+word-put-requires : tie.Need-word-put-requires
+word-put-requires c κs = omega arith
 
 same-length-2 : tie.Need-same-length-2
 same-length-2 c = search needs
 
 returns-3 : tie.Need-returns-3
-unfolding bytes
-returns-3 c = rw add-one
+returns-3 c = search needs
 
 pub put-word-spec : {M : Type 1} → statement M
 put-word-spec =
     tie.close
     (tie.spec
     returns
+    sub-if2
     cast-buf
     slice-write-buf
-    add-if2
     same-length
     returns-2
-    cast-buf-2
-    add-buf
-    slice-write-buf-2
+    word-put-requires
     same-length-2
     returns-3)

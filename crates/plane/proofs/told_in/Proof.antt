@@ -1,0 +1,48 @@
+-- `plane::told_in` meets its contract.
+-- Assumes nothing.
+use Rattle.plane.proofs.RecordLaws.{told-accepted, told-refused}
+use borrow.Author.Needs.{needs}
+use Rattle.plane.proofs.told_in.Statement.{statement}
+use Rattle.plane.proofs.told_in.Tie as tie
+
+history-in-requires : tie.Need-history-in-requires
+history-in-requires c κs = search needs
+
+held-at-requires : tie.Need-held-at-requires
+held-at-requires c κs =
+    let h = c .before .before .before .before .before .before in
+    record { frame = h .before .before .before .before .before .before .before .pre .0; kinds = h .history-in .ensures .1 }
+
+same-length : tie.Need-same-length
+same-length c = search needs
+
+same-length-2 : tie.Need-same-length-2
+same-length-2 c = search needs
+
+returns : tie.Need-returns
+returns c =
+    let t = c .before .before in
+    let h = t .before .before .before .before .before in
+    told-accepted _ _ _ _ _ (h .history-in .ensures .0) (t .if1 .taken) _ (c .held-at .ensures)
+
+same-length-3 : tie.Need-same-length-3
+same-length-3 c = search needs
+
+same-length-4 : tie.Need-same-length-4
+same-length-4 c = search needs
+
+returns-2 : tie.Need-returns-2
+returns-2 c = let h = c .before .before .before .before .before in told-refused _ _ _ _ _ (h .history-in .ensures .0) (c .if1 .left)
+
+pub told-in-spec : {M : Type 1} → statement M
+told-in-spec =
+    tie.close
+    (tie.spec
+    history-in-requires
+    held-at-requires
+    same-length
+    same-length-2
+    returns
+    same-length-3
+    same-length-4
+    returns-2)
