@@ -35,25 +35,52 @@ pub(crate) fn read(p: &[u8], line: &mut [u8]) -> usize {
     }
 }
 
-// The class of an item as its row in document 01's word book, and its fields in the book's order.
-fn content(item: Item, line: &mut [u8]) -> usize {
+// An item's class as its row in document 01's word book, how many fields it has, and the fields in the book's order.
+struct Fields {
+    class: u64,
+    many: u8,
+    a: u64,
+    b: u64,
+    c: u64,
+}
+
+fn row(class: u64, many: u8, a: u64, b: u64, c: u64) -> Fields {
+    Fields {
+        class,
+        many,
+        a,
+        b,
+        c,
+    }
+}
+
+fn fields_of(item: Item) -> Fields {
     match item {
-        Item::Channel(x) => reply::ok4(line, 1, x.card as u64, x.chip as u64, x.channel as u64),
-        Item::Histogram(x) => reply::ok4(line, 2, x.card as u64, x.chip as u64, x.channel as u64),
-        Item::HitCount(x) => reply::ok4(line, 3, x.card as u64, x.chip as u64, x.count as u64),
-        Item::Sample(x) => reply::ok2(line, 4, x.value as u64),
-        Item::Bin(x) => reply::ok3(line, 5, x.bin as u64, x.count as u64),
-        Item::LastCell(x) => reply::ok3(line, 6, x.chip as u64, x.cell as u64),
-        Item::TimeBin(x) => reply::ok2(line, 7, x.time as u64),
-        Item::Text(x) => reply::ok2(line, 11, x.length as u64),
-        Item::StartEvent(x) => reply::ok4(line, 12, x.kind as u64, x.timestamp, x.number as u64),
-        Item::EndEvent(x) => reply::ok2(line, 13, x.size as u64),
+        Item::Channel(x) => row(1, 3, x.card as u64, x.chip as u64, x.channel as u64),
+        Item::Histogram(x) => row(2, 3, x.card as u64, x.chip as u64, x.channel as u64),
+        Item::HitCount(x) => row(3, 3, x.card as u64, x.chip as u64, x.count as u64),
+        Item::Sample(x) => row(4, 1, x.value as u64, 0, 0),
+        Item::Bin(x) => row(5, 2, x.bin as u64, x.count as u64, 0),
+        Item::LastCell(x) => row(6, 2, x.chip as u64, x.cell as u64, 0),
+        Item::TimeBin(x) => row(7, 1, x.time as u64, 0, 0),
+        Item::Text(x) => row(11, 1, x.length as u64, 0, 0),
+        Item::StartEvent(x) => row(12, 3, x.kind as u64, x.timestamp, x.number as u64),
+        Item::EndEvent(x) => row(13, 1, x.size as u64, 0, 0),
+    }
+}
+
+fn content(x: Fields, line: &mut [u8]) -> usize {
+    let many = x.many;
+    match many {
+        1 => reply::ok2(line, x.class, x.a),
+        2 => reply::ok3(line, x.class, x.a, x.b),
+        _ => reply::ok4(line, x.class, x.a, x.b, x.c),
     }
 }
 
 fn found(x: FoundItem, line: &mut [u8]) -> usize {
     let item = x.item;
-    let at = content(item, line);
+    let at = content(fields_of(item), line);
     let next = reply::append(line, at, b" next");
     reply::value(line, next, x.next as u64)
 }

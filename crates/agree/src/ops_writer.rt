@@ -48,6 +48,12 @@ fn add_item(p: &mut [u8], length: u64, item: Item, line: &mut [u8]) -> usize {
     left(p, line, at)
 }
 
+// What op 8 hands over: an item, or nothing where this is no case.
+enum Asked {
+    Item(Item),
+    Nothing,
+}
+
 // The first three fields, as 16 bits each.
 struct Three {
     a: u16,
@@ -55,110 +61,77 @@ struct Three {
     c: u16,
 }
 
-fn header(p: &mut [u8], length: u64, class: u64, f: Three, line: &mut [u8]) -> usize {
+fn narrow_item(class: u64, f: Three) -> Asked {
     match class {
-        1 => add_item(
-            p,
-            length,
-            Item::Channel(Channel {
-                card: f.a,
-                chip: f.b,
-                channel: f.c,
-            }),
-            line,
-        ),
-        2 => add_item(
-            p,
-            length,
-            Item::Histogram(Histogram {
-                card: f.a,
-                chip: f.b,
-                channel: f.c,
-            }),
-            line,
-        ),
-        3 => add_item(
-            p,
-            length,
-            Item::HitCount(HitCount {
-                card: f.a,
-                chip: f.b,
-                count: f.c,
-            }),
-            line,
-        ),
-        4 => add_item(p, length, Item::Sample(Sample { value: f.a }), line),
-        6 => add_item(
-            p,
-            length,
-            Item::LastCell(LastCell {
-                chip: f.a,
-                cell: f.b,
-            }),
-            line,
-        ),
-        7 => add_item(p, length, Item::TimeBin(TimeBin { time: f.a }), line),
-        _ => 0,
+        1 => Asked::Item(Item::Channel(Channel {
+            card: f.a,
+            chip: f.b,
+            channel: f.c,
+        })),
+        2 => Asked::Item(Item::Histogram(Histogram {
+            card: f.a,
+            chip: f.b,
+            channel: f.c,
+        })),
+        3 => Asked::Item(Item::HitCount(HitCount {
+            card: f.a,
+            chip: f.b,
+            count: f.c,
+        })),
+        4 => Asked::Item(Item::Sample(Sample { value: f.a })),
+        6 => Asked::Item(Item::LastCell(LastCell {
+            chip: f.a,
+            cell: f.b,
+        })),
+        7 => Asked::Item(Item::TimeBin(TimeBin { time: f.a })),
+        _ => Asked::Nothing,
     }
 }
 
-// Whether the fields of an item of 16-bit fields are within them, and those that the class does not have are zero.
+// Whether the class has only fields of 16 bits, the fields are within them, and those that it does not have are zero.
 fn narrow(class: u64, a2: u64, a3: u64, a4: u64) -> bool {
-    let two = (class == 1) | (class == 2) | (class == 3) | (class == 6);
     let three = (class == 1) | (class == 2) | (class == 3);
-    (a2 <= 65535) & ((two & (a3 <= 65535)) | (a3 == 0)) & ((three & (a4 <= 65535)) | (a4 == 0))
+    let two = three | (class == 6);
+    let one = two | (class == 4) | (class == 7);
+    one
+        & (a2 <= 65535)
+        & ((two & (a3 <= 65535)) | (a3 == 0))
+        & ((three & (a4 <= 65535)) | (a4 == 0))
 }
 
-fn wide(
-    p: &mut [u8],
-    length: u64,
-    class: u64,
-    a2: u64,
-    a3: u64,
-    a4: u64,
-    line: &mut [u8],
-) -> usize {
-    match class {
-        5 => {
-            if (a2 <= 65535) & (a3 <= 4294967295) & (a4 == 0) {
-                return add_item(
-                    p,
-                    length,
-                    Item::Bin(Bin {
-                        bin: cases::low16(a2),
-                        count: cases::low32(a3),
-                    }),
-                    line,
-                );
-            }
-            0
-        }
-        12 => {
-            if (a2 <= 65535) & (a4 <= 4294967295) {
-                let x = StartEvent {
-                    kind: cases::low16(a2),
-                    timestamp: a3,
-                    number: cases::low32(a4),
-                };
-                return add_item(p, length, Item::StartEvent(x), line);
-            }
-            0
-        }
-        13 => {
-            if (a2 <= 4294967295) & (a3 == 0) & (a4 == 0) {
-                return add_item(
-                    p,
-                    length,
-                    Item::EndEvent(EndEvent {
-                        size: cases::low32(a2),
-                    }),
-                    line,
-                );
-            }
-            0
-        }
-        _ => 0,
+fn wide_item(class: u64, a2: u64, a3: u64, a4: u64) -> Asked {
+    let kind = cases::low16(a2);
+    if (class == 5) & (a2 <= 65535) & (a3 <= 4294967295) & (a4 == 0) {
+        return Asked::Item(Item::Bin(Bin {
+            bin: kind,
+            count: cases::low32(a3),
+        }));
     }
+    if (class == 12) & (a2 <= 65535) & (a4 <= 4294967295) {
+        return Asked::Item(Item::StartEvent(StartEvent {
+            kind,
+            timestamp: a3,
+            number: cases::low32(a4),
+        }));
+    }
+    if (class == 13) & (a2 <= 4294967295) & (a3 == 0) & (a4 == 0) {
+        return Asked::Item(Item::EndEvent(EndEvent {
+            size: cases::low32(a2),
+        }));
+    }
+    Asked::Nothing
+}
+
+fn item_asked(class: u64, a2: u64, a3: u64, a4: u64) -> Asked {
+    if narrow(class, a2, a3, a4) {
+        let f = Three {
+            a: cases::low16(a2),
+            b: cases::low16(a3),
+            c: cases::low16(a4),
+        };
+        return narrow_item(class, f);
+    }
+    wide_item(class, a2, a3, a4)
 }
 
 // Op 8: adds an item of class a1 with the fields a2, a3, a4 to p of length a0.
@@ -171,18 +144,11 @@ pub(crate) fn add(
     a4: u64,
     line: &mut [u8],
 ) -> usize {
-    if (a1 == 5) | (a1 == 12) | (a1 == 13) {
-        return wide(p, a0, a1, a2, a3, a4, line);
+    let asked = item_asked(a1, a2, a3, a4);
+    match asked {
+        Asked::Item(x) => add_item(p, a0, x, line),
+        Asked::Nothing => 0,
     }
-    if narrow(a1, a2, a3, a4) {
-        let f = Three {
-            a: cases::low16(a2),
-            b: cases::low16(a3),
-            c: cases::low16(a4),
-        };
-        return header(p, a0, a1, f, line);
-    }
-    0
 }
 
 // Op 9: adds the text q to p of length a0.

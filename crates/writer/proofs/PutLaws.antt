@@ -15,24 +15,19 @@ use Rattle.format.specs.Book.{text, endEvent}
 use Rattle.format.specs.Items.{Item, Text, StartEvent, EndEvent, classFor, wordsOf, fits, inRange, Token, whole, broken}
 use Rattle.format.specs.Rules.{Checked, good, bad}
 use Rattle.format.specs.Steps.{St, Stepped, moved, stopped, marked, placeBy, valueBy, sizedBy, orderBy, stateAfter, checkBy}
-use Rattle.format.specs.Writing.{tokenBytes}
+use Rattle.format.specs.Writing.{given, tokenBytes}
 use Rattle.format.specs.PartialSteps.{Put, putChecked, putAnswer, putLeft, PutWrote}
 use Rattle.format.proofs.PrefixLaws.{and-left, and-right}
 use Rattle.format.proofs.TextLaws.{bytes-are}
 use Rattle.format.proofs.Book.{item-in-range}
-use Rattle.book.specs.Fields.{channelWord, histogramWord, hitsWord, sampleWord, binWord, cellWord, timeBinWord, startWord, channelItem, histogramItem, hitsItem, sampleItem, binItem, cellItem, timeItem, startItem, endItem}
-use Rattle.book.specs.declared.items.Channel.{Channel}
-use Rattle.book.specs.declared.items.Histogram.{Histogram}
-use Rattle.book.specs.declared.items.HitCount.{HitCount}
-use Rattle.book.specs.declared.items.Sample.{Sample}
-use Rattle.book.specs.declared.items.Bin.{Bin}
-use Rattle.book.specs.declared.items.LastCell.{LastCell}
-use Rattle.book.specs.declared.items.TimeBin.{TimeBin}
+use Rattle.book.specs.Views.{viewItem}
+use Rattle.book.specs.Fields.{startWord, channelItem, histogramItem, hitsItem, sampleItem, binItem, cellItem, timeItem, startItem, endItem}
+use Rattle.book.specs.declared.items.Item as handed
+use Rattle.book.specs.declared.items.Item.the-variants as item
 use Rattle.book.specs.declared.items.StartEvent as start
-use Rattle.book.specs.declared.items.EndEvent as end
 use Rattle.book.proofs.FieldLaws.{channel-words, histogram-words, hits-words, sample-words, bin-words, cell-words, time-words, start-words, end-words}
 use Rattle.frame.specs.Views.{tested, endTested, textTested}
-use Rattle.writer.specs.Views.{timeCut, textBytes, lettered, roomIn, answeredBy, placed, placedLeft}
+use Rattle.writer.specs.Views.{timeCut, itemBytes, textBytes, lettered, roomIn, answeredBy, placed, placedLeft}
 use Rattle.writer.proofs.StoreTurns.{zero-behind}
 
 -- ---- the answer to an item of some size
@@ -122,81 +117,36 @@ module _ (buf : List ℕ) (n card : ℕ) (st : St) (o : Stepped) (answer : Outco
   same-left bs cs (good r) f = rw (f r refl)
   same-left bs cs (bad k) f = refl
 
-  arm : (x : Item) (bs : List ℕ) → (fits x ≡ true → bs ≡ bytes (wordsOf x)) → o ≡ marked 0 (checkBy card (n / 2) st (whole x)) → Stored bs → Promised (whole x)
+  turned : (t : Token) (bs : List ℕ) → ((r : St) → checkBy card (n / 2) st t ≡ good r → bs ≡ tokenBytes t) → o ≡ marked 0 (checkBy card (n / 2) st t) → Stored bs → Promised t
   unfolding putAnswer putLeft
-  arm x bs f e w =
-      let g : (r : St) → checkBy card (n / 2) st (whole x) ≡ good r → bs ≡ bytes (wordsOf x) = λ r q. f (good-fits card (n / 2) st x r q) in
+  turned t bs g e w =
       record {
-        answered = w .answered ∙ ap (placed buf n bs) e ∙ same-answer bs (bytes (wordsOf x)) (checkBy card (n / 2) st (whole x)) g;
-        written = w .written ∙ ap (placedLeft buf n bs) e ∙ same-left bs (bytes (wordsOf x)) (checkBy card (n / 2) st (whole x)) g;
+        answered = w .answered ∙ ap (placed buf n bs) e ∙ same-answer bs (tokenBytes t) (checkBy card (n / 2) st t) g;
+        written = w .written ∙ ap (placedLeft buf n bs) e ∙ same-left bs (tokenBytes t) (checkBy card (n / 2) st t) g;
       }
 
-  -- an item whose words begin with the word v
-  headed : (x : Item) (w v : ℕ) (ws : List ℕ) → w ≡ v → (fits x ≡ true → wordsOf x ≡ v ∷ ws) → o ≡ marked 0 (checkBy card (n / 2) st (whole x))
-      → Stored (bytes (w ∷ ws)) → Promised (whole x)
-  headed x w v ws e f g = arm x (bytes (w ∷ ws)) (λ h. ap (λ (u : ℕ). bytes (u ∷ ws)) e ∙ ap bytes (sym (f h))) g
+  arm : (x : Item) (ws : List ℕ) → (fits x ≡ true → wordsOf x ≡ ws) → o ≡ marked 0 (checkBy card (n / 2) st (whole x)) → Stored (bytes ws) → Promised (whole x)
+  arm x ws f = turned (whole x) (bytes ws) (λ r q. ap bytes (sym (f (good-fits card (n / 2) st x r q))))
 
-  pub channel-put : (x : Channel) (w : ℕ) → o ≡ marked 0 (checkBy card 0 st (whole (channelItem x))) → w ≡ channelWord x → Stored (bytes (w ∷ []))
-      → Promised (whole (channelItem x))
-  unfolding checkBy
-  channel-put x w e f = headed (channelItem x) w (channelWord x) [] f (channel-words x) e
-
-  pub histogram-put : (x : Histogram) (w : ℕ) → o ≡ marked 0 (checkBy card 0 st (whole (histogramItem x))) → w ≡ histogramWord x → Stored (bytes (w ∷ []))
-      → Promised (whole (histogramItem x))
-  unfolding checkBy
-  histogram-put x w e f = headed (histogramItem x) w (histogramWord x) [] f (histogram-words x) e
-
-  pub hits-put : (x : HitCount) (w : ℕ) → o ≡ marked 0 (checkBy card 0 st (whole (hitsItem x))) → w ≡ hitsWord x → Stored (bytes (w ∷ []))
-      → Promised (whole (hitsItem x))
-  unfolding checkBy
-  hits-put x w e f = headed (hitsItem x) w (hitsWord x) [] f (hits-words x) e
-
-  pub sample-put : (x : Sample) (w : ℕ) → o ≡ marked 0 (checkBy 0 0 st (whole (sampleItem x))) → w ≡ sampleWord x → Stored (bytes (w ∷ []))
-      → Promised (whole (sampleItem x))
-  unfolding checkBy
-  sample-put x w e f = headed (sampleItem x) w (sampleWord x) [] f (sample-words x) e
-
-  pub bin-put : (x : Bin) (w : ℕ) → o ≡ marked 0 (checkBy 0 0 st (whole (binItem x))) → w ≡ binWord x → Stored (bytes (w ∷ longWords (x .count)))
-      → Promised (whole (binItem x))
-  unfolding checkBy
-  bin-put x w e f = headed (binItem x) w (binWord x) (longWords (x .count)) f (bin-words x) e
-
-  pub cell-put : (x : LastCell) (w : ℕ) → o ≡ marked 0 (checkBy 0 0 st (whole (cellItem x))) → w ≡ cellWord x → Stored (bytes (w ∷ []))
-      → Promised (whole (cellItem x))
-  unfolding checkBy
-  cell-put x w e f = headed (cellItem x) w (cellWord x) [] f (cell-words x) e
-
-  pub time-put : (x : TimeBin) (w : ℕ) → o ≡ marked 0 (checkBy 0 0 st (whole (timeItem x))) → w ≡ timeBinWord x → Stored (bytes (w ∷ []))
-      → Promised (whole (timeItem x))
-  unfolding checkBy
-  time-put x w e f = headed (timeItem x) w (timeBinWord x) [] f (time-words x) e
-
-  pub start-put : (x : start.StartEvent) (w : ℕ) → o ≡ marked 0 (checkBy 0 (n / 2) st (whole (startItem x))) → w ≡ startWord x
-      → Stored (bytes (w ∷ (timeCut (x .timestamp) ++ longWords (x .number)))) → Promised (whole (startItem x))
-  unfolding checkBy
-  start-put x w e f =
-      headed (startItem x) w (startWord x) (timeCut (x .timestamp) ++ longWords (x .number)) f
-      (λ h. start-words x h ∙ ap (λ (k : ℕ). startWord x ∷ (x .timestamp % 65536) ∷ (x .timestamp / 65536 % 65536) ∷ k ∷ longWords (x .number)) (cut h)) e
+  start-cut : (x : start.StartEvent) → fits (startItem x) ≡ true → wordsOf (startItem x) ≡ startWord x ∷ (timeCut (x .timestamp) ++ longWords (x .number))
+  start-cut x h = start-words x h ∙ ap (λ (k : ℕ). startWord x ∷ (x .timestamp % 65536) ∷ (x .timestamp / 65536 % 65536) ∷ k ∷ longWords (x .number)) cut
     where
-      cut : fits (startItem x) ≡ true → x .timestamp / 4294967296 ≡ x .timestamp / 4294967296 % 65536
-      cut h =
+      cut : x .timestamp / 4294967296 ≡ x .timestamp / 4294967296 % 65536
+      cut =
           let t = leb-true (x .timestamp) 281474976710655 (and-right (leb (x .kind) 15) (leb (x .timestamp) 281474976710655) (and-left (leb (x .kind) 15 && leb (x .timestamp) 281474976710655) (ltb (x .number) 4294967296) h)) in
           omega (arith, t)
 
-  pub end-put : (x : end.EndEvent) → o ≡ marked 0 (checkBy 0 (n / 2) st (whole (endItem x))) → Stored (bytes (0x00E0 ∷ longWords (x .size))) → Promised (whole (endItem x))
-  unfolding checkBy
-  end-put x e = headed (endItem x) 0x00E0 0x00E0 (longWords (x .size)) refl (λ h. end-words x) e
-
-  -- a text without its bytes is one that breaks its rule
-  pub text-none : o ≡ marked 0 (textTested st false) → answer ≡ answeredBy (length buf) n 0 o → left ≡ buf → Promised (broken text)
-  unfolding putAnswer putLeft checkBy textTested
-  text-none e f g =
-      let q : placed buf n [] o ≡ putChecked buf n [] (checkBy card (n / 2) st (broken text)) = ap (placed buf n []) e ∙ same-answer [] [] (checkBy card (n / 2) st (broken text)) (λ r h. refl) in
-      record { answered = f ∙ q; written = g ∙ sym (none (putChecked buf n [] (checkBy card (n / 2) st (broken text)))) }
-    where
-      none : (a : Outcome Put) → leaves a buf buf ≡ buf
-      none (accepted x) = refl
-      none (refused k p) = refl
+  pub item-put : (x : handed.Item) → o ≡ marked 0 (checkBy card (n / 2) st (given (viewItem x))) → Stored (itemBytes x) → Promised (given (viewItem x))
+  item-put (item.Channel x) = arm (channelItem x) _ (channel-words x)
+  item-put (item.Histogram x) = arm (histogramItem x) _ (histogram-words x)
+  item-put (item.HitCount x) = arm (hitsItem x) _ (hits-words x)
+  item-put (item.Sample x) = arm (sampleItem x) _ (sample-words x)
+  item-put (item.Bin x) = arm (binItem x) _ (bin-words x)
+  item-put (item.LastCell x) = arm (cellItem x) _ (cell-words x)
+  item-put (item.TimeBin x) = arm (timeItem x) _ (time-words x)
+  item-put (item.Text x) = turned (broken text) [] (λ r q. refl)
+  item-put (item.StartEvent x) = arm (startItem x) _ (start-cut x)
+  item-put (item.EndEvent x) = arm (endItem x) _ (λ h. end-words x)
 
   -- a text that is too long
   pub text-long : (s : List ℕ) → 254 < length s → o ≡ marked 0 (textTested st false) → answer ≡ answeredBy (length buf) n 0 o → left ≡ buf → Promised (whole (Text s))
@@ -220,7 +170,7 @@ module _ (buf : List ℕ) (n card : ℕ) (st : St) (o : Stepped) (answer : Outco
       ap₂ (λ (v : ℕ) (z : List ℕ). (v % 256) ∷ (v / 256) ∷ z) w (sym (zero-behind s bs))
 
   pub text-put : (s : List ℕ) (b : Bool) → Bytes s → length s ≤ 254 → b ≡ nonZero s → o ≡ marked 0 (textTested st b) → Stored (lettered s) → Promised (whole (Text s))
-  text-put s b bs h e f = arm (Text s) (lettered s) (λ i. text-is s bs h) (f ∙ ap (λ (c : Bool). marked 0 (textTested st c)) e ∙ ap (marked 0) (text-tested s bs h))
+  text-put s b bs h e f = turned (whole (Text s)) (lettered s) (λ r q. text-is s bs h) (f ∙ ap (λ (c : Bool). marked 0 (textTested st c)) e ∙ ap (marked 0) (text-tested s bs h))
 
 -- the rules at an End event, with its low bits zero
 pub end-handed : (at next : ℕ) (st : St) (size : ℕ) (r : Stepped) → size < 4294967296 → r ≡ marked next (endTested at st size 0)

@@ -6,16 +6,21 @@ use mathlib.Core.Bool.{Bool, _&&_}
 use lib.Dec.{leb, eqb}
 use lib.ListN.{length}
 use lib.Seq.{sets}
-use Rattle.format.specs.Words.{pick, bytes}
+use Rattle.format.specs.Words.{pick, bytes, longWords}
 use Rattle.format.specs.Answers.{Outcome, accepted, refused, andThen, leaves}
 use Rattle.format.specs.Steps.{Stepped, moved, stopped}
 use Rattle.format.specs.PartialSteps as steps
 use Rattle.book.specs.Views.{refusal}
+use Rattle.book.specs.Fields.{channelWord, histogramWord, hitsWord, sampleWord, binWord, cellWord, timeBinWord, startWord}
+use Rattle.book.specs.declared.items.Item.{Item}
+use Rattle.book.specs.declared.items.Item.the-variants as item
 use Rattle.frame.specs.Views.{viewState}
 use Rattle.writer.specs.declared.answers.Written.{Written}
 use Rattle.writer.specs.declared.answers.Written.the-variants as written
 use Rattle.writer.specs.declared.answers.Put.{Put}
 use Rattle.writer.specs.declared.answers.Put.the-variants as put
+use Rattle.writer.specs.declared.stores.Piece.{Piece}
+use Rattle.writer.specs.declared.stores.Piece.the-variants as piece
 
 abbrev pub viewWritten : Written → Outcome ℕ
 viewWritten (written.Length n) = accepted n
@@ -35,6 +40,25 @@ refuse n p = refused n p
 -- the words of a number, cut to its 48 bits
 abbrev pub timeCut : ℕ → List ℕ
 timeCut n = (n % 65536) ∷ (n / 65536 % 65536) ∷ (n / 4294967296 % 65536) ∷ []
+
+abbrev pub pieceBytes : Piece → List ℕ
+pieceBytes (piece.Word w) = bytes (w ∷ [])
+pieceBytes (piece.Long w n) = bytes (w ∷ longWords n)
+pieceBytes (piece.Event w t n) = bytes (w ∷ (timeCut t ++ longWords n))
+pieceBytes piece.Nothing = []
+
+-- the bytes of an item that is handed over, its fields cut to their widths; a text's are not in it
+abbrev pub itemBytes : Item → List ℕ
+itemBytes (item.Channel x) = bytes (channelWord x ∷ [])
+itemBytes (item.Histogram x) = bytes (histogramWord x ∷ [])
+itemBytes (item.HitCount x) = bytes (hitsWord x ∷ [])
+itemBytes (item.Sample x) = bytes (sampleWord x ∷ [])
+itemBytes (item.Bin x) = bytes (binWord x ∷ longWords (x .count))
+itemBytes (item.LastCell x) = bytes (cellWord x ∷ [])
+itemBytes (item.TimeBin x) = bytes (timeBinWord x ∷ [])
+itemBytes (item.Text x) = []
+itemBytes (item.StartEvent x) = bytes (startWord x ∷ (timeCut (x .timestamp) ++ longWords (x .number)))
+itemBytes (item.EndEvent x) = bytes (0x00E0 ∷ longWords (x .size))
 
 -- what stands behind the letters of a text, n of them: the final zero, and a padding byte to fill its word
 abbrev pub finalZero : ℕ → List ℕ

@@ -1,8 +1,6 @@
 // One item put behind the bytes that a state stands for: by the state alone, so that code which carries the state writes a frame in one pass.
 ghost use mathlib.Core.Path.{_≡_};
-ghost use mathlib.Core.List.{[], _∷_, _++_};
 ghost use Prim.Native.Nat.{_≤_};
-ghost use Rattle.format.specs.Words.{bytes, longWords};
 ghost use Rattle.format.specs.Items as items;
 ghost use Rattle.format.specs.Items.{whole};
 ghost use Rattle.format.specs.Steps.{marked, checkBy};
@@ -11,12 +9,12 @@ ghost use Rattle.format.specs.PartialSteps.{putAnswer, putLeft, PutWrote};
 ghost use Rattle.book.specs.Fields.{endItem};
 ghost use Rattle.book.specs.Views.{viewItem};
 ghost use Rattle.frame.specs.Views.{viewState, viewStep};
-ghost use Rattle.writer.specs.Views.{viewPut, roomIn, answeredBy, placed, placedLeft, timeCut, lettered, Short};
+ghost use Rattle.writer.specs.Views.{viewPut, roomIn, answeredBy, pieceBytes, itemBytes, placed, placedLeft, lettered, Short};
 use crate::answers::Put;
+use crate::stores::Piece;
+use crate::stores::piece_size;
 use crate::stores::put_letters;
-use crate::stores::put_six;
-use crate::stores::put_three;
-use crate::stores::put_word;
+use crate::stores::put_piece;
 use book::items::EndEvent;
 use book::items::Item;
 use book::items::Text;
@@ -70,45 +68,35 @@ fn answered(room: usize, length: usize, turn: Step, size: usize) -> Put
     }
 }
 
-// An item of one word.
-fn one_word(buf: &mut [u8], length: usize, turn: Step, w: u16) -> Put
-    ensures { λ r. ⌜ PutWrote (placed (now (buf .entry)) length (bytes (w ∷ [])) (viewStep turn)) (placedLeft (now (buf .entry)) length (bytes (w ∷ [])) (viewStep turn)) (viewPut r) (now (buf .exit)) ⌝ }
+// An item of some words.
+fn put_words(buf: &mut [u8], length: usize, turn: Step, piece: Piece) -> Put
+    ensures { λ r. ⌜ PutWrote (placed (now (buf .entry)) length (pieceBytes piece) (viewStep turn)) (placedLeft (now (buf .entry)) length (pieceBytes piece) (viewStep turn)) (viewPut r) (now (buf .exit)) ⌝ }
 {
-    let answer = answered(buf.len(), length, turn, 2);
+    let answer = answered(buf.len(), length, turn, piece_size(piece));
     match answer {
         Put::Refused(r) => Put::Refused(r),
         Put::Reached(next, st) => {
-            put_word(buf, length, w);
+            put_piece(buf, length, piece);
             Put::Reached(next, st)
         }
     }
 }
 
-// An item of a word and a number of 32 bits.
-fn three_words(buf: &mut [u8], length: usize, turn: Step, w: u16, n: u32) -> Put
-    ensures { λ r. ⌜ PutWrote (placed (now (buf .entry)) length (bytes (w ∷ longWords n)) (viewStep turn)) (placedLeft (now (buf .entry)) length (bytes (w ∷ longWords n)) (viewStep turn)) (viewPut r) (now (buf .exit)) ⌝ }
+// What an item is written as.
+fn piece_of(item: Item) -> Piece
+    ensures { λ r. ⌜ pieceBytes r ≡ itemBytes item ⌝ }
 {
-    let answer = answered(buf.len(), length, turn, 6);
-    match answer {
-        Put::Refused(r) => Put::Refused(r),
-        Put::Reached(next, st) => {
-            put_three(buf, length, w, n);
-            Put::Reached(next, st)
-        }
-    }
-}
-
-// An item of a word, a number of 48 bits and one of 32.
-fn six_words(buf: &mut [u8], length: usize, turn: Step, w: u16, time: u64, n: u32) -> Put
-    ensures { λ r. ⌜ PutWrote (placed (now (buf .entry)) length (bytes (w ∷ (timeCut time ++ longWords n))) (viewStep turn)) (placedLeft (now (buf .entry)) length (bytes (w ∷ (timeCut time ++ longWords n))) (viewStep turn)) (viewPut r) (now (buf .exit)) ⌝ }
-{
-    let answer = answered(buf.len(), length, turn, 12);
-    match answer {
-        Put::Refused(r) => Put::Refused(r),
-        Put::Reached(next, st) => {
-            put_six(buf, length, w, time, n);
-            Put::Reached(next, st)
-        }
+    match item {
+        Item::Channel(x) => Piece::Word(x.word()),
+        Item::Histogram(x) => Piece::Word(x.word()),
+        Item::HitCount(x) => Piece::Word(x.word()),
+        Item::Sample(x) => Piece::Word(x.word()),
+        Item::Bin(x) => Piece::Long(x.word(), x.count),
+        Item::LastCell(x) => Piece::Word(x.word()),
+        Item::TimeBin(x) => Piece::Word(x.word()),
+        Item::Text(_) => Piece::Nothing,
+        Item::StartEvent(x) => Piece::Event(x.word(), x.timestamp, x.number),
+        Item::EndEvent(x) => Piece::Long(EndEvent::WORD, x.size),
     }
 }
 
@@ -119,31 +107,32 @@ fn end_turn(at: usize, st: State, x: EndEvent) -> Step
     end_event(at, st, x, 0, 0)
 }
 
+// The turn that the rules take at an item; a text without its bytes breaks its rule.
+fn turn_of(at: usize, card: u16, st: State, item: Item) -> Step
+    ensures { λ r. ⌜ viewStep r ≡ marked 0 (checkBy card at (viewState st) (given (viewItem item))) ⌝ }
+{
+    match item {
+        Item::Channel(x) => channel(card, st, x, 0),
+        Item::Histogram(x) => histogram(card, st, x, 0),
+        Item::HitCount(x) => hit_count(card, st, x, 0),
+        Item::Sample(x) => sample(st, x, 0),
+        Item::Bin(x) => bin(st, x, 0),
+        Item::LastCell(x) => last_cell(st, x, 0),
+        Item::TimeBin(x) => time_bin(st, x, 0),
+        Item::Text(_) => text(st, false, 0),
+        Item::StartEvent(x) => start_event(at, st, x, 0),
+        Item::EndEvent(x) => end_turn(at, st, x),
+    }
+}
+
 // Puts an item behind `length` bytes of a frame of the card, where `st` is the state behind them: writes its bytes and answers the new length
 // and the state behind it. It refuses by 8, 9 or 10 at word `length`/2, then by 12 at place 0 where the item and an end word don't fit. A text's
 // bytes are not in the item: it answers 8 or 9, and `put_text` puts it. (The rules' index of a next item is not asked for here.)
 pub fn put(buf: &mut [u8], length: usize, card: u16, st: State, item: Item) -> Put
     ensures { λ r. ⌜ PutWrote (putAnswer (now (buf .entry)) length card (viewState st) (given (viewItem item))) (putLeft (now (buf .entry)) length card (viewState st) (given (viewItem item))) (viewPut r) (now (buf .exit)) ⌝ }
 {
-    let at = length / 2;
-    match item {
-        Item::Channel(x) => one_word(buf, length, channel(card, st, x, 0), x.word()),
-        Item::Histogram(x) => one_word(buf, length, histogram(card, st, x, 0), x.word()),
-        Item::HitCount(x) => one_word(buf, length, hit_count(card, st, x, 0), x.word()),
-        Item::Sample(x) => one_word(buf, length, sample(st, x, 0), x.word()),
-        Item::Bin(x) => three_words(buf, length, bin(st, x, 0), x.word(), x.count),
-        Item::LastCell(x) => one_word(buf, length, last_cell(st, x, 0), x.word()),
-        Item::TimeBin(x) => one_word(buf, length, time_bin(st, x, 0), x.word()),
-        Item::Text(_) => answered(buf.len(), length, text(st, false, 0), 0),
-        Item::StartEvent(x) => {
-            let turn = start_event(at, st, x, 0);
-            six_words(buf, length, turn, x.word(), x.timestamp, x.number)
-        }
-        Item::EndEvent(x) => {
-            let turn = end_turn(at, st, x);
-            three_words(buf, length, turn, EndEvent::WORD, x.size)
-        }
-    }
+    let turn = turn_of(length / 2, card, st, item);
+    put_words(buf, length, turn, piece_of(item))
 }
 
 // An item of a text's letters.

@@ -5,7 +5,7 @@ ghost use Prim.Native.Nat.{_+_, _<_, _≤_};
 ghost use lib.ListN.{length};
 ghost use lib.Seq.{sets};
 ghost use Rattle.format.specs.Words.{bytes, longWords};
-ghost use Rattle.writer.specs.Views.{timeCut, finalZero, textBytes};
+ghost use Rattle.writer.specs.Views.{timeCut, pieceBytes, finalZero, textBytes};
 use book::words::copy;
 
 // A word.
@@ -18,7 +18,7 @@ pub(crate) fn put_word(buf: &mut [u8], at: usize, w: u16)
 }
 
 // A word, and a number of 32 bits, low word first.
-pub(crate) fn put_three(buf: &mut [u8], at: usize, w: u16, n: u32)
+fn put_three(buf: &mut [u8], at: usize, w: u16, n: u32)
     requires { ⌜ at + 5 < length (now buf) ⌝ }
     ensures { λ _. ⌜ now (buf .exit) ≡ sets (now (buf .entry)) at (bytes (w ∷ longWords n)) ⌝ }
 {
@@ -30,7 +30,7 @@ pub(crate) fn put_three(buf: &mut [u8], at: usize, w: u16, n: u32)
 }
 
 // A word, a number cut to its 48 bits, and one of 32, low words first.
-pub(crate) fn put_six(buf: &mut [u8], at: usize, w: u16, time: u64, n: u32)
+fn put_six(buf: &mut [u8], at: usize, w: u16, time: u64, n: u32)
     requires { ⌜ at + 11 < length (now buf) ⌝ }
     ensures { λ _. ⌜ now (buf .exit) ≡ sets (now (buf .entry)) at (bytes (w ∷ (timeCut time ++ longWords n))) ⌝ }
 {
@@ -39,6 +39,37 @@ pub(crate) fn put_six(buf: &mut [u8], at: usize, w: u16, time: u64, n: u32)
     let next = at + 6;
     put_three(buf, at, w, low);
     put_three(buf, next, high, n);
+}
+
+// What an item is written as: a word, a word and a number of 32 bits, or a word and numbers of 48 and 32 bits; a text is put by its letters.
+pub(crate) enum Piece {
+    Word(u16),
+    Long(u16, u32),
+    Event(u16, u64, u32),
+    Nothing,
+}
+
+pub(crate) fn piece_size(piece: Piece) -> usize
+    ensures { λ r. ⌜ (r ≡ length (pieceBytes piece)) × (r ≤ 12) ⌝ }
+{
+    match piece {
+        Piece::Word(_) => 2,
+        Piece::Long(_, _) => 6,
+        Piece::Event(_, _, _) => 12,
+        Piece::Nothing => 0,
+    }
+}
+
+pub(crate) fn put_piece(buf: &mut [u8], at: usize, piece: Piece)
+    requires { ⌜ at + length (pieceBytes piece) ≤ length (now buf) ⌝ }
+    ensures { λ _. ⌜ now (buf .exit) ≡ sets (now (buf .entry)) at (pieceBytes piece) ⌝ }
+{
+    match piece {
+        Piece::Word(w) => put_word(buf, at, w),
+        Piece::Long(w, n) => put_three(buf, at, w, n),
+        Piece::Event(w, time, n) => put_six(buf, at, w, time, n),
+        Piece::Nothing => {}
+    }
 }
 
 // The final zero of a text of n bytes, and a padding byte where one is due.
