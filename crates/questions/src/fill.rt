@@ -5,9 +5,9 @@ ghost use lib.ListN.{length};
 ghost use Rattle.format.specs.Rules.{monitorKind};
 ghost use Rattle.format.specs.Questions.{cleared, fillSamples, fillCounts};
 ghost use Rattle.questions.specs.Standing.{itemsFrom, Stands, Headed};
-use crate::scan::HISTOGRAM;
 use crate::scan::long_in;
 use crate::scan::word_in;
+use book::class::Class;
 use book::items::Bin;
 use book::items::Sample;
 use book::items::TimeBin;
@@ -42,7 +42,7 @@ pub(crate) fn fill_counts(s: &[u8], from: usize, out: &mut [u32])
     let mut at = from;
     while at < last {
         let w = word_in(s, at);
-        if HISTOGRAM <= w {
+        if Class::HISTOGRAM <= w {
             return;
         }
         let bin = Bin::of_word(w) as usize;

@@ -9,6 +9,7 @@ ghost use Rattle.format.specs.Rules.{dataKind, monitorKind, first, gather};
 ghost use Rattle.format.specs.Questions.{endSize};
 ghost use Rattle.questions.specs.Standing.{itemsFrom, Standing, Header, EventSought, ChannelSought, HistogramSought};
 use crate::answers::Place;
+use book::class::Class;
 use book::words::long;
 
 // A data frame's words from here on begin items of one word.
@@ -16,9 +17,6 @@ const ONE_WORD: u16 = 0x0100;
 
 // The first word that begins a Start event; those of End events are below.
 const START: u16 = 0x00F0;
-
-// The first word that begins a Histogram; those of Bins are below.
-pub(crate) const HISTOGRAM: u16 = 0x8000;
 
 fn wide(x: u8) -> u16
     ensures { λ r. ⌜ (r ≡ x) × (r < 256) ⌝ }
@@ -125,7 +123,7 @@ pub(crate) fn seek_histogram(s: &[u8], header: u16) -> Place
     let mut at: usize = 0;
     while at < last {
         let w = word_in(s, at);
-        if w < HISTOGRAM {
+        if w < Class::HISTOGRAM {
             at += 3;
             continue;
         }
