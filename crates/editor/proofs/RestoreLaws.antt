@@ -12,7 +12,6 @@ use lib.Dec.{leb}
 use Rattle.format.specs.Words.{Bytes}
 use Rattle.format.specs.Answers.{Done, accepted, refused, need, firstOf}
 use Rattle.ledger.specs.Frames.{Accepted}
-use Rattle.ledger.specs.Formats.{Entry}
 use Rattle.ledger.specs.Records.{lengthIn, countIn, frameIn, entryOf, numbered, entriesTo, entries-more, fits, before, historyVerdict, recordVerdict}
 use Rattle.ledger.specs.Calls.{Summary, undone, restored, restoreAnswer, restoreExit}
 use Rattle.ledger.specs.First.{first}
@@ -23,7 +22,7 @@ use Rattle.ledger.proofs.Walking.{restore-done, restore-back}
 use Rattle.ledger.proofs.Answering.{leaves-found, leaves-written}
 use Rattle.ledger.proofs.Restoring.{restore-parts, restored-long}
 use Rattle.ledger.proofs.House.{house-first}
-use Rattle.plane.specs.Stored.{stored}
+use Rattle.plane.specs.Stored.{storedOld}
 use Rattle.plane.proofs.UndoLaws.{stored-before, before-accepted}
 use Rattle.editor.specs.Views.{also}
 use Rattle.editor.specs.Promises.{Restored}
@@ -60,11 +59,9 @@ module _ (b : List ℕ) (k n m : ℕ) (f : List ℕ) (r : Rewinding b k n f) (u 
   step : (fits house first f (numbered first b (suc m)) ≡ true) × (historyVerdict house first (before house f (numbered first b (suc m))) (entriesTo first b m) ≡ accepted tt)
   step = step-accepted house first f (numbered first b (suc m)) (entriesTo first b m) (ap (historyVerdict house first f) (sym (entries-more first b m)) ∙ turned .fit)
 
-  pub rewind-step : (e : Entry) → e ≡ entryOf first (take (length b - at) (drop at b)) → (g : List ℕ) → g ≡ stored f (e .kind) (e .word) (e .old) → k ≤ m → Rewinding b k m g
-  rewind-step e q g d l =
-      let e′ : e ≡ numbered first b (suc m) = q ∙ sym newest in
-      let g′ : g ≡ before house f (numbered first b (suc m)) =
-      d ∙ ap (λ (i : Entry). stored f (i .kind) (i .word) (i .old)) e′ ∙ stored-before f (r .frame) (numbered first b (suc m)) (step .0) in
+  pub rewind-step : (g : List ℕ) → g ≡ storedOld f (entryOf first (take (length b - at) (drop at b))) → k ≤ m → Rewinding b k m g
+  rewind-step g d l =
+      let g′ : g ≡ before house f (numbered first b (suc m)) = d ∙ ap (storedOld f) (sym newest) ∙ stored-before f (r .frame) (numbered first b (suc m)) (step .0) in
       record {
         frame = before-accepted f (r .frame) (numbered first b (suc m)) (step .0) g g′;
         fit = ap (λ (h : List ℕ). historyVerdict house first h (entriesTo first b m)) g′ ∙ step .1;

@@ -19,8 +19,7 @@ use book::words::copy;
 use plane::answers::Entry;
 use plane::answers::Record;
 use plane::answers::RecordFound;
-use plane::history::entry_of;
-use plane::history::undo;
+use plane::history::undo_from;
 use plane::record;
 
 // Undoes the entries of an accepted record, from the newest down to number k + 1, in a copy of its frame.
@@ -33,7 +32,7 @@ fn rewind(frame: &mut [u8], buf: &[u8], x: Record, k: usize)
     while k < n {
         n -= 1;
         let at = history + Entry::SIZE * n;
-        undo(frame, entry_of(&buf[at..]));
+        undo_from(frame, &buf[at..]);
     }
 }
 

@@ -32,6 +32,7 @@ use Rattle.ledger.specs.House.{toldOf, house, house-judge, house-spot}
 use Rattle.ledger.proofs.Headers.{header-words}
 use Rattle.ledger.proofs.Judging.{verdict-parts, parts-verdict, frame-refused}
 use Rattle.plane.specs.Views.{unfit, toldBy}
+use Rattle.plane.specs.Stored.{stored, storedOld}
 
 -- ---- the tests of the code, as the rules have them
 
@@ -59,6 +60,11 @@ pub entry-read : (s : List ℕ) (w k old new o r : ℕ) → w ≡ wordAt s 0 →
     → record { word = w; kind = k; old = old; new = new; operator = o; reason = r; extra = [] } ≡ entryOf first s
 unfolding entryOf first
 entry-read s w k old new o r ew ek eo en ep er = rw (ew, ek, eo, en, ep, er)
+
+-- of which its old value is put back
+pub old-put : (s f g : List ℕ) (k w old : ℕ) → k ≡ wordAt s 1 → w ≡ wordAt s 0 → old ≡ longAt s 2 → g ≡ stored f k w old → g ≡ storedOld f (entryOf first s)
+unfolding entryOf first
+old-put s f g k w old ek ew eo e = rw (e, ek, ew, eo)
 
 -- and from the part of a buffer that begins at byte `at`
 pub entry-from : (b : List ℕ) (at : ℕ) (e : Entry) → e ≡ entryOf first (take (length b - at) (drop at b)) → at ≤ length b → e ≡ entryOf first (drop at b)

@@ -10,14 +10,15 @@ use lib.Dec.{eqb, ltb}
 use lib.ListN.{length, getD, set, length-set}
 use lib.Seq.{getD-set-same, getD-set-other}
 use borrow.Author.Tests.{eq-eqb, ne-eqb, eqb-true, eqb-false, ltb-true, ltb-false}
-use Rattle.format.specs.Words.{wordAt, longAt}
+use Rattle.format.specs.Words.{pick, wordAt, longAt}
 use Rattle.format.specs.Answers.{Outcome, accepted, refused}
 use Rattle.format.specs.Book.{Class, classOf, after}
-use Rattle.format.specs.Frames.{Frame, lastOf, verdict}
+use Rattle.format.specs.Frames.{Frame, lastOf, headFault, judged, verdict}
 use Rattle.format.specs.Steps.{nextAt}
 use Rattle.format.specs.Questions.{done}
 use Rattle.format.specs.Spots.{Spot, spot}
 use Rattle.format.specs.Scans.{kindBy, valueAt, spotFrom, underBy, kindFound}
+use Rattle.format.proofs.HeadLaws.{head-of}
 use Rattle.format.proofs.ScanLaws.{last-is, Ahead, ahead-start, none-first, Turn, turn, ahead-end}
 use Rattle.ledger.specs.Frames.{Accepted}
 use Rattle.ledger.specs.House.{house, house-judge}
@@ -44,6 +45,15 @@ sized s a =
     let l = last-is s (a .bytes) f v in
     let m = house-lawful .short s a in
     record { some-words = omega arith; few-words = omega arith }
+
+-- the end word
+frame-end : (s : List ℕ) (f : Frame) → verdict s ≡ accepted f → wordAt s (lastOf s) ≡ 0x000F
+unfolding verdict
+frame-end s f v = go (eqb (headFault s) 0) refl v
+  where
+    go : (b : Bool) → eqb (headFault s) 0 ≡ b → pick b (judged s) (refused (headFault s) 0) ≡ accepted f → wordAt s (lastOf s) ≡ 0x000F
+    go true e q = head-of s (eqb-true (headFault s) 0 e) .ended
+    go false e q = let z : _≡_ {A = ℕ} 0 1 = cc in absurd (omega arith)
 
 next-is : (s : List ℕ) (at head more : ℕ) → head ≡ wordAt s at → more ≡ after (classOf head) head → at + 1 + more ≡ nextAt s at
 unfolding nextAt
@@ -131,6 +141,9 @@ pub record Noting (s map : List ℕ) (last at : ℕ) : Type 0 where
   pub ends : last ≡ lastOf s
   pub few : last < 4096
   pub long : 4096 ≤ length map
+  pub begun : 3 ≤ at
+  pub within : at ≤ last
+  pub ended : wordAt s last ≡ 0x000F
   pub key : ℕ
   pub ahead : Ahead s at key
   pub noted : (u : ℕ) → u < at → getD map u 0 ≡ kindFound (spot s u)
@@ -139,10 +152,14 @@ pub record Noting (s map : List ℕ) (last at : ℕ) : Type 0 where
 pub note-start : (s map : List ℕ) → Accepted house s → 4096 ≤ length map → ((i : ℕ) → getD map i 0 ≡ 0) → Noting s map (lastOf s) 3
 note-start s map a l z =
     let (f, v) = the-frame s a in
+    let w = sized s a .some-words in
     record {
       ends = refl;
       few = sized s a .few-words;
       long = l;
+      begun = omega arith;
+      within = omega arith;
+      ended = frame-end s f v;
       key = 0;
       ahead = ahead-start s (a .bytes) f v;
       noted = λ u h. z u ∙ sym (ap kindFound (none-first s f v u h));
@@ -167,6 +184,9 @@ note-next s map last at g h head more kind class e c p m =
         ends = g .ends;
         few = g .few;
         long = rw (length-set map at kind) (g .long);
+        begun = let y = g .begun in omega arith;
+        within = omega arith;
+        ended = g .ended;
         key = underBy (classOf (wordAt s at)) (wordAt s at) (g .key);
         ahead = subst (λ (x : ℕ). Ahead s x (underBy (classOf (wordAt s at)) (wordAt s at) (g .key))) (sym n) (t .next);
         noted = λ u b. go t n d u (rw n at b) (ltb u at) refl (eqb u at) refl;
@@ -189,18 +209,33 @@ note-next s map last at g h head more kind class e c p m =
         let w = eqb-false u at v in
         getD-set-other map at u kind 0 w ∙ g .blank u a ∙ sym (ap kindFound (t .between u (omega arith) b))
 
+-- a word from 0x2000 on is not the end word
+pub note-before : (s map : List ℕ) (last at : ℕ) → Noting s map last at → (head : ℕ) → head ≡ wordAt s at → 0x2000 ≤ head → at < last
+note-before s map last at g head e a = go (ltb at last) refl
+  where
+    go : (b : Bool) → ltb at last ≡ b → at < last
+    go true q = ltb-true at last q
+    go false q =
+        let l = ltb-false at last q in
+        let w = g .within in
+        let i : at ≡ last = omega arith in
+        let z : head ≡ 0x000F = e ∙ ap (wordAt s) i ∙ g .ended in
+        absurd (omega arith)
+
 -- an item of one word, and a Bin, told by the range of the word
-pub note-one : (s map : List ℕ) (last at : ℕ) → Noting s map last at → at < last → (head kind : ℕ) → head ≡ wordAt s at → 0x3000 ≤ head → head < 65536
+pub note-one : (s map : List ℕ) (last at : ℕ) → Noting s map last at → (head kind : ℕ) → head ≡ wordAt s at → 0x3000 ≤ head → head < 65536
     → kind ≡ kindBy (classOf head)
     → Noting s (set map at kind) last (at + 1)
-note-one s map last at g h head kind e a b p =
+note-one s map last at g head kind e a b p =
     let n : at + 1 + 0 ≡ at + 1 = omega arith in
+    let h = note-before s map last at g head e (omega arith) in
     subst (Noting s (set map at kind) last) n (note-next s map last at g h head 0 kind (classOf head) e refl p (high-after head a b) .2)
 
-pub note-bin : (s map : List ℕ) (last at : ℕ) → Noting s map last at → at < last → (head : ℕ) → head ≡ wordAt s at → 0x2000 ≤ head → head < 0x3000
+pub note-bin : (s map : List ℕ) (last at : ℕ) → Noting s map last at → (head : ℕ) → head ≡ wordAt s at → 0x2000 ≤ head → head < 0x3000
     → Noting s (set map at 2) last (at + 3)
-note-bin s map last at g h head e a b =
+note-bin s map last at g head e a b =
     let n : at + 1 + 2 ≡ at + 3 = omega arith in
+    let h = note-before s map last at g head e a in
     subst (Noting s (set map at 2) last) n (note-next s map last at g h head 2 2 (classOf head) e refl (bin-kind head a b) (bin-after head a b) .2)
 
 pub note-end : (s map : List ℕ) (last at : ℕ) → Noting s map last at → last ≤ at → Kinds s map

@@ -103,8 +103,8 @@ entry-once b j = one viewEntry same-entry (entryAnswer house first b j)
 pub entry-of-once : (s : List ℕ) (r q : Entry) → asEntry r ≡ entryOf first s → asEntry q ≡ entryOf first s → r ≡ q
 entry-of-once s = one asEntry same-plain (entryOf first s)
 
--- The promises of `legal` and `signed` are equations of the answer, those of `put_word`, `put_value` and `undo` of the list that they leave,
--- whole
+-- The promises of `legal` and `signed` are equations of the answer, those of `put_word`, `put_value`, `undo` and `undo_from` of the list that they
+-- leave, whole
 pub put-word-once : (f : List ℕ) (at w : ℕ) (r q : List ℕ) → r ≡ sets f at (bytes (w ∷ [])) → q ≡ sets f at (bytes (w ∷ [])) → r ≡ q
 put-word-once f at w = equal-once (sets f at (bytes (w ∷ [])))
 

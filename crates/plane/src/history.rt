@@ -9,7 +9,7 @@ ghost use Rattle.ledger.specs.First.{first};
 ghost use Rattle.ledger.specs.House.{house};
 ghost use Rattle.ledger.specs.Judged.{heldOf};
 ghost use Rattle.plane.specs.Views.{viewHeld, asEntry, unfit};
-ghost use Rattle.plane.specs.Stored.{stored};
+ghost use Rattle.plane.specs.Stored.{stored, storedOld};
 ghost use Rattle.plane.specs.Undoing.{Kinds, Undoing};
 use crate::answers::Entry;
 use crate::answers::Held;
@@ -117,6 +117,20 @@ pub fn undo(f: &mut [u8], e: Entry)
     ensures { λ _. ⌜ now (f .exit) ≡ stored (now (f .entry)) (e .kind) (e .word) (e .old) ⌝ }
 {
     put_value(f, e.kind, e.word as usize, e.old);
+}
+
+// Undoes the entry that a slice begins with; of one that is whole no more is read than that takes.
+pub fn undo_from(f: &mut [u8], s: &[u8])
+    ensures { λ _. ⌜ now (f .exit) ≡ storedOld (now (f .entry)) (entryOf first (now (s .entry))) ⌝ }
+{
+    if s.len() < Entry::SIZE {
+        undo(f, entry_of(s));
+        return;
+    }
+    let kind = word_in(s, 1);
+    let at = word_in(s, 0) as usize;
+    let old = long_in(s, 2);
+    put_value(f, kind, at, old);
 }
 
 // The number of the newest entry that does not fit, or 0: the entries from number n down, undone in f.

@@ -208,14 +208,15 @@ pub(crate) fn spot_in(f: &[u8], w: usize) -> SpotFound
     SpotFound::Nothing
 }
 
-// Notes in a map of zeros, for each word of an accepted frame, the kind of the item that begins there.
+// Notes in a map of zeros, for each word of an accepted frame, the kind of the item that begins there. The end word is below all that the
+// first two branches take, so that they need not ask whether it is reached.
 pub(crate) fn note_kinds(f: &[u8], map: &mut [u8])
     requires { ⌜ Accepted house (now f) × (4096 ≤ length (now map)) × ((i : ℕ) → getD (now map) i 0 ≡ 0) ⌝ }
     ensures { λ _. ⌜ Kinds (now (f .entry)) (now (map .exit)) ⌝ }
 {
     let last = f.len() / 2 - 1;
     let mut at: usize = 3;
-    while at < last {
+    loop {
         let head = word_in(f, at);
         if SAMPLE <= head {
             map[at] = kind_high(head);
@@ -226,6 +227,9 @@ pub(crate) fn note_kinds(f: &[u8], map: &mut [u8])
             map[at] = 2;
             at += 3;
             continue;
+        }
+        if last <= at {
+            return;
         }
         map[at] = kind_of(classify(head));
         let more = words_after(head) as usize;

@@ -35,20 +35,17 @@ mul-at c = omega arith
 add-at : tie.Need-add-at Inv-loop μ-loop
 add-at c = omega arith
 
-sub-entry-of : tie.Need-sub-entry-of Inv-loop μ-loop
-sub-entry-of c = omega arith
+sub-undo-from : tie.Need-sub-undo-from Inv-loop μ-loop
+sub-undo-from c = omega arith
 
-part-entry-of-start : tie.Need-part-entry-of-start Inv-loop μ-loop
-part-entry-of-start c = omega arith
+part-undo-from-start : tie.Need-part-undo-from-start Inv-loop μ-loop
+part-undo-from-start c = omega arith
 
-part-entry-of-end : tie.Need-part-entry-of-end Inv-loop μ-loop
-part-entry-of-end c = search needs
+part-undo-from-end : tie.Need-part-undo-from-end Inv-loop μ-loop
+part-undo-from-end c = search needs
 
-entry-of-requires : tie.Need-entry-of-requires Inv-loop μ-loop
-entry-of-requires c κs = search needs
-
-undo-requires : tie.Need-undo-requires Inv-loop μ-loop
-undo-requires c κs = search needs
+undo-from-requires : tie.Need-undo-from-requires Inv-loop μ-loop
+undo-from-requires c κs = search needs
 
 loop-less : tie.Need-loop-less Inv-loop μ-loop
 loop-less c = omega arith
@@ -56,9 +53,9 @@ loop-less c = omega arith
 loop-again : tie.Need-loop-again Inv-loop μ-loop
 loop-again c =
     let u = c .before .before in
-    let l = u .before .before .before .before .before .loop in
+    let l = u .before .before .before .before .loop in
     let i = l .inv in
-    (omega arith, omega arith, i .2, u .undo .kept .0 ∙ i .3, rewind-step _ _ _ (l .n - 1) _ (i .4) (omega arith) _ (omega arith) _ (u .before .entry-of .ensures) _ (u .undo .ensures) (omega arith))
+    (omega arith, omega arith, i .2, u .undo-from .kept .0 ∙ i .3, rewind-step _ _ _ (l .n - 1) _ (i .4) (omega arith) _ (omega arith) _ (u .undo-from .ensures) (omega arith))
 
 same-length : tie.Need-same-length Inv-loop μ-loop
 same-length c = omega arith
@@ -77,11 +74,10 @@ rewind-spec =
     sub-n
     mul-at
     add-at
-    sub-entry-of
-    part-entry-of-start
-    part-entry-of-end
-    entry-of-requires
-    undo-requires
+    sub-undo-from
+    part-undo-from-start
+    part-undo-from-end
+    undo-from-requires
     loop-less
     loop-again
     same-length
