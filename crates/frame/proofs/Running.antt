@@ -103,16 +103,16 @@ module _ (card : ℕ) (s : List ℕ) (last : ℕ) where
     unfolding checkBy
     bin-turn next i b n h l k m = rw (le-leb next b h, le-leb b 4095 l, le-leb 1 n k, lt-ltb n 4294967296 m)
 
-    -- a Bin more: `first` is the first word that it may have
-    pub bin-more : 2 * last ≤ length s → (least first i w n : ℕ) → at ≤ i → (i - at) % 3 ≡ 0 → i + 3 ≤ last → w ≡ wordAt s i → 0x2000 ≤ first → first ≤ w → w < 0x3000
+    -- a Bin more: its word is above `past`
+    pub bin-more : 2 * last ≤ length s → (least past i w n : ℕ) → at ≤ i → (i - at) % 3 ≡ 0 → i + 3 ≤ last → w ≡ wordAt s i → 8191 ≤ past → past < w → w < 0x3000
         → n ≡ longAt s (i + 1) → 1 ≤ n → n < 4294967296
-        → Turns card s last ((i - at) / 3) headed key least opener at (first - 8192) i
-        → Turns card s last ((i + 3 - at) / 3) headed key least opener at (w + 1 - 8192) (i + 3)
-    bin-more room least first i w n a d l e p h q g k m t =
+        → Turns card s last ((i - at) / 3) headed key least opener at (past - 8191) i
+        → Turns card s last ((i + 3 - at) / 3) headed key least opener at (w - 8191) (i + 3)
+    bin-more room least past i w n a d l e p h q g k m t =
         more-at ((i - at) / 3) ((i + 3 - at) / 3) at _ _ _ i (i + 3) (omega arith) t (omega arith)
-        (ap (λ (n : ℕ). moved (record { mode = headed; key = key; next = n; opener = opener }) (i + 3)) (let z : w + 1 - 8192 ≡ w % 4096 + 1 = omega arith in z)
-        ∙ bin-step card s last i w _ e room _ (w % 4096) n (bin-is w (omega arith) q) l refl g (bin-turn (first - 8192) i (w % 4096) n (omega arith) (omega arith) k m))
+        (ap (λ (n : ℕ). moved (record { mode = headed; key = key; next = n; opener = opener }) (i + 3)) (let z : w - 8191 ≡ w % 4096 + 1 = omega arith in z)
+        ∙ bin-step card s last i w _ e room _ (w % 4096) n (bin-is w (omega arith) q) l refl g (bin-turn (past - 8191) i (w % 4096) n (omega arith) (omega arith) k m))
 
-    -- the first word that a Bin may have tells its least number
-    pub from-first : (k next next′ at′ : ℕ) → Turns card s last k headed key (8192 + next - 8192) opener at next′ at′ → Turns card s last k headed key next opener at next′ at′
-    from-first k next next′ at′ t = subst (λ (n : ℕ). Turns card s last k headed key n opener at next′ at′) (let z : 8192 + next - 8192 ≡ next = omega arith in z) t
+    -- the word before the first one that a Bin may have tells its least number
+    pub from-word : (k next next′ at′ : ℕ) → Turns card s last k headed key (8191 + next - 8191) opener at next′ at′ → Turns card s last k headed key next opener at next′ at′
+    from-word k next next′ at′ t = subst (λ (n : ℕ). Turns card s last k headed key n opener at next′ at′) (let z : 8191 + next - 8191 ≡ next = omega arith in z) t

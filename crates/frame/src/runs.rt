@@ -129,35 +129,50 @@ fn past_hits(s: &[u8], at: usize, stop: usize, card: u16) -> usize
     i
 }
 
-// The index behind some Bins, and the first word that a further one may have.
+// The word before the first one that a Bin may have.
+const BEFORE_BINS: u64 = Class::BIN as u64 - 1;
+
+// The index behind some Bins, and the word of the last.
 struct Binned {
     at: usize,
-    first: u64,
+    word: u64,
 }
 
-// Behind the Bins from here on that have a count and rise from the word `least` on: a Bin's word rises with its number. There is room for whole
-// Bins before `stop`.
-fn past_bins(s: &[u8], at: usize, stop: usize, least: u64) -> Binned
-    requires { ⌜ (at ≤ stop) × ((stop - at) % 3 ≡ 0) × (2 * stop ≤ length (now s)) × (8192 ≤ least) ⌝ }
-    ensures { λ r. ⌜ (at ≤ r .at) × (r .at ≤ stop) × (8192 ≤ r .first) × (r .first ≤ max least 12288) × ((card last key opener : ℕ) → stop ≤ last → 2 * last ≤ length (now (s .entry)) → Turns card (now (s .entry)) last ((r .at - at) / 3) headed key (least - 8192) opener at (r .first - 8192) (r .at)) ⌝ }
+// Behind the Bins from here on that have a count and rise from behind the word `past`: a Bin's word rises with its number. There is room for
+// whole Bins before `stop`.
+fn past_bins(s: &[u8], at: usize, stop: usize, past: u64) -> Binned
+    requires { ⌜ (at ≤ stop) × ((stop - at) % 3 ≡ 0) × (2 * stop ≤ length (now s)) × (8191 ≤ past) ⌝ }
+    ensures { λ r. ⌜ (at ≤ r .at) × (r .at ≤ stop) × (8191 ≤ r .word) × (r .word ≤ max past 12287) × ((card last key opener : ℕ) → stop ≤ last → 2 * last ≤ length (now (s .entry)) → Turns card (now (s .entry)) last ((r .at - at) / 3) headed key (past - 8191) opener at (r .word - 8191) (r .at)) ⌝ }
 {
     let mut i = at;
-    let mut first = least;
+    let mut latest = past;
     while i < stop {
         let w = word(s, i) as u64;
-        if w < first {
-            return Binned { at: i, first };
+        if w <= latest {
+            return Binned {
+                at: i,
+                word: latest,
+            };
         }
         if Class::SAMPLE as u64 <= w {
-            return Binned { at: i, first };
+            return Binned {
+                at: i,
+                word: latest,
+            };
         }
         if long(s, i + 1) < Bin::LEAST_COUNT {
-            return Binned { at: i, first };
+            return Binned {
+                at: i,
+                word: latest,
+            };
         }
-        first = w + 1;
+        latest = w;
         i += BIN_WORDS;
     }
-    Binned { at: i, first }
+    Binned {
+        at: i,
+        word: latest,
+    }
 }
 
 fn samples_run(s: &[u8], last: usize, at: usize, next: u32, most: usize) -> Run
@@ -194,10 +209,10 @@ fn bins_run(s: &[u8], last: usize, at: usize, next: u32, most: usize) -> Run
     ensures { λ r. ⌜ ((card key opener : ℕ) → Ran card (now (s .entry)) last at headed key next opener most (r .at) (r .count) (r .next)) ⌝ }
 {
     let room = least((last - at) / BIN_WORDS, most);
-    let first = Class::BIN as u64 + next as u64;
-    let binned = past_bins(s, at, at + BIN_WORDS * room, first);
+    let past = BEFORE_BINS + next as u64;
+    let binned = past_bins(s, at, at + BIN_WORDS * room, past);
     let count = (binned.at - at) / BIN_WORDS;
-    let number = (binned.first - Class::BIN as u64) as u32;
+    let number = (binned.word - BEFORE_BINS) as u32;
     Run {
         at: binned.at,
         count,

@@ -2,7 +2,7 @@
 -- Assumes nothing.
 use native.Mathlib.Omega.{arith}
 use borrow.Author.Needs.{needs}
-use Rattle.frame.proofs.Running.{from-first}
+use Rattle.frame.proofs.Running.{from-word}
 use Rattle.frame.proofs.runs.bins_run.Statement.{statement}
 use Rattle.frame.proofs.runs.bins_run.Tie as tie
 
@@ -12,11 +12,8 @@ sub-least c = search needs
 least-requires : tie.Need-least-requires
 least-requires c κs = search needs
 
-cast-first : tie.Need-cast-first
-cast-first c = search needs
-
-add-first : tie.Need-add-first
-add-first c = search needs
+add-past : tie.Need-add-past
+add-past c = search needs
 
 mul-past-bins : tie.Need-mul-past-bins
 mul-past-bins c = search needs
@@ -30,21 +27,18 @@ past-bins-requires c κs = search needs
 sub-count : tie.Need-sub-count
 sub-count c = search needs
 
-cast-number : tie.Need-cast-number
-cast-number c = search needs
-
 sub-number : tie.Need-sub-number
 sub-number c = search needs
 
-cast-number-2 : tie.Need-cast-number-2
-cast-number-2 c = search needs
+cast-number : tie.Need-cast-number
+cast-number c = search needs
 
 returns : tie.Need-returns
 returns c =
     let e = c .before .before .past-bins .ensures in
     λ card key opener.
     record {
-      turns = from-first card _ _ _ key opener _ _ _ _ (e .4 card _ key opener (omega arith) (c .before .before .before .before .before .pre .1));
+      turns = from-word card _ _ _ key opener _ _ _ _ (e .4 card _ key opener (omega arith) (c .before .before .before .before .before .pre .1));
       few = omega arith;
       onwards = e .0;
     }
@@ -55,13 +49,11 @@ bins-run-spec =
     (tie.spec
     sub-least
     least-requires
-    cast-first
-    add-first
+    add-past
     mul-past-bins
     add-past-bins
     past-bins-requires
     sub-count
-    cast-number
     sub-number
-    cast-number-2
+    cast-number
     returns)

@@ -12,12 +12,12 @@ use Rattle.frame.proofs.runs.past_bins.Statement.{statement}
 use Rattle.frame.proofs.runs.past_bins.Tie as tie
 
 abbrev Inv-loop : tie.InvT-loop
-Inv-loop s at stop least i₀ first₀ i first =
-    (at ≤ i) × (i ≤ stop) × ((i - at) % 3 ≡ 0) × ((stop - i) % 3 ≡ 0) × (2 * stop ≤ length s) × (8192 ≤ first) × (first ≤ max least 12288)
-    × ((card last key opener : ℕ) → stop ≤ last → 2 * last ≤ length s → Turns card s last ((i - at) / 3) headed key (least - 8192) opener at (first - 8192) i)
+Inv-loop s at stop past i₀ latest₀ i latest =
+    (at ≤ i) × (i ≤ stop) × ((i - at) % 3 ≡ 0) × ((stop - i) % 3 ≡ 0) × (2 * stop ≤ length s) × (8191 ≤ latest) × (latest ≤ max past 12287)
+    × ((card last key opener : ℕ) → stop ≤ last → 2 * last ≤ length s → Turns card s last ((i - at) / 3) headed key (past - 8191) opener at (latest - 8191) i)
 
 abbrev μ-loop : tie.MeasureT-loop
-μ-loop s at stop least i₀ first₀ i first = stop - i
+μ-loop s at stop past i₀ latest₀ i latest = stop - i
 
 loop-holds : tie.Need-loop-holds Inv-loop μ-loop
 loop-holds c = (omega arith, omega arith, omega arith, omega arith, omega arith, omega arith, omega arith, λ card last key opener h b. none-from card _ last _ headed key _ opener _ _ (omega arith) refl)
@@ -45,9 +45,6 @@ long-requires c κs = omega arith
 
 returns-3 : tie.Need-returns-3 Inv-loop μ-loop
 returns-3 c = let v = c .before .before .before .before .before .before .loop .inv in (v .0, v .1, v .5, v .6, v .7)
-
-add-first : tie.Need-add-first Inv-loop μ-loop
-add-first c = omega arith
 
 add-i : tie.Need-add-i Inv-loop μ-loop
 add-i c = omega arith
@@ -90,7 +87,6 @@ past-bins-spec =
     add-long
     long-requires
     returns-3
-    add-first
     add-i
     loop-less
     loop-again
