@@ -183,10 +183,8 @@ module _ (f : List ℕ) (a : Accepted house f) (e : Entry) (h : fits house first
 
 -- ---- the loop from the newest entry back
 
-pub part-long : (b : List ℕ) (at n : ℕ) → at + n ≤ length b → n ≤ length (take (length b - at) (drop at b))
-part-long b at n h =
-    let l : length (take (length b - at) (drop at b)) ≡ length b - at = length-take-le (length b - at) (drop at b) (rw (length-drop at b) (omega arith)) in
-    omega arith
+pub part-long : (b : List ℕ) (at : ℕ) → length (take (length b - at) (drop at b)) ≡ length b - at
+part-long b at = length-take-le (length b - at) (drop at b) (rw (length-drop at b) (omega arith))
 
 numbered-at : (b : List ℕ) (h p at : ℕ) → h ≡ 16 + lengthIn b → at ≡ h + 16 * (suc p - 1) → entryOf first (drop at b) ≡ numbered first b (suc p)
 unfolding numbered first

@@ -1,7 +1,6 @@
 -- `plane::history::walk_back` meets its contract: what the entries left do to the frame at hand is what all of them do to the first.
 -- Assumes nothing.
-use denote.Ref.{now}
-use Prim.Native.Nat.{_+_, _*_, _-_, _≤_}
+use Prim.Native.Nat.{_+_, _*_, _≤_}
 use mathlib.Core.Path.{_≡_, refl, sym, _∙_}
 use lib.ListN.{length}
 use borrow.Author.Needs.{needs}
@@ -42,10 +41,7 @@ part-entry-in-end : tie.Need-part-entry-in-end Inv-loop μ-loop
 part-entry-in-end c = search needs
 
 entry-in-requires : tie.Need-entry-in-requires Inv-loop μ-loop
-entry-in-requires c κs =
-    let l = c .before .before in
-    let a = l .before .before .before .before .args in
-    part-long (now (a .b)) (a .h + 16 * (l .loop .m - 1)) 16 (omega arith)
+entry-in-requires c κs = rw part-long (omega arith)
 
 entry-fits-requires : tie.Need-entry-fits-requires Inv-loop μ-loop
 entry-fits-requires c κs = c .before .before .before .before .loop .inv .0
