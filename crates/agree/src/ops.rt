@@ -9,23 +9,11 @@ use crate::ops_questions;
 use crate::ops_record;
 use crate::ops_writer;
 
-// Answers a case whose payloads are p and q; 0 where it is none. (The prover's time grows with the square of the calls in a function.)
+// Answers a case whose payloads are p and q; 0 where it is none.
 pub(crate) fn answer(case: Case, p: &mut [u8], q: &mut [u8], line: &mut [u8]) -> usize {
     if !case.is_allowed() {
         return 0;
     }
-    let op = case.op;
-    if op < 7 {
-        return ask(case, p, line);
-    }
-    if op < 12 {
-        return write(case, p, q, line);
-    }
-    record(case, p, q, line)
-}
-
-// Ops 0 to 6: on a word, and on a frame.
-fn ask(case: Case, p: &[u8], line: &mut [u8]) -> usize {
     let op = case.op;
     match op {
         0 => ops_book::classify(case.a0, line),
@@ -35,27 +23,11 @@ fn ask(case: Case, p: &[u8], line: &mut [u8]) -> usize {
         4 => ops_questions::event(p, case.a0, line),
         5 => ops_questions::samples(p, case.a0, case.a1, case.a2, case.a3, case.a4, line),
         6 => ops_questions::counts(p, case.a0, case.a1, case.a2, case.a3, line),
-        _ => 0,
-    }
-}
-
-// Ops 7 to 11: the writer's, and the follower's.
-fn write(case: Case, p: &mut [u8], q: &[u8], line: &mut [u8]) -> usize {
-    let op = case.op;
-    match op {
         7 => ops_writer::begin(p, case.a0, case.a1, case.a2, line),
         8 => ops_writer::add(p, case.a0, case.a1, case.a2, case.a3, case.a4, line),
         9 => ops_writer::add_text(p, q, case.a0, line),
         10 => ops_writer::close(p, case.a0, line),
         11 => ops_follower::follow(case.a0, case.a1, line),
-        _ => 0,
-    }
-}
-
-// Ops 12 to 17: on a record.
-fn record(case: Case, p: &mut [u8], q: &mut [u8], line: &mut [u8]) -> usize {
-    let op = case.op;
-    match op {
         12 => ops_record::record(p, line),
         13 => ops_record::entry(p, case.a0, line),
         14 => ops_editor::open(p, q, line),

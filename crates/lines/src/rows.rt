@@ -7,7 +7,6 @@ ghost use Rattle.ledger.specs.Records.{lengthIn, entryOf};
 ghost use Rattle.ledger.specs.First.{first};
 ghost use Rattle.frame.specs.Views.{viewKind};
 ghost use Rattle.lines.specs.Ascii.{ascii};
-ghost use Rattle.lines.specs.Text as texts;
 ghost use Rattle.lines.specs.Text.{decimal};
 ghost use Rattle.lines.specs.Listing.{letter, kindText, changeText, signerText, frameLine, entryLine, endLine, refusedLine, entryLines};
 ghost use Rattle.lines.specs.Writes.{Put};
@@ -35,17 +34,6 @@ fn kind_start(line: &mut [u8], kind: Kind) -> usize
     }
 }
 
-// A frame's line up to the sequence word.
-fn frame_start(line: &mut [u8], kind: Kind, card: u16, sequence: u16) -> usize
-    requires { ⌜ 160 ≤ length (now line) ⌝ }
-    ensures { λ r. ⌜ Put 42 (now (line .entry)) 0 (ascii "frame " ++ letter (viewKind kind) ++ (ascii " card " ++ decimal card) ++ ascii " seq " ++ texts.hex sequence) (now (line .exit)) r ⌝ }
-{
-    let at_card = kind_start(line, kind);
-    let at_seq = field(line, at_card, b" card ", card as u64);
-    let at_hex = text(line, at_seq, b" seq ");
-    hex(line, at_hex, sequence)
-}
-
 // The frame's line, at the start.
 pub(crate) fn frame_line(
     line: &mut [u8],
@@ -58,7 +46,10 @@ pub(crate) fn frame_line(
     requires { ⌜ 160 ≤ length (now line) ⌝ }
     ensures { λ r. ⌜ Put 160 (now (line .entry)) 0 (frameLine (viewKind kind) card sequence size items) (now (line .exit)) r ⌝ }
 {
-    let at_bytes = frame_start(line, kind, card, sequence);
+    let at_card = kind_start(line, kind);
+    let at_seq = field(line, at_card, b" card ", card as u64);
+    let at_hex = text(line, at_seq, b" seq ");
+    let at_bytes = hex(line, at_hex, sequence);
     let at_items = field(line, at_bytes, b" bytes ", size as u64);
     let at_end = field(line, at_items, b" items ", items as u64);
     text(line, at_end, b"\n")
