@@ -144,22 +144,15 @@ pub(crate) fn long_in(s: &[u8], i: usize) -> u32
     low + 65536 * high
 }
 
-// The first word that begins a Bin, the first that begins a Sample, and the first behind them: from there on items have one word, and headers
-// are the highest. Most words of a frame are told by these alone.
-const BIN: u16 = 0x2000;
-
-const SAMPLE: u16 = 0x3000;
-
-const HIT_COUNT: u16 = 0x4000;
-
-const HEADER: u16 = 0x8000;
+// Most words of a frame are told by their class's range alone: from the first Sample's on items have one word, and from the first Histogram's
+// on they are headers.
 
 // The kind of an item of one word.
 fn kind_high(w: u16) -> u8
     requires { ⌜ 0x3000 ≤ w ⌝ }
     ensures { λ r. ⌜ r ≡ kindBy (classOf w) ⌝ }
 {
-    if w < HIT_COUNT {
+    if w < Class::HIT_COUNT {
         return 1;
     }
     0
@@ -170,7 +163,7 @@ fn key_high(w: u16, key: u32) -> u32
     requires { ⌜ 0x3000 ≤ w ⌝ }
     ensures { λ r. ⌜ r ≡ underBy (classOf w) w key ⌝ }
 {
-    if HEADER <= w {
+    if Class::HISTOGRAM <= w {
         return header_key(w);
     }
     key
@@ -191,12 +184,12 @@ pub(crate) fn spot_in(f: &[u8], w: usize) -> SpotFound
             let value = value_at(f, kind, at);
             return spot_from(kind, value, key);
         }
-        if SAMPLE <= head {
+        if Class::SAMPLE <= head {
             key = key_high(head, key);
             at += 1;
             continue;
         }
-        if BIN <= head {
+        if Class::BIN <= head {
             at += 3;
             continue;
         }
@@ -218,12 +211,12 @@ pub(crate) fn note_kinds(f: &[u8], map: &mut [u8])
     let mut at: usize = 3;
     loop {
         let head = word_in(f, at);
-        if SAMPLE <= head {
+        if Class::SAMPLE <= head {
             map[at] = kind_high(head);
             at += 1;
             continue;
         }
-        if BIN <= head {
+        if Class::BIN <= head {
             map[at] = 2;
             at += 3;
             continue;
