@@ -21,7 +21,6 @@ use Rattle.ledger.specs.House.{house}
 use Rattle.ledger.proofs.Headers.{header-words, few-entries}
 use Rattle.ledger.proofs.Judging.{verdict-parts}
 use Rattle.ledger.proofs.FirstLaws.{first-lawful}
-use Rattle.plane.specs.Views.{summaryAt}
 use Rattle.plane.proofs.RecordLaws.{judge-refused, frame-part, room, told}
 use Rattle.lines.specs.Listing.{frameLine, changeText, signerText, entryLine, endLine, refusedLine, entryLines, frameOf, listingOf, listing, listingAnswer, listingExit}
 use Rattle.lines.specs.Writes.{Put, Known, Listed}
@@ -99,6 +98,9 @@ module _ (b : List ℕ) (size count : ℕ) (k : Known b size count) where
 pub told-known : (b : List ℕ) (x : Summary) → accepted x ≡ recordAnswer house first b → Known b (x .length) (x .count)
 told-known b x e = let t = told b x e in record { judged = t .verdict; length = t .length; entries = t .count }
 
+abbrev lengths : List ℕ → Summary
+lengths b = record { length = lengthIn b; count = countIn b; total = totalIn first b }
+
 pub refused-text : (b : List ℕ) (n p : ℕ) → refused n p ≡ recordAnswer house first b → refusedLine n p ≡ listing b
 unfolding listing frameOf recordAnswer
 refused-text b n p e = go (recordVerdict house first b) e
@@ -109,7 +111,7 @@ refused-text b n p e = go (recordVerdict house first b) e
     place : (m q n p : ℕ) → _≡_ {A = Outcome Summary} (refused m q) (refused n p) → q ≡ p
     place m q n p f = cc
 
-    go : (o : Done) → refused n p ≡ andThen o (λ u. accepted (summaryAt (lengthIn b) (countIn b) (totalIn first b)))
+    go : (o : Done) → refused n p ≡ andThen o (λ u. accepted (lengths b))
         → refusedLine n p ≡ listingOf (andThen o (λ u. verdict (frameIn b))) b
     go (accepted u) q = let z : _≡_ {A = ℕ} 0 1 = cc in absurd (omega arith)
     go (refused m r) q = let f : _≡_ {A = Outcome Summary} (refused n p) (refused m r) = q in rw (number n p m r f, place n p m r f)
