@@ -5,9 +5,19 @@ import subprocess
 
 ROOT = os.path.dirname(os.path.dirname(os.path.abspath(__file__)))
 
-# What a log says when the proof or the code, not the promise, is what broke.
-UNFIT = re.compile(r"has no field|not in scope|no such|unknown name|unused|does not parse|syntax|unreachable|overlap|"
-                   r"is not covered|mismatched types|cannot find|no proof file|left over|does not exist")
+# What the prover says where a fact no longer holds. Any other first error (a name, a field, a path or a `Tie` that a proof no longer finds, a
+# rewrite that finds nothing, a text that does not parse) may only mean that the proof does not fit, and shows nothing.
+FACT = re.compile(
+    # two values that had to be the same are not
+    r"the two (?:types|sides) (?:first differ|differ only|are)\b"
+    r"|^  does not hold\b"
+    # what is left after a rewriting is no equation of a thing with itself
+    r"|must be a path whose two ends are equal, and .*is none"
+    # of numbers, mostly with a counterexample
+    r"|`omega`: the goal does not follow from what it read"
+    # a proof of something else than what is asked
+    r"|expected type `.*but this has type",
+    re.MULTILINE | re.DOTALL)
 
 
 def crates():
@@ -21,10 +31,28 @@ def crates():
     return rows
 
 
+def errors(text):
+    """The errors of a log in their order, each whole: its line and the indented ones behind it. One that only says that another proof is
+    missing is left out."""
+    found = []
+    for line in text.split("\n"):
+        if re.search(r": error\b|^error\b", line):
+            found.append(re.sub(r"^\S*/crates/", "", line))
+        elif found and line.startswith("  "):
+            found[-1] += "\n" + line
+        elif found and found[-1]:
+            found.append("")
+    found = [error for error in found if error]
+    return [error for error in found if "was not admitted" not in error] or found
+
+
 def first_error(text):
-    errors = [re.sub(r"^\S*/crates/", "", line.strip()) for line in text.split("\n") if re.search(r"\berror\b", line)]
-    own = [line for line in errors if "was not admitted" not in line] or errors or text.strip().split("\n")[-1:]
-    return own[0][:300]
+    return (errors(text) or text.strip().split("\n")[-1:])[0]
+
+
+def lost(error):
+    """Whether an error says that a fact no longer holds."""
+    return bool(FACT.search(error))
 
 
 def said(tree, *words):

@@ -1,7 +1,7 @@
 -- T24. Header and entries: what is written is read back, and what is read from bytes that pass the tests is written as those bytes.
 -- Assumes nothing.
 use Prim.Native.Nat.{ℕ, zero, suc, _+_, _-_, _*_, _/_, _%_, _≤_, _<_}
-use mathlib.Core.Path.{_≡_, refl, sym, ap, _∙_}
+use mathlib.Core.Path.{_≡_, refl, sym, ap, ap₂, _∙_}
 use mathlib.Core.Bool.{true}
 use mathlib.Core.List.{List, [], _∷_, _++_, append-assoc}
 use native.Mathlib.Nat.{mul-suc, mul-zero, mul-le-mul}
@@ -221,7 +221,8 @@ entries-there F L (e ∷ es) b p t l g q =
     let n : length (p ++ r) ≡ 16 + lengthIn b + size F * length es = length-append p r ∙ rw (l, entries-length F L es (g .1)) in
     let d : drop (16 + lengthIn b + size F * length es) b ≡ entryBytes F e ++ t
     = ap (drop (16 + lengthIn b + size F * length es)) (a ∙ sym (append-assoc p r (entryBytes F e ++ t))) ∙ drop-at (p ++ r) (entryBytes F e ++ t) (16 + lengthIn b + size F * length es) n in
-    rw (numbered-suc F b (length es), d, entry-there F L e t (g .0), entries-there F L es b p (entryBytes F e ++ t) l (g .1) a)
+    let newest : numbered F b (suc (length es)) ≡ e = numbered-suc F b (length es) ∙ ap (entryOf F) d ∙ entry-there F L e t (g .0) in
+    ap₂ _∷_ newest (entries-there F L es b p (entryBytes F e ++ t) l (g .1) a)
 
 good-read : (F : Format) (s : List ℕ) → F .good (entryOf F s .extra) ≡ true → F .good (F .read (drop 16 s)) ≡ true
 unfolding entryOf
