@@ -20,7 +20,8 @@ use Rattle.format.specs.Faults.{HeadBroken, odd, under, over, noStart, o
 use Rattle.format.proofs.PrefixLaws.{and-left, and-right}
 use Rattle.format.proofs.WordLaws.{below-drop}
 use Rattle.format.proofs.ItemLaws.{tokens-skip, read-written, written-read}
-use Rattle.format.proofs.WalkLaws.{range-fits, allowed-fits, passed, passes, walk-good, walk-bad, not-whole}
+use Rattle.format.proofs.LimitLaws.{range-fits}
+use Rattle.format.proofs.WalkLaws.{allowed-fits, passed, passes, walk-good, walk-bad, not-whole}
 use Rattle.format.proofs.HeadLaws.{front-word, length-front, front-below}
 
 -- of two first numbers neither is below the other

@@ -4,9 +4,9 @@
 use Prim.Native.Nat.{ℕ, suc, _+_, _<_, _≤_}
 use mathlib.Core.Path.{_≡_, refl, sym, ap, _∙_}
 use mathlib.Core.List.{List, [], _∷_}
-use mathlib.Core.Bool.{Bool, true, false, _&&_, _||_, true≢false}
+use mathlib.Core.Bool.{Bool, true, false, _||_, true≢false}
 use native.Mathlib.Omega.{arith}
-use lib.Dec.{leb, ltb}
+use lib.Dec.{ltb}
 use lib.ListN.{set}
 use borrow.Author.Tests.{leb-true, le-leb, ltb-true}
 use Rattle.format.specs.Words.{pick}
@@ -15,7 +15,8 @@ use Rattle.format.specs.Items.{Item, Channel, Histogram, HitCount, Sampl
 use Rattle.format.specs.Rules.{Kind, dataKind, monitorKind, commandKind, same, since, count, has, latest, gather, binNumber, above, time, within, outside, allowed, among, place, inEvent}
 use Rattle.format.specs.Frames.{Allowed, Sound}
 use Rattle.format.specs.Questions.{fillSamples, fillCounts}
-use Rattle.format.proofs.PrefixLaws.{and-left, and-right}
+use Rattle.format.proofs.LimitLaws.{allowed-limits}
+use Rattle.format.proofs.PrefixLaws.{and-left}
 use Rattle.format.proofs.SoundLaws.{monitor-place}
 use Rattle.format.proofs.MarkLaws.{Mark, setAll, Rise, rise-lower}
 
@@ -114,7 +115,7 @@ module _ (kind : Kind) (card : ℕ) where
   at-clock p v u k a =
       let e = clock k in
       let o : time p ≤ 511 = leb-true (time p) 511 (a .ordered) in
-      (e, omega arith, blank-sample v (leb-true v 4095 (and-left (leb v 4095) true (a .valued))))
+      (e, omega arith, blank-sample v (allowed-limits kind card p (Sample v) a))
     where
       clock : Clock p u → u ≡ time p
       clock (at-header l z) = absurd (no-place kind p channel sample l refl refl refl refl (a .placed))
@@ -158,10 +159,7 @@ module _ (kind : Kind) (card : ℕ) where
   bins-from (HitCount a b c ∷ xs) p lo h s = tt
   bins-from (Sample v ∷ xs) p lo h s = tt
   bins-from (Bin b n ∷ xs) p lo h s =
-      let v = and-left (leb b 4095 && leb 1 n && ltb n 4294967296) true (s .0 .valued) in
-      let w = and-left (leb b 4095 && leb 1 n) (ltb n 4294967296) v in
-      let l : b ≤ 4095 = leb-true b 4095 (and-left (leb b 4095) (leb 1 n) w) in
-      let m : 1 ≤ n = leb-true 1 n (and-right (leb b 4095) (leb 1 n) w) in (
+      let (l, m, _) = allowed-limits kind card p (Bin b n) (s .0) in (
         h b (s .0 .ordered),
         omega arith,
         λ z. omega arith,

@@ -7,15 +7,16 @@ use mathlib.Core.List.{List, [], _∷_}
 use mathlib.Core.Logic.{_↔_}
 use mathlib.Core.Bool.{Bool, true, false, _&&_}
 use native.Mathlib.Omega.{arith}
-use lib.Dec.{leb, ltb, eqb}
+use lib.Dec.{leb, ltb}
 use lib.ListN.{length}
-use borrow.Author.Tests.{leb-true, leb-false, eqb-true, le-leb, lt-leb, eq-eqb, ltb-true, ltb-false}
+use borrow.Author.Tests.{leb-true, leb-false, le-leb, lt-leb, eq-eqb, ltb-true, ltb-false}
 use Rattle.format.specs.Words.{pick}
 use Rattle.format.specs.Book.{Class, channel, histogram, sample, bin, timeBin, startEvent, endEvent}
 use Rattle.format.specs.Items.{Item, Channel, Histogram, HitCount, Sample, Bin, LastCell, TimeBin, Text, StartEvent, EndEvent, classFor, three, wordsOf, inRange, key}
 use Rattle.format.specs.Rules.{Kind, dataKind, monitorKind, commandKind, same, since, count, has, latest, total, gather, channelKey, histogramKey, binNumber, above, inEvent, time, Where, outside, inside, afterChannel, afterTime, afterSample, unheaded, headed, within, whereAfter, allowed, among, place, eventSize, value, order}
 use Rattle.format.specs.Frames.{Allowed}
-use Rattle.format.proofs.PrefixLaws.{and-left, and-both}
+use Rattle.format.proofs.PrefixLaws.{and-both}
+use Rattle.format.proofs.LimitLaws.{limits}
 
 -- ---- the states and the moves
 
@@ -168,9 +169,6 @@ module _ (card : ℕ) where
   body-allowed st p m n x (free _ _) l e f v o = record { placed = at-place dataKind p inside (classFor x) (l .stands) e; valued = v; ordered = o }
   body-allowed st p m n x (past _ _ t) l e f v o = record { placed = at-place dataKind p afterSample (classFor x) (l .0 .stands) f; valued = v; ordered = o }
 
-  pub card-of : (a : ℕ) (x y z : Bool) → eqb a card && x && y && z ≡ true → a ≡ card
-  card-of a x y z e = eqb-true a card (and-left (eqb a card) x (and-left (eqb a card && x) y (and-left (eqb a card && x && y) z e)))
-
   -- a header is above those before it exactly where its content is one that may come next
   header-order : (a b c m : ℕ) (ks : List ℕ) → a ≡ card → above (key card b c) ks ≡ leb m (three card b c) → (above (key a b c) ks ≡ true) ↔ (m ≤ three a b c)
   header-order a b c m ks e k =
@@ -265,7 +263,7 @@ module _ (card : ℕ) where
       (body-allowed st p m n (LastCell a b) d l refl refl (and-both _ _ r refl) refl, stays card p m n (LastCell a b) refl refl refl refl (body-event st p m n d l))
   moved p st st′ x l r (opens _ m n a b c d h) =
       let i = body-event st p m n d l in
-      let e = card-of a (leb a 31) (leb b 3) (leb c 78) r in (
+      let e = limits card (Channel a b c) .0 r .0 in (
         body-allowed st p m n (Channel a b c) d l refl refl (and-both _ _ r refl) (channel-order p m n a b c i e .1 h),
         (after-channel p m n a b c e h i, refl),
       )
@@ -293,7 +291,7 @@ module _ (card : ℕ) where
     (stays card p m n (TimeBin u) refl refl refl refl (l .0 .event), time-bin p u),
   )
   moved p st st′ x l r (heads a b c) =
-      let e = card-of a (leb a 31) (leb b 3) (leb c 78) r in
+      let e = limits card (Histogram a b c) .0 r .0 in
       let k = empty-keys p l in (
         record {
           placed = at-place monitorKind p unheaded histogram (ap (λ (p : List Item). whereAfter monitorKind p) l) refl;
@@ -303,7 +301,7 @@ module _ (card : ℕ) where
         after-histogram p 0 a b c e (omega arith) (empty-shut p l) k,
       )
   moved p st st′ x l r (heads-next m k a b c h) =
-      let e = card-of a (leb a 31) (leb b 3) (leb c 78) r in (
+      let e = limits card (Histogram a b c) .0 r .0 in (
         record {
           placed = at-place monitorKind p headed histogram (l .stands) refl;
           valued = and-both _ _ r refl;
