@@ -13,7 +13,7 @@ use borrow.Author.Tests.{leb-true, leb-false, le-leb, lt-leb, eq-eqb, ltb-true, 
 use Rattle.format.specs.Words.{pick}
 use Rattle.format.specs.Book.{Class, channel, histogram, sample, bin, timeBin, startEvent, endEvent}
 use Rattle.format.specs.Items.{Item, Channel, Histogram, HitCount, Sample, Bin, LastCell, TimeBin, Text, StartEvent, EndEvent, classFor, three, wordsOf, inRange, key}
-use Rattle.format.specs.Rules.{Kind, dataKind, monitorKind, commandKind, same, since, count, has, latest, total, gather, channelKey, histogramKey, binNumber, above, inEvent, time, Where, outside, inside, afterChannel, afterTime, afterSample, unheaded, headed, within, whereAfter, allowed, among, place, eventSize, value, order}
+use Rattle.format.specs.Rules.{Kind, dataKind, monitorKind, commandKind, same, since, before, count, has, latest, total, gather, channelKey, histogramKey, binNumber, above, inEvent, time, lastTime, Where, outside, inside, afterChannel, afterTime, afterSample, unheaded, headed, within, whereAfter, allowed, among, place, eventSize, value, order}
 use Rattle.format.specs.Frames.{Allowed}
 use Rattle.format.proofs.PrefixLaws.{and-both}
 use Rattle.format.proofs.LimitLaws.{limits}
@@ -96,7 +96,7 @@ Leaves card p out = inEvent p ≡ false
 Leaves card p (amid m n) = Left card p m n inside
 Leaves card p (opened m n) = Left card p m n afterChannel × (has sample (since channel p) ≡ false)
 Leaves card p (timed m n t) = Left card p m n afterTime × (time p ≡ t)
-Leaves card p (sampled m n t) = Left card p m n afterSample × (time p ≡ t) × (has sample (since channel p) ≡ true)
+Leaves card p (sampled m n t) = Left card p m n afterSample × (time p ≡ t) × (has sample (since channel p) ≡ true) × (lastTime p + 1 ≡ t)
 Leaves card p empty = p ≡ []
 Leaves card p (filling m k) = Filled card p m k
 Leaves card p texts = inEvent p ≡ false
@@ -108,8 +108,8 @@ sample-order p v = (leb-true (time p) 511, le-leb (time p) 511)
 first-bin-order : (p : List Item) (t : ℕ) → has sample (since channel p) ≡ false → order p (TimeBin t) ≡ true
 first-bin-order p t e = rw e
 
-pub next-bin-order : (p : List Item) (t : ℕ) → has sample (since channel p) ≡ true → (order p (TimeBin t) ≡ true) ↔ (time p + 1 ≤ t)
-next-bin-order p t e = (λ o. leb-true (time p + 1) t (rw e at o), λ h. rw e (le-leb (time p + 1) t h))
+pub next-bin-order : (p : List Item) (t u : ℕ) → has sample (since channel p) ≡ true → lastTime p + 1 ≡ t → (order p (TimeBin u) ≡ true) ↔ (t + 1 ≤ u)
+next-bin-order p t u e f = (λ o. omega (arith, leb-true _ u (rw e at o)), λ h. rw e (le-leb _ u (omega arith)))
 
 -- an item that is no End event leaves an event open, and one that is no Start event leaves it shut
 still-open : (p : List Item) (x : Item) → same endEvent (classFor x) ≡ false → inEvent p ≡ true → inEvent (x ∷ p) ≡ true
@@ -247,6 +247,11 @@ module _ (card : ℕ) where
   unfolding since count gather
   time-sample p t v e = omega arith
 
+  -- and the last one's
+  last-sample : (p : List Item) (t v : ℕ) → time p ≡ t → lastTime (Sample v ∷ p) + 1 ≡ t + 1
+  unfolding before
+  last-sample p t v e = omega arith
+
   has-sample : (p : List Item) (v : ℕ) → has sample (since channel (Sample v ∷ p)) ≡ true
   unfolding since count
   has-sample p v = le-leb 1 (1 + count sample (since channel p)) (omega arith)
@@ -276,17 +281,17 @@ module _ (card : ℕ) where
   )
   moved p st st′ x l r (first m n t v h) = (
     record { placed = at-place dataKind p afterTime sample (l .0 .stands) refl; valued = and-both _ _ r refl; ordered = sample-order p v .1 (omega (arith, l .1)) },
-    (stays card p m n (Sample v) refl refl refl refl (l .0 .event), time-sample p t v (l .1), has-sample p v),
+    (stays card p m n (Sample v) refl refl refl refl (l .0 .event), time-sample p t v (l .1), has-sample p v, last-sample p t v (l .1)),
   )
   moved p st st′ x l r (next m n t v h) = (
     record { placed = at-place dataKind p afterSample sample (l .0 .stands) refl; valued = and-both _ _ r refl; ordered = sample-order p v .1 (omega (arith, l .1)) },
-    (stays card p m n (Sample v) refl refl refl refl (l .0 .event), time-sample p t v (l .1), has-sample p v),
+    (stays card p m n (Sample v) refl refl refl refl (l .0 .event), time-sample p t v (l .1), has-sample p v, last-sample p t v (l .1)),
   )
   moved p st st′ x l r (later m n t u h) = (
     record {
       placed = at-place dataKind p afterSample timeBin (l .0 .stands) refl;
       valued = and-both _ _ r refl;
-      ordered = next-bin-order p u (l .2) .1 (omega (arith, l .1));
+      ordered = next-bin-order p t u (l .2) (l .3) .1 h;
     },
     (stays card p m n (TimeBin u) refl refl refl refl (l .0 .event), time-bin p u),
   )

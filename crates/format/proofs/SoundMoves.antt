@@ -11,7 +11,7 @@ use borrow.Author.Tests.{leb-true, eqb-true, not-true}
 use Rattle.format.specs.Words.{pick}
 use Rattle.format.specs.Book.{Class, channel, hitCount, sample, lastCell, timeBin, endEvent}
 use Rattle.format.specs.Items.{Item, Channel, Histogram, EndEvent, classFor, three, inRange}
-use Rattle.format.specs.Rules.{Kind, dataKind, monitorKind, commandKind, since, has, latest, time, Where, outside, inside, afterChannel, afterTime, afterSample, unheaded, headed, commands, within, whereAfter, allowed, among, place, mayEnd, eventSize, sized, value, order}
+use Rattle.format.specs.Rules.{Kind, dataKind, monitorKind, commandKind, since, has, latest, time, lastTime, Where, outside, inside, afterChannel, afterTime, afterSample, unheaded, headed, commands, within, whereAfter, allowed, among, place, mayEnd, eventSize, sized, value, order}
 use Rattle.format.specs.Frames.{behind, Allowed, Sound}
 use Rattle.format.specs.Tree.{Limited}
 use Rattle.format.proofs.PrefixLaws.{and-left, and-right}
@@ -52,13 +52,12 @@ module _ (card : ℕ) where
   timed-move p m n t x e o (inl (isSample v)) = let h = sample-order p v .0 o in (sampled m (n + 1) (t + 1), first m n t v (omega arith))
   timed-move p m n t x e o (inr h) = absurd h
 
-  sampled-move : (p : List Item) (m n t : ℕ) (x : Item) → time p ≡ t → has sample (since channel p) ≡ true → order p x ≡ true → OneOf (sample ∷ timeBin ∷ []) x
+  sampled-move : (p : List Item) (m n t : ℕ) (x : Item) → time p ≡ t → lastTime p + 1 ≡ t → has sample (since channel p) ≡ true → order p x ≡ true → OneOf (sample ∷ timeBin ∷ []) x
       → Moved (sampled m n t) x
-  sampled-move p m n t x e s o (inl (isSample v)) = let h = sample-order p v .0 o in (sampled m (n + 1) (t + 1), next m n t v (omega arith))
-  sampled-move p m n t x e s o (inr (inl (isTimeBin u))) =
-      let h = next-bin-order p u s .0 o in
-      (timed m (n + 1) u, later m n t u (omega arith))
-  sampled-move p m n t x e s o (inr (inr h)) = absurd h
+  sampled-move p m n t x e f s o (inl (isSample v)) = let h = sample-order p v .0 o in (sampled m (n + 1) (t + 1), next m n t v (omega arith))
+  sampled-move p m n t x e f s o (inr (inl (isTimeBin u))) =
+      (timed m (n + 1) u, later m n t u (next-bin-order p t u s f .0 o))
+  sampled-move p m n t x e f s o (inr (inr h)) = absurd h
 
   empty-move : (x : Item) → OneOf (allowed unheaded) x → Moved empty x
   empty-move x (inl (isHistogram a b c)) = (filling (suc (three a b c)) 0, heads a b c)
@@ -86,7 +85,7 @@ module _ (card : ℕ) where
   move-of p (timed m n t) x l a = timed-move p m n t x (l .1) (a .ordered) (in-place dataKind p afterTime x (l .0 .stands) (a .placed))
   move-of p (sampled m n t) x l a =
       body-move (sampled m n t) p m n x (sample ∷ timeBin ∷ []) (past m n t) (l .0 .event) (a .valued) (a .ordered)
-      (in-place dataKind p afterSample x (l .0 .stands) (a .placed)) (sampled-move p m n t x (l .1) (l .2) (a .ordered))
+      (in-place dataKind p afterSample x (l .0 .stands) (a .placed)) (sampled-move p m n t x (l .1) (l .3) (l .2) (a .ordered))
   move-of p empty x l a = empty-move x (in-place monitorKind p unheaded x (ap (λ (p : List Item). whereAfter monitorKind p) l) (a .placed))
   move-of p (filling m k) x l a = filling-move p m k x l (a .valued) (a .ordered) (in-place monitorKind p headed x (l .stands) (a .placed))
   move-of p texts x l a = texts-move x (in-place commandKind p commands x refl (a .placed))
