@@ -144,8 +144,8 @@ pub figures-read : tokens 0 figureWords ≡ map (λ (x : Item). whole x) figures
 figures-read = figure.figures-read
 
 -- T36. "The ranges of card, chip, channel and the rest belong to their item classes and are named there once." The crate `book` has each limit
--- as a constant of its item; the numeral here is the one of `inRange` (specs/Items), written apart from it. The promise of the item's `valid`
--- says that the two agree; a text's bytes are judged by the function that adds them.
+-- as a constant of its item; the numeral here is the one of `inRange` (specs/Items), written apart from it, and once more in `Limits` (specs/Tree).
+-- The promise of the item's `valid` says that constant and numeral agree; a text's bytes are judged by the function that adds them.
 --
 --   limit                          constant of the code                                            numeral of `inRange`
 --   card                           Channel, Histogram, HitCount ::LAST_CARD                        31

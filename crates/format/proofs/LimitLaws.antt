@@ -88,19 +88,13 @@ pub allowed-limits : (kind : Kind) (card : ℕ) (p : List Item) (x : Item) → A
 allowed-limits kind card p x a = limits card x .0 (and-left (inRange card x) (sized p x) (a .valued))
 
 -- an item within its limits fits its fields
+header-fits : (a b c : ℕ) → a ≤ 31 → b ≤ 3 → c ≤ 127 → leb a 31 && leb b 3 && leb c 127 ≡ true
+header-fits a b c p q r = three (most a 31) (most b 3) (most c 127) .1 (p, q, r)
+
 pub range-fits : (card : ℕ) (x : Item) → inRange card x ≡ true → fits x ≡ true
-range-fits card (Channel a b c) e =
-    let h = limits card (Channel a b c) .0 e in
-    let i : c ≤ 127 = omega (arith, h .3) in
-    three (most _ _) (most _ _) (most _ _) .1 (h .1, h .2, i)
-range-fits card (Histogram a b c) e =
-    let h = limits card (Histogram a b c) .0 e in
-    let i : c ≤ 127 = omega (arith, h .3) in
-    three (most _ _) (most _ _) (most _ _) .1 (h .1, h .2, i)
-range-fits card (HitCount a b c) e =
-    let h = limits card (HitCount a b c) .0 e in
-    let i : c ≤ 127 = omega (arith, h .3) in
-    three (most _ _) (most _ _) (most _ _) .1 (h .1, h .2, i)
+range-fits card (Channel a b c) e = let h = limits card (Channel a b c) .0 e in header-fits a b c (h .1) (h .2) (omega (arith, h .3))
+range-fits card (Histogram a b c) e = let h = limits card (Histogram a b c) .0 e in header-fits a b c (h .1) (h .2) (omega (arith, h .3))
+range-fits card (HitCount a b c) e = let h = limits card (HitCount a b c) .0 e in header-fits a b c (h .1) (h .2) (omega (arith, h .3))
 range-fits card (Sample v) e = e
 range-fits card (Bin b n) e = let h = limits card (Bin b n) .0 e in two (most _ _) (below _ _) .1 (h .0, h .2)
 range-fits card (LastCell a b) e = e
