@@ -3,12 +3,12 @@
 use Prim.Native.Nat.{ℕ, _+_}
 use mathlib.Core.Path.{_≡_, refl, sym, ap, ap₂, _∙_}
 use mathlib.Core.List.{List, [], _∷_, _++_, map}
-use mathlib.Core.Bool.{Bool, true, false, not, _&&_, _||_}
+use mathlib.Core.Bool.{Bool, true, false, not, _&&_}
 use lib.ListN.{length}
 use Rattle.format.specs.Words.{pick}
-use Rattle.format.specs.Book.{Class, histogram, bin}
+use Rattle.format.specs.Book.{Class}
 use Rattle.format.specs.Items.{Item, Channel, Histogram, HitCount, Sample, Bin, LastCell, TimeBin, Text, StartEvent, EndEvent, classFor, wordsOf, inRange}
-use Rattle.format.specs.Rules.{Kind, dataKind, monitorKind, commandKind, same, since, count, latest, total, gather, channelKey, histogramKey, binNumber, startTime, inEvent, within, allowed, among, outside, headed, unheaded, place, mayEnd, sized, order}
+use Rattle.format.specs.Rules.{Kind, dataKind, monitorKind, commandKind, same, since, before, count, latest, total, gather, channelKey, histogramKey, binNumber, startTime, inEvent, place, mayEnd, sized, order}
 use Rattle.format.specs.Frames.{behind, Allowed, Sound}
 use Rattle.format.specs.Spots.{withValue}
 use Rattle.format.proofs.PrefixLaws.{and-right, and-both}
@@ -54,6 +54,15 @@ since-bare c (x ∷ p) =
     (ap₂ (λ (d : Class) (r : List Item). pick (same c d) [] r) (same-class x 0) (since-bare c p) ∙ go (same c (classFor x)))
   where
     go : (b : Bool) → pick b [] (bares (since c p)) ≡ bares (pick b [] (since c p))
+    go true = refl
+    go false = refl
+
+before-bare : (c : Class) (p : List Item) → before c (bares p) ≡ bares (before c p)
+unfolding before
+before-bare c [] = refl
+before-bare c (x ∷ p) = ap₂ (λ (d : Class) (r : List Item). pick (same c d) (bares p) r) (same-class x 0) (before-bare c p) ∙ go (same c (classFor x))
+  where
+    go : (b : Bool) → pick b (bares p) (bares (before c p)) ≡ bares (pick b p (before c p))
     go true = refl
     go false = refl
 
@@ -123,7 +132,7 @@ order-bare (HitCount a b c) p = refl
 order-bare (Sample v) p = simp (since-bare, count-bare, times-bare)
 order-bare (Bin b n) p = simp (since-bare, bins-bare)
 order-bare (LastCell a b) p = refl
-order-bare (TimeBin t) p = simp (since-bare, count-bare, times-bare)
+order-bare (TimeBin t) p = simp (since-bare, before-bare, count-bare, times-bare)
 order-bare (Text s) p = refl
 order-bare (StartEvent t ts n) p = refl
 order-bare (EndEvent n) p = refl

@@ -11,6 +11,7 @@ use lib.ListN.{length, getD, take, drop}
 use Rattle.format.specs.Prefix.{Row, matches, find, prefixFree}
 use Rattle.format.specs.Book.{Class, unassigned, book, classOf, after, assigned, printed}
 use Rattle.format.specs.Items.{Item, classFor, three, wordsOf, fits, inRange, whole, tokenOf, tokens, key}
+use Rattle.format.specs.Tree.{Limits}
 use Rattle.format.proofs.BookFigures as figure
 use Rattle.format.proofs.BookFigures.{figures, figureWords}
 use Rattle.format.proofs.PrefixLaws as prefix
@@ -26,6 +27,7 @@ use Rattle.format.proofs.ItemLaws as item
 use Rattle.format.proofs.ItemLaws.{Read}
 use Rattle.format.proofs.WrittenLaws as written
 use Rattle.format.proofs.WrittenLaws.{content, rowFor, firstWord, laterWords}
+use Rattle.format.proofs.LimitLaws as limit
 use Rattle.format.proofs.KeyLaws as keys
 
 -- T1. "a word's type is a prefix of varying length, tried shortest first": for ANY table in which no prefix begins another, and any kind of class.
@@ -116,9 +118,14 @@ item-injective = written.words-injective
 pub item-prefix-free : (x y : Item) (a b : List ℕ) → fits x ≡ true → fits y ≡ true → wordsOf x ++ a ≡ wordsOf y ++ b → (x ≡ y) × (a ≡ b)
 item-prefix-free = written.words-prefix-free
 
+-- The value rules that look at an item and the frame's card alone: "Card equals the frame's card; channel at most 78; hit count at most 79; bin count
+-- at least 1", and no content too wide for its field. The test and the tree's limits, each with numerals of its own, say the same.
+pub item-limits : (card : ℕ) (x : Item) → (inRange card x ≡ true) ↔ Limits card x
+item-limits = limit.limits
+
 -- An item that the value rules let pass fits its fields: all of this holds of it.
 pub item-in-range : (card : ℕ) (x : Item) → inRange card x ≡ true → fits x ≡ true
-item-in-range = written.range-fits
+item-in-range = limit.range-fits
 
 -- "The words after an item are data": those that an item has taken are not read again.
 pub item-data : (k : ℕ) (ws : List ℕ) → tokens k ws ≡ tokens 0 (drop k ws)
@@ -137,8 +144,8 @@ pub figures-read : tokens 0 figureWords ≡ map (λ (x : Item). whole x) figures
 figures-read = figure.figures-read
 
 -- T36. "The ranges of card, chip, channel and the rest belong to their item classes and are named there once." The crate `book` has each limit
--- as a constant of its item; the numeral here is the one of `inRange` (specs/Items), written apart from it. The promise of the item's `valid`
--- says that the two agree; a text's bytes are judged by the function that adds them.
+-- as a constant of its item; the numeral here is the one of `inRange` (specs/Items), written apart from it, and once more in `Limits` (specs/Tree).
+-- The promise of the item's `valid` says that constant and numeral agree; a text's bytes are judged by the function that adds them.
 --
 --   limit                          constant of the code                                            numeral of `inRange`
 --   card                           Channel, Histogram, HitCount ::LAST_CARD                        31

@@ -37,7 +37,7 @@ refused-exactly = refusals.refusals
 pub one-answer : (s : List ℕ) → Bytes s → refusals.Answered s
 one-answer = refusals.answered
 
--- the rules are those of the grammar written as a tree, which is unique (T6b): a second writing guards the first
+-- the rules are those of the grammar written as a tree with limits of its own, which is unique (T6b): a second writing guards the first
 pub rules-as-tree : (kind : Kind) (card : ℕ) (xs : List Item) → (Sound kind card [] xs × (mayEnd (behind [] xs) ≡ true)) ↔ tree.TreeOf kind card xs
 rules-as-tree = tree.as-tree
 

@@ -1,27 +1,26 @@
--- What the tests of a frame decide: which of rules 1 to 5 is broken first, which of 6 to 10 at one item, and where the walk over the items stops.
+-- What the tests of a frame decide: which of rules 1 to 5 is broken first, and which of 6 to 10 at one item.
 -- Assumes nothing.
-use Prim.Native.Nat.{ℕ, zero, suc, _+_, _-_, _/_, _%_, _<_, _≤_}
-use mathlib.Core.Path.{_≡_, refl, sym, ap, ap₂, _∙_}
-use mathlib.Core.List.{List, [], _∷_, _++_, append-assoc}
+use Prim.Native.Nat.{ℕ, suc, _+_, _-_, _*_, _/_, _%_, _<_, _≤_}
+use mathlib.Core.Path.{_≡_, refl, sym, ap, _∙_}
+use mathlib.Core.List.{List, _∷_, _++_}
 use mathlib.Core.Bool.{Bool, true, false, _&&_, true≢false}
 use mathlib.Core.Option.{Option, none, some}
 use native.Mathlib.Omega.{arith}
 use lib.Dec.{T, leb, eqb}
-use lib.ListN.{length, getD, take, drop, length-append, length-drop, take-append-drop}
-use lib.Seq.{drop-cons}
+use lib.ListN.{length, getD, take, drop, length-drop, take-append-drop}
+use lib.Seq.{drop-cons, getD-take, length-take-le}
 use borrow.Author.Tests.{leb-true, leb-false, eqb-true, eqb-false}
-use Rattle.format.specs.Words.{Bytes, wordAt}
-use Rattle.format.specs.Answers.{Outcome, refused}
+use Rattle.format.specs.Words.{Bytes, words, wordAt}
 use Rattle.format.specs.Book.{Class, channel, histogram, hitCount, sample, bin, lastCell, timeBin, dataFrame, monitorFrame, commandFrame, text, startEvent, endEvent, frameEnd, unassigned, classOf, after, assigned}
 use Rattle.format.specs.Items.{Item, classFor, wordsOf, fits, inRange, decode, Token, whole, broken, tokenFor, tokenOf, tokens}
-use Rattle.format.specs.Rules.{Kind, place, sized, value, order, Checked, good, bad, check}
-use Rattle.format.specs.Frames.{behind, Allowed, Sound, allWords, isStart, lengthFits, startFits, lastOf, headFault, kindIn, cardIn, front, walk}
+use Rattle.format.specs.Rules.{place, sized, value, order, bad, check}
+use Rattle.format.specs.Frames.{Allowed, isStart, lengthFits, startFits, lastOf, headFault, kindIn, cardIn}
 use Rattle.format.specs.Faults.{HeadBroken, odd, under, over, noStart, otherVersion, otherSize, highSequence, noEnd, afterAt, wordsAt, ItemBroken, noClass, cut, misplaced, misvalued, disordered, First}
 use Rattle.format.proofs.PrefixLaws.{and-left, and-right}
-use Rattle.format.proofs.WordLaws.{below-drop}
-use Rattle.format.proofs.ItemLaws.{tokens-skip, read-written, written-read}
-use Rattle.format.proofs.WalkLaws.{range-fits, allowed-fits, passed, passes, walk-good, walk-bad, not-whole}
-use Rattle.format.proofs.HeadLaws.{front-word, length-front, front-below}
+use Rattle.format.proofs.WordLaws.{length-words, word-at, words-below, below-take, below-drop}
+use Rattle.format.proofs.PartLaws.{part-take}
+use Rattle.format.proofs.ItemLaws.{read-written, Read, written-read}
+use Rattle.format.proofs.LimitLaws.{range-fits}
 
 -- of two first numbers neither is below the other
 pub one-first : (Broken : ℕ → Type 0) (m n : ℕ) → First Broken m → First Broken n → m ≡ n
@@ -33,7 +32,7 @@ one-first Broken m n f g = go (leb m n) refl (leb n m) refl
     go false e c h = absurd (f .earlier n (omega (arith, leb-false)) (g .broken))
 
 -- a rule from the one in question on is not asked
-no : {A : Type 0} {m n : ℕ} → T (leb n m) → m < n → A
+pub no : {A : Type 0} {m n : ℕ} → T (leb n m) → m < n → A
 no {A} {m} {n} t l = go (leb n m) refl t
   where
     go : (b : Bool) → leb n m ≡ b → T b → A
@@ -154,185 +153,130 @@ token-of w ws x f e =
     first-token : (t u : Token) (ts us : List Token) → t ∷ ts ≡ u ∷ us → t ≡ u
     first-token t u ts us e = cc
 
-pub item-number : (s : List ℕ) (q : List Item) (p m : ℕ) → ItemBroken s q p m → (6 ≤ m) × (m ≤ 10)
-item-number s q p m (noClass e) = (omega arith, omega arith)
-item-number s q p m (cut e) = (omega arith, omega arith)
-item-number s q p m (misplaced e) = (omega arith, omega arith)
-item-number s q p m (misvalued e) = (omega arith, omega arith)
-item-number s q p m (disordered x e f g) = (omega arith, omega arith)
+pub item-number : (s : List ℕ) (end : ℕ) (q : List Item) (p m : ℕ) → ItemBroken s end q p m → (6 ≤ m) × (m ≤ 10)
+item-number s end q p m (noClass e) = (omega arith, omega arith)
+item-number s end q p m (cut e) = (omega arith, omega arith)
+item-number s end q p m (misplaced e) = (omega arith, omega arith)
+item-number s end q p m (misvalued e) = (omega arith, omega arith)
+item-number s end q p m (disordered x e f g) = (omega arith, omega arith)
 
--- the words after word p, up to the last one
-abbrev pub left : List ℕ → ℕ → List ℕ
-left s p = drop (suc p) (front s)
+-- the words before word `end`, and those of them after word p
+abbrev pub upTo : List ℕ → ℕ → List ℕ
+upTo s end = take end (words s)
 
-pub from-word : (s : List ℕ) (p : ℕ) → p < lastOf s → drop p (front s) ≡ wordAt s p ∷ left s p
-from-word s p l = drop-cons (front s) p 0 (omega (arith, length-front s)) ∙ ap (λ (w : ℕ). w ∷ left s p) (front-word s p l)
+abbrev pub left : List ℕ → ℕ → ℕ → List ℕ
+left s end p = drop (suc p) (upTo s end)
 
-pub data ItemJudged (s : List ℕ) (q : List Item) (p : ℕ) : Type 0 where
-  fine : (x : Item) → tokenOf (wordAt s p) (left s p) ≡ whole x → Allowed (kindIn s) (cardIn s) q x → ((m : ℕ) → ItemBroken s q p m → ⊥) → ItemJudged s q p
-  faulty : (n : ℕ) → check (kindIn s) (cardIn s) q (tokenOf (wordAt s p) (left s p)) ≡ bad n → First (ItemBroken s q p) n → ItemJudged s q p
+pub up-to-length : (s : List ℕ) (end : ℕ) → 2 * end ≤ length s → length (upTo s end) ≡ end
+up-to-length s end h = length-take-le end (words s) (omega (arith, length-words s))
 
-module _ (s : List ℕ) (bs : Bytes s) (q : List Item) (p : ℕ) (l : p < lastOf s) where
+pub up-to-below : (s : List ℕ) (end : ℕ) → Bytes s → (i : ℕ) → getD (upTo s end) i 0 < 65536
+up-to-below s end bs = below-take end (words s) 65536 (omega arith) (words-below s bs)
+
+pub from-word : (s : List ℕ) (end p : ℕ) → 2 * end ≤ length s → p < end → drop p (upTo s end) ≡ wordAt s p ∷ left s end p
+from-word s end p h l =
+    drop-cons (upTo s end) p 0 (omega (arith, up-to-length s end h))
+    ∙ ap (λ (w : ℕ). w ∷ left s end p) (getD-take end (words s) p 0 l ∙ word-at s p)
+
+pub data ItemJudged (s : List ℕ) (end : ℕ) (q : List Item) (p : ℕ) : Type 0 where
+  fine : (x : Item) → tokenOf (wordAt s p) (left s end p) ≡ whole x → Allowed (kindIn s) (cardIn s) q x → ((m : ℕ) → ItemBroken s end q p m → ⊥) → ItemJudged s end q p
+  faulty : (n : ℕ) → check (kindIn s) (cardIn s) q (tokenOf (wordAt s p) (left s end p)) ≡ bad n → First (ItemBroken s end q p) n → ItemJudged s end q p
+
+module _ (s : List ℕ) (bs : Bytes s) (end : ℕ) (enough : 2 * end ≤ length s) (q : List Item) (p : ℕ) (l : p < end) where
+  -- the words of an item that is not cut
+  these : p + afterAt s p < end → take (suc (afterAt s p)) (wordAt s p ∷ left s end p) ≡ wordsAt s p
+  these r = ap (take (suc (afterAt s p))) (sym (from-word s end p enough l)) ∙ part-take (suc (afterAt s p)) p end (words s) (omega arith)
+
   -- an item in these words whose value rules hold is the one that is read
-  the-token : (x : Item) → wordsAt s p ≡ wordsOf x → value (cardIn s) q x ≡ true → tokenOf (wordAt s p) (left s p) ≡ whole x
-  the-token x e v =
-      token-of (wordAt s p) (left s p) x (range-fits (cardIn s) x (and-left (inRange (cardIn s) x) (sized q x) v))
-      (ap (take (suc (afterAt s p))) (sym (from-word s p l)) ∙ e)
+  the-token : p + afterAt s p < end → (x : Item) → wordsAt s p ≡ wordsOf x → value (cardIn s) q x ≡ true → tokenOf (wordAt s p) (left s end p) ≡ whole x
+  the-token r x e v =
+      token-of (wordAt s p) (left s end p) x (range-fits (cardIn s) x (and-left (inRange (cardIn s) x) (sized q x) v)) (these r ∙ e)
 
-  read-token : (x : Item) → tokenOf (wordAt s p) (left s p) ≡ whole x → (wordsAt s p ≡ wordsOf x) × (classFor x ≡ classOf (wordAt s p))
-  read-token x e =
-      let r = written-read (wordAt s p) (left s p) x (below-drop (suc p) (front s) 65536 (front-below s bs)) e in
-      (ap (take (suc (afterAt s p))) (from-word s p l) ∙ r .words, r .class)
+  read-item : (x : Item) → tokenOf (wordAt s p) (left s end p) ≡ whole x → Read (wordAt s p) (take (afterAt s p) (left s end p)) x
+  read-item x e = written-read (wordAt s p) (left s end p) x (below-drop (suc p) (upTo s end) 65536 (up-to-below s end bs)) e
+
+  read-words : p + afterAt s p < end → (x : Item) → tokenOf (wordAt s p) (left s end p) ≡ whole x → wordsAt s p ≡ wordsOf x
+  read-words r x e = sym (these r) ∙ read-item x e .words
 
   -- where the tests below n hold, no rule below n is broken
-  item-holds : (n : ℕ) → (6 < n → assigned (classOf (wordAt s p)) ≡ true) → (7 < n → p + afterAt s p < lastOf s)
+  item-holds : (n : ℕ) → (6 < n → assigned (classOf (wordAt s p)) ≡ true) → (7 < n → p + afterAt s p < end)
       → (8 < n → place (kindIn s) q (classOf (wordAt s p)) ≡ true)
-      → (9 < n → (x : Item) × (tokenOf (wordAt s p) (left s p) ≡ whole x) × (value (cardIn s) q x ≡ true))
-      → (10 < n → (x : Item) × (tokenOf (wordAt s p) (left s p) ≡ whole x) × (order q x ≡ true))
-      → (m : ℕ) → m < n → ItemBroken s q p m → ⊥
+      → (9 < n → (x : Item) × (tokenOf (wordAt s p) (left s end p) ≡ whole x) × (value (cardIn s) q x ≡ true))
+      → (10 < n → (x : Item) × (tokenOf (wordAt s p) (left s end p) ≡ whole x) × (order q x ≡ true))
+      → (m : ℕ) → m < n → ItemBroken s end q p m → ⊥
   item-holds n a b c d e m h (noClass f) = true≢false (sym (a h) ∙ ap assigned f)
   item-holds n a b c d e m h (cut f) = let g = b h in omega arith
   item-holds n a b c d e m h (misplaced f) = true≢false (sym (c h) ∙ f)
-  item-holds n a b c d e m h (misvalued f) = let (x, t, v) = d h in f x (read-token x t .0) v
+  item-holds n a b c d e m h (misvalued f) = let (x, t, v) = d h in f x (read-words (b (omega arith)) x t) v
   item-holds n a b c d e m h (disordered x f v o) =
       let (y, t, g) = e h in
-      true≢false (sym g ∙ ap (order q) (whole-item y x (sym t ∙ the-token x f v)) ∙ o)
+      true≢false (sym g ∙ ap (order q) (whole-item y x (sym t ∙ the-token (b (omega arith)) x f v)) ∙ o)
 
-  room : length (left s p) ≡ lastOf s - suc p
-  room = length-drop (suc p) (front s) ∙ ap (λ (n : ℕ). n - suc p) (length-front s)
+  room : length (left s end p) ≡ end - suc p
+  room = length-drop (suc p) (upTo s end) ∙ ap (λ (n : ℕ). n - suc p) (up-to-length s end enough)
 
   -- an item that is whole and stands in its place
-  module _ (a : assigned (classOf (wordAt s p)) ≡ true) (r : p + afterAt s p < lastOf s) (pl : place (kindIn s) q (classOf (wordAt s p)) ≡ true) where
-    whole-judged : (x : Item) → tokenOf (wordAt s p) (left s p) ≡ whole x → ItemJudged s q p
+  module _ (a : assigned (classOf (wordAt s p)) ≡ true) (r : p + afterAt s p < end) (pl : place (kindIn s) q (classOf (wordAt s p)) ≡ true) where
+    whole-judged : (x : Item) → tokenOf (wordAt s p) (left s end p) ≡ whole x → ItemJudged s end q p
     unfolding check
     whole-judged x t = by-value (value (cardIn s) q x) refl (order q x) refl
       where
         placed : place (kindIn s) q (classFor x) ≡ true
-        placed = ap (place (kindIn s) q) (read-token x t .1) ∙ pl
+        placed = ap (place (kindIn s) q) (read-item x t .class) ∙ pl
 
-        by-value : (b : Bool) → value (cardIn s) q x ≡ b → (d : Bool) → order q x ≡ d → ItemJudged s q p
+        by-value : (b : Bool) → value (cardIn s) q x ≡ b → (d : Bool) → order q x ≡ d → ItemJudged s end q p
         by-value true v true o =
             fine x t (record { placed = placed; valued = v; ordered = o })
-            (λ m b. let h = item-number s q p m b .1 in item-holds 11 (λ l. a) (λ l. r) (λ l. pl) (λ l. (x, t, v)) (λ l. (x, t, o)) m (omega arith) b)
+            (λ m b. let h = item-number s end q p m b .1 in item-holds 11 (λ l. a) (λ l. r) (λ l. pl) (λ l. (x, t, v)) (λ l. (x, t, o)) m (omega arith) b)
         by-value true v false o =
             faulty 10 (rw (t, placed, v, o))
-            (record { broken = disordered x (read-token x t .0) v o; earlier = item-holds 10 (λ l. a) (λ l. r) (λ l. pl) (λ l. (x, t, v)) (no tt) })
+            (record { broken = disordered x (read-words r x t) v o; earlier = item-holds 10 (λ l. a) (λ l. r) (λ l. pl) (λ l. (x, t, v)) (no tt) })
         by-value false v d o =
             faulty 9 (rw (t, placed, v))
             (record {
-              broken = misvalued (λ y e g. true≢false (sym g ∙ ap (value (cardIn s) q) (whole-item y x (sym (the-token y e g) ∙ t)) ∙ v));
+              broken = misvalued (λ y e g. true≢false (sym g ∙ ap (value (cardIn s) q) (whole-item y x (sym (the-token r y e g) ∙ t)) ∙ v));
               earlier = item-holds 9 (λ l. a) (λ l. r) (λ l. pl) (no tt) (no tt);
             })
 
     -- words in their place that are no item's
-    broken-judged : tokenOf (wordAt s p) (left s p) ≡ broken (classOf (wordAt s p)) → ItemJudged s q p
+    broken-judged : tokenOf (wordAt s p) (left s end p) ≡ broken (classOf (wordAt s p)) → ItemJudged s end q p
     unfolding check
     broken-judged t =
         faulty 9 (rw (t, pl))
         (record {
-          broken = misvalued (λ y e g. no-whole (classOf (wordAt s p)) y (sym t ∙ the-token y e g));
+          broken = misvalued (λ y e g. no-whole (classOf (wordAt s p)) y (sym t ∙ the-token r y e g));
           earlier = item-holds 9 (λ l. a) (λ l. r) (λ l. pl) (no tt) (no tt);
         })
 
   -- words out of their place
-  misplaced-check : (o : Option Item) → tokenOf (wordAt s p) (left s p) ≡ tokenFor (classOf (wordAt s p)) o → place (kindIn s) q (classOf (wordAt s p)) ≡ false
-      → check (kindIn s) (cardIn s) q (tokenOf (wordAt s p) (left s p)) ≡ bad 8
+  misplaced-check : (o : Option Item) → tokenOf (wordAt s p) (left s end p) ≡ tokenFor (classOf (wordAt s p)) o → place (kindIn s) q (classOf (wordAt s p)) ≡ false
+      → check (kindIn s) (cardIn s) q (tokenOf (wordAt s p) (left s end p)) ≡ bad 8
   unfolding check
   misplaced-check none t e = rw (t, e)
-  misplaced-check (some x) t e = rw (t, ap (place (kindIn s) q) (read-token x t .1) ∙ e)
+  misplaced-check (some x) t e = rw (t, ap (place (kindIn s) q) (read-item x t .class) ∙ e)
 
   -- the tests' answer is the first broken rule, or no rule is broken
-  pub item-judged : ItemJudged s q p
+  pub item-judged : ItemJudged s end q p
   unfolding tokenOf check
-  item-judged = by-class (assigned (classOf (wordAt s p))) refl (leb (afterAt s p) (length (left s p))) refl
+  item-judged = by-class (assigned (classOf (wordAt s p))) refl (leb (afterAt s p) (length (left s end p))) refl
     where
-      by-place : (o : Option Item) → tokenOf (wordAt s p) (left s p) ≡ tokenFor (classOf (wordAt s p)) o → assigned (classOf (wordAt s p)) ≡ true
-          → p + afterAt s p < lastOf s → (b : Bool) → place (kindIn s) q (classOf (wordAt s p)) ≡ b → ItemJudged s q p
+      by-place : (o : Option Item) → tokenOf (wordAt s p) (left s end p) ≡ tokenFor (classOf (wordAt s p)) o → assigned (classOf (wordAt s p)) ≡ true
+          → p + afterAt s p < end → (b : Bool) → place (kindIn s) q (classOf (wordAt s p)) ≡ b → ItemJudged s end q p
       by-place none t a r true e = broken-judged a r e t
       by-place (some x) t a r true e = whole-judged a r e x t
       by-place o t a r false e =
           faulty 8 (misplaced-check o t e)
           (record { broken = misplaced e; earlier = item-holds 8 (λ l. a) (λ l. r) (no tt) (no tt) (no tt) })
 
-      by-class : (b : Bool) → assigned (classOf (wordAt s p)) ≡ b → (d : Bool) → leb (afterAt s p) (length (left s p)) ≡ d → ItemJudged s q p
+      by-class : (b : Bool) → assigned (classOf (wordAt s p)) ≡ b → (d : Bool) → leb (afterAt s p) (length (left s end p)) ≡ d → ItemJudged s end q p
       by-class false a d r =
           faulty 6 (rw a)
           (record { broken = noClass (none-of _ a); earlier = item-holds 6 (no tt) (no tt) (no tt) (no tt) (no tt) })
       by-class true a false r =
-          let h : length (left s p) < afterAt s p = leb-false (afterAt s p) (length (left s p)) r in
+          let h : length (left s end p) < afterAt s p = leb-false (afterAt s p) (length (left s end p)) r in
           faulty 7 (rw (a, r))
           (record { broken = cut (omega (arith, room)); earlier = item-holds 7 (λ l. a) (no tt) (no tt) (no tt) (no tt) })
       by-class true a true r =
-          let h : afterAt s p ≤ length (left s p) = leb-true (afterAt s p) (length (left s p)) r in
-          by-place (decode (classOf (wordAt s p)) (wordAt s p) (take (afterAt s p) (left s p))) (rw (a, r)) a (omega (arith, room))
+          let h : afterAt s p ≤ length (left s end p) = leb-true (afterAt s p) (length (left s end p)) r in
+          by-place (decode (classOf (wordAt s p)) (wordAt s p) (take (afterAt s p) (left s end p))) (rw (a, r)) a (omega (arith, room))
           (place (kindIn s) q (classOf (wordAt s p))) refl
-
--- ---- where the walk stops
-
-module _ (kind : Kind) (card : ℕ) where
-  -- over the words of a sound list it goes on with what comes after them
-  pub walk-over : (xs : List Item) (q : List Item) (at : ℕ) (rest : List ℕ) → Sound kind card q xs
-      → walk kind card q at (tokens 0 (allWords xs ++ rest)) ≡ walk kind card (behind q xs) (at + length (allWords xs)) (tokens 0 rest)
-  unfolding Sound allWords behind
-  walk-over [] q at rest s = ap (λ (n : ℕ). walk kind card q n (tokens 0 rest)) (omega arith)
-  walk-over (x ∷ xs) q at rest s =
-      ap (λ (l : List ℕ). walk kind card q at (tokens 0 l)) (append-assoc (wordsOf x) (allWords xs) rest)
-      ∙ ap (walk kind card q at) (read-written x (allWords xs ++ rest) (allowed-fits kind card q x (s .0)))
-      ∙ walk-good kind card q (x ∷ q) at (whole x) (tokens 0 (allWords xs ++ rest)) (passes kind card q x (s .0))
-      ∙ walk-over xs (x ∷ q) (at + length (wordsOf x)) rest (s .1)
-      ∙ ap (λ (n : ℕ). walk kind card (behind (x ∷ q) xs) n (tokens 0 rest)) (omega (arith, length-append (wordsOf x) (allWords xs)))
-
-  -- and it stops at the first item that does not pass
-  pub record Stopped (q : List Item) (at : ℕ) (ws : List ℕ) (n p : ℕ) : Type 0 where
-    pub items : List Item
-    pub sound : Sound kind card q items
-    pub word : ℕ
-    pub rest : List ℕ
-    pub written : ws ≡ allWords items ++ (word ∷ rest)
-    pub reach : p ≡ at + length (allWords items)
-    pub checked : check kind card (behind q items) (tokenOf word rest) ≡ bad n
-
-  refused-number : (n p m r : ℕ) → _≡_ {A = Outcome (List Item)} (refused n p) (refused m r) → (n ≡ m) × (p ≡ r)
-  refused-number n p m r e = (cc, cc)
-
-  pub walk-stops : (k : ℕ) (q : List Item) (at : ℕ) (ws : List ℕ) (n p : ℕ) → length ws ≤ k → ((i : ℕ) → getD ws i 0 < 65536)
-      → walk kind card q at (tokens 0 ws) ≡ refused n p → Stopped q at ws n p
-  unfolding tokens Sound allWords behind walk
-  walk-stops zero q at [] n p l b e = let z : _≡_ {A = ℕ} 0 1 = cc in absurd (omega arith)
-  walk-stops zero q at (w ∷ ws) n p l b e = absurd (omega arith)
-  walk-stops (suc k) q at [] n p l b e = let z : _≡_ {A = ℕ} 0 1 = cc in absurd (omega arith)
-  walk-stops (suc k) q at (w ∷ ws) n p l b e =
-      go (check kind card q (tokenOf w ws)) refl
-      (λ x r. walk-stops k (x ∷ q) (at + length (wordsOf x)) (drop (after (classOf w) w) ws) n p (omega (arith, shorter (after (classOf w) w) ws))
-      (below-drop (after (classOf w) w) ws 65536 (λ i. b (suc i))) r)
-    where
-      shorter : (k : ℕ) (l : List ℕ) → length (drop k l) ≤ length l
-      shorter zero l = omega arith
-      shorter (suc k) [] = omega arith
-      shorter (suc k) (x ∷ l) = omega (arith, shorter k l)
-
-      go : (c : Checked (List Item)) → check kind card q (tokenOf w ws) ≡ c
-          → ((x : Item) → walk kind card (x ∷ q) (at + length (wordsOf x)) (tokens 0 (drop (after (classOf w) w) ws)) ≡ refused n p
-          → Stopped (x ∷ q) (at + length (wordsOf x)) (drop (after (classOf w) w) ws) n p)
-          → Stopped q at (w ∷ ws) n p
-      go (bad m) f h =
-          let (i, j) = refused-number m at n p (sym (walk-bad kind card q m at (tokenOf w ws) (tokens (after (classOf w) w) ws) f) ∙ e) in
-          record { items = []; sound = tt; word = w; rest = ws; written = refl; reach = omega arith; checked = f ∙ ap bad i }
-      go (good r) f h =
-          let (x, t) = not-whole kind card q (tokenOf w ws) r f in
-          let (a, g) = passed kind card q x r (ap (check kind card q) (sym t) ∙ f) in
-          let d = written-read w ws x (λ i. b (suc i)) t in
-          let s = h x (sym (walk-good kind card q (x ∷ q) at (whole x) (tokens 0 (drop (after (classOf w) w) ws)) (passes kind card q x a))
-          ∙ ap₂ (λ (t : Token) (ts : List Token). walk kind card q at (t ∷ ts)) (sym t) (sym (tokens-skip (after (classOf w) w) ws)) ∙ e) in
-          record {
-            items = x ∷ s .items;
-            sound = (a, s .sound);
-            word = s .word;
-            rest = s .rest;
-            written =
-                ap (λ (l : List ℕ). w ∷ l) (sym (take-append-drop (after (classOf w) w) ws))
-                ∙ ap₂ _++_ (d .words) (s .written)
-                ∙ sym (append-assoc (wordsOf x) (allWords (s .items)) (s .word ∷ s .rest));
-            reach = s .reach ∙ omega (arith, length-append (wordsOf x) (allWords (s .items)));
-            checked = s .checked;
-          }

@@ -4,18 +4,19 @@
 use Prim.Native.Nat.{ℕ, suc, _+_, _<_, _≤_}
 use mathlib.Core.Path.{_≡_, refl, sym, ap, _∙_}
 use mathlib.Core.List.{List, [], _∷_}
-use mathlib.Core.Bool.{Bool, true, false, _&&_, _||_, true≢false}
+use mathlib.Core.Bool.{Bool, true, false, _||_, true≢false}
 use native.Mathlib.Omega.{arith}
-use lib.Dec.{leb, ltb}
+use lib.Dec.{ltb}
 use lib.ListN.{set}
 use borrow.Author.Tests.{leb-true, le-leb, ltb-true}
 use Rattle.format.specs.Words.{pick}
 use Rattle.format.specs.Book.{Class, channel, histogram, sample, bin, timeBin, text, startEvent}
 use Rattle.format.specs.Items.{Item, Channel, Histogram, HitCount, Sample, Bin, LastCell, TimeBin, Text, StartEvent, EndEvent}
-use Rattle.format.specs.Rules.{Kind, dataKind, monitorKind, commandKind, same, since, count, has, latest, gather, binNumber, above, time, within, outside, allowed, among, place, inEvent}
+use Rattle.format.specs.Rules.{Kind, dataKind, monitorKind, commandKind, same, since, before, count, has, latest, gather, binNumber, above, time, lastTime, within, outside, allowed, among, place, inEvent}
 use Rattle.format.specs.Frames.{Allowed, Sound}
 use Rattle.format.specs.Questions.{fillSamples, fillCounts}
-use Rattle.format.proofs.PrefixLaws.{and-left, and-right}
+use Rattle.format.proofs.LimitLaws.{allowed-limits}
+use Rattle.format.proofs.PrefixLaws.{and-left}
 use Rattle.format.proofs.SoundLaws.{monitor-place}
 use Rattle.format.proofs.MarkLaws.{Mark, setAll, Rise, rise-lower}
 
@@ -95,11 +96,11 @@ no-place commandKind p c d e f g h t i = true≢false (sym i ∙ t)
 data Clock (p : List Item) (u : ℕ) : Type 0 where
   at-header : latest p ≡ channel → u ≡ 0 → Clock p u
   at-time : latest p ≡ timeBin → u ≡ time p → Clock p u
-  at-sample : latest p ≡ sample → has sample (since channel p) ≡ true → u ≡ time p → Clock p u
+  at-sample : latest p ≡ sample → has sample (since channel p) ≡ true → u ≡ time p → u ≡ lastTime p + 1 → Clock p u
 
 tick : (p : List Item) (v u : ℕ) → u ≡ time p → Clock (Sample v ∷ p) (suc u)
-unfolding gather count since
-tick p v u e = at-sample refl (le-leb 1 (1 + count sample (since channel p)) (omega arith)) (omega arith)
+unfolding gather count since before
+tick p v u e = at-sample refl (le-leb 1 (1 + count sample (since channel p)) (omega arith)) (omega arith) (omega arith)
 
 begin : (p : List Item) (t : ℕ) → Clock (TimeBin t ∷ p) t
 unfolding gather count since
@@ -114,18 +115,18 @@ module _ (kind : Kind) (card : ℕ) where
   at-clock p v u k a =
       let e = clock k in
       let o : time p ≤ 511 = leb-true (time p) 511 (a .ordered) in
-      (e, omega arith, blank-sample v (leb-true v 4095 (and-left (leb v 4095) true (a .valued))))
+      (e, omega arith, blank-sample v (allowed-limits kind card p (Sample v) a))
     where
       clock : Clock p u → u ≡ time p
       clock (at-header l z) = absurd (no-place kind p channel sample l refl refl refl refl (a .placed))
       clock (at-time l e) = e
-      clock (at-sample l h e) = e
+      clock (at-sample l h e f) = e
 
   -- a Time bin is not before the clock
   not-before : (p : List Item) (t u : ℕ) → Clock p u → Allowed kind card p (TimeBin t) → u ≤ t
   not-before p t u (at-header l z) a = omega arith
   not-before p t u (at-time l e) a = absurd (no-place kind p timeBin timeBin l refl refl refl refl (a .placed))
-  not-before p t u (at-sample l h e) a = let o : time p + 1 ≤ t = leb-true (time p + 1) t (rw h at (a .ordered)) in omega arith
+  not-before p t u (at-sample l h e f) a = omega (arith, leb-true _ t (rw h at (a .ordered)))
 
   -- "each further sample one later, none after 511. A later Time bin in a channel is at least 2 above the last sample's time"
   times-rise : (xs p : List Item) (u : ℕ) → Clock p u → Sound kind card p xs → Rise u 512 0xFFFF (sampleMarks u xs)
@@ -158,10 +159,7 @@ module _ (kind : Kind) (card : ℕ) where
   bins-from (HitCount a b c ∷ xs) p lo h s = tt
   bins-from (Sample v ∷ xs) p lo h s = tt
   bins-from (Bin b n ∷ xs) p lo h s =
-      let v = and-left (leb b 4095 && leb 1 n && ltb n 4294967296) true (s .0 .valued) in
-      let w = and-left (leb b 4095 && leb 1 n) (ltb n 4294967296) v in
-      let l : b ≤ 4095 = leb-true b 4095 (and-left (leb b 4095) (leb 1 n) w) in
-      let m : 1 ≤ n = leb-true 1 n (and-right (leb b 4095) (leb 1 n) w) in (
+      let (l, m, _) = allowed-limits kind card p (Bin b n) (s .0) in (
         h b (s .0 .ordered),
         omega arith,
         λ z. omega arith,

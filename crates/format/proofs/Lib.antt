@@ -7,6 +7,7 @@ pub mod Unassigned
 pub mod WordLaws
 pub mod TextLaws
 pub mod ItemLaws
+pub mod LimitLaws
 pub mod KeyLaws
 pub mod WalkLaws
 pub mod HeadLaws

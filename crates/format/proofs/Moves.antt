@@ -7,15 +7,16 @@ use mathlib.Core.List.{List, [], _∷_}
 use mathlib.Core.Logic.{_↔_}
 use mathlib.Core.Bool.{Bool, true, false, _&&_}
 use native.Mathlib.Omega.{arith}
-use lib.Dec.{leb, ltb, eqb}
+use lib.Dec.{leb, ltb}
 use lib.ListN.{length}
-use borrow.Author.Tests.{leb-true, leb-false, eqb-true, le-leb, lt-leb, eq-eqb, ltb-true, ltb-false}
+use borrow.Author.Tests.{leb-true, leb-false, le-leb, lt-leb, eq-eqb, ltb-true, ltb-false}
 use Rattle.format.specs.Words.{pick}
 use Rattle.format.specs.Book.{Class, channel, histogram, sample, bin, timeBin, startEvent, endEvent}
 use Rattle.format.specs.Items.{Item, Channel, Histogram, HitCount, Sample, Bin, LastCell, TimeBin, Text, StartEvent, EndEvent, classFor, three, wordsOf, inRange, key}
-use Rattle.format.specs.Rules.{Kind, dataKind, monitorKind, commandKind, same, since, count, has, latest, total, gather, channelKey, histogramKey, binNumber, above, inEvent, time, Where, outside, inside, afterChannel, afterTime, afterSample, unheaded, headed, within, whereAfter, allowed, among, place, eventSize, value, order}
+use Rattle.format.specs.Rules.{Kind, dataKind, monitorKind, commandKind, same, since, before, count, has, latest, total, gather, channelKey, histogramKey, binNumber, above, inEvent, time, lastTime, Where, outside, inside, afterChannel, afterTime, afterSample, unheaded, headed, within, whereAfter, allowed, among, place, eventSize, value, order}
 use Rattle.format.specs.Frames.{Allowed}
-use Rattle.format.proofs.PrefixLaws.{and-left, and-both}
+use Rattle.format.proofs.PrefixLaws.{and-both}
+use Rattle.format.proofs.LimitLaws.{limits}
 
 -- ---- the states and the moves
 
@@ -95,7 +96,7 @@ Leaves card p out = inEvent p ≡ false
 Leaves card p (amid m n) = Left card p m n inside
 Leaves card p (opened m n) = Left card p m n afterChannel × (has sample (since channel p) ≡ false)
 Leaves card p (timed m n t) = Left card p m n afterTime × (time p ≡ t)
-Leaves card p (sampled m n t) = Left card p m n afterSample × (time p ≡ t) × (has sample (since channel p) ≡ true)
+Leaves card p (sampled m n t) = Left card p m n afterSample × (time p ≡ t) × (has sample (since channel p) ≡ true) × (lastTime p + 1 ≡ t)
 Leaves card p empty = p ≡ []
 Leaves card p (filling m k) = Filled card p m k
 Leaves card p texts = inEvent p ≡ false
@@ -107,8 +108,8 @@ sample-order p v = (leb-true (time p) 511, le-leb (time p) 511)
 first-bin-order : (p : List Item) (t : ℕ) → has sample (since channel p) ≡ false → order p (TimeBin t) ≡ true
 first-bin-order p t e = rw e
 
-pub next-bin-order : (p : List Item) (t : ℕ) → has sample (since channel p) ≡ true → (order p (TimeBin t) ≡ true) ↔ (time p + 1 ≤ t)
-next-bin-order p t e = (λ o. leb-true (time p + 1) t (rw e at o), λ h. rw e (le-leb (time p + 1) t h))
+pub next-bin-order : (p : List Item) (t u : ℕ) → has sample (since channel p) ≡ true → lastTime p + 1 ≡ t → (order p (TimeBin u) ≡ true) ↔ (t + 1 ≤ u)
+next-bin-order p t u e f = (λ o. omega (arith, leb-true _ u (rw e at o)), λ h. rw e (le-leb _ u (omega arith)))
 
 -- an item that is no End event leaves an event open, and one that is no Start event leaves it shut
 still-open : (p : List Item) (x : Item) → same endEvent (classFor x) ≡ false → inEvent p ≡ true → inEvent (x ∷ p) ≡ true
@@ -167,9 +168,6 @@ module _ (card : ℕ) where
       → value card p x ≡ true → order p x ≡ true → Allowed (kindFor st) card p x
   body-allowed st p m n x (free _ _) l e f v o = record { placed = at-place dataKind p inside (classFor x) (l .stands) e; valued = v; ordered = o }
   body-allowed st p m n x (past _ _ t) l e f v o = record { placed = at-place dataKind p afterSample (classFor x) (l .0 .stands) f; valued = v; ordered = o }
-
-  pub card-of : (a : ℕ) (x y z : Bool) → eqb a card && x && y && z ≡ true → a ≡ card
-  card-of a x y z e = eqb-true a card (and-left (eqb a card) x (and-left (eqb a card && x) y (and-left (eqb a card && x && y) z e)))
 
   -- a header is above those before it exactly where its content is one that may come next
   header-order : (a b c m : ℕ) (ks : List ℕ) → a ≡ card → above (key card b c) ks ≡ leb m (three card b c) → (above (key a b c) ks ≡ true) ↔ (m ≤ three a b c)
@@ -249,6 +247,11 @@ module _ (card : ℕ) where
   unfolding since count gather
   time-sample p t v e = omega arith
 
+  -- and the last one's
+  last-sample : (p : List Item) (t v : ℕ) → time p ≡ t → lastTime (Sample v ∷ p) + 1 ≡ t + 1
+  unfolding before
+  last-sample p t v e = omega arith
+
   has-sample : (p : List Item) (v : ℕ) → has sample (since channel (Sample v ∷ p)) ≡ true
   unfolding since count
   has-sample p v = le-leb 1 (1 + count sample (since channel p)) (omega arith)
@@ -265,7 +268,7 @@ module _ (card : ℕ) where
       (body-allowed st p m n (LastCell a b) d l refl refl (and-both _ _ r refl) refl, stays card p m n (LastCell a b) refl refl refl refl (body-event st p m n d l))
   moved p st st′ x l r (opens _ m n a b c d h) =
       let i = body-event st p m n d l in
-      let e = card-of a (leb a 31) (leb b 3) (leb c 78) r in (
+      let e = limits card (Channel a b c) .0 r .0 in (
         body-allowed st p m n (Channel a b c) d l refl refl (and-both _ _ r refl) (channel-order p m n a b c i e .1 h),
         (after-channel p m n a b c e h i, refl),
       )
@@ -278,22 +281,22 @@ module _ (card : ℕ) where
   )
   moved p st st′ x l r (first m n t v h) = (
     record { placed = at-place dataKind p afterTime sample (l .0 .stands) refl; valued = and-both _ _ r refl; ordered = sample-order p v .1 (omega (arith, l .1)) },
-    (stays card p m n (Sample v) refl refl refl refl (l .0 .event), time-sample p t v (l .1), has-sample p v),
+    (stays card p m n (Sample v) refl refl refl refl (l .0 .event), time-sample p t v (l .1), has-sample p v, last-sample p t v (l .1)),
   )
   moved p st st′ x l r (next m n t v h) = (
     record { placed = at-place dataKind p afterSample sample (l .0 .stands) refl; valued = and-both _ _ r refl; ordered = sample-order p v .1 (omega (arith, l .1)) },
-    (stays card p m n (Sample v) refl refl refl refl (l .0 .event), time-sample p t v (l .1), has-sample p v),
+    (stays card p m n (Sample v) refl refl refl refl (l .0 .event), time-sample p t v (l .1), has-sample p v, last-sample p t v (l .1)),
   )
   moved p st st′ x l r (later m n t u h) = (
     record {
       placed = at-place dataKind p afterSample timeBin (l .0 .stands) refl;
       valued = and-both _ _ r refl;
-      ordered = next-bin-order p u (l .2) .1 (omega (arith, l .1));
+      ordered = next-bin-order p t u (l .2) (l .3) .1 h;
     },
     (stays card p m n (TimeBin u) refl refl refl refl (l .0 .event), time-bin p u),
   )
   moved p st st′ x l r (heads a b c) =
-      let e = card-of a (leb a 31) (leb b 3) (leb c 78) r in
+      let e = limits card (Histogram a b c) .0 r .0 in
       let k = empty-keys p l in (
         record {
           placed = at-place monitorKind p unheaded histogram (ap (λ (p : List Item). whereAfter monitorKind p) l) refl;
@@ -303,7 +306,7 @@ module _ (card : ℕ) where
         after-histogram p 0 a b c e (omega arith) (empty-shut p l) k,
       )
   moved p st st′ x l r (heads-next m k a b c h) =
-      let e = card-of a (leb a 31) (leb b 3) (leb c 78) r in (
+      let e = limits card (Histogram a b c) .0 r .0 in (
         record {
           placed = at-place monitorKind p headed histogram (l .stands) refl;
           valued = and-both _ _ r refl;

@@ -9,16 +9,18 @@ use mathlib.Core.Bool.{Bool, true, false}
 use native.Mathlib.Omega.{arith}
 use lib.Dec.{ltb}
 use lib.ListN.{length, length-append}
-use borrow.Author.Tests.{leb-true, le-leb, lt-ltb, eq-eqb}
+use borrow.Author.Tests.{le-leb, lt-ltb, eq-eqb}
 use Rattle.format.specs.Words.{Bytes}
 use Rattle.format.specs.Answers.{accepted}
 use Rattle.format.specs.Book.{Class, startEvent, endEvent}
-use Rattle.format.specs.Items.{Item, Channel, Histogram, HitCount, Sample, Bin, LastCell, TimeBin, Text, StartEvent, EndEvent, classFor, wordsOf, inRange}
-use Rattle.format.specs.Rules.{Kind, dataKind, monitorKind, commandKind, same, since, count, total, gather, inEvent, time, among, allowed, latest, within, mayEnd, eventSize, sized}
+use Rattle.format.specs.Items.{Item, Channel, Histogram, HitCount, Sample, Bin, LastCell, TimeBin, Text, StartEvent, EndEvent, classFor, wordsOf}
+use Rattle.format.specs.Rules.{Kind, dataKind, monitorKind, commandKind, same, since, count, total, gather, inEvent, time, among, allowed, latest, within, mayEnd, eventSize}
 use Rattle.format.specs.Frames.{behind, Allowed, Sound, allWords}
 use Rattle.format.specs.Writing.{Partial, partialVerdict}
+use Rattle.format.specs.Tree.{Limits}
 use Rattle.format.specs.WriterCases.{Ends}
-use Rattle.format.proofs.PrefixLaws.{and-left, and-both}
+use Rattle.format.proofs.LimitLaws.{allowed-limits}
+use Rattle.format.proofs.PrefixLaws.{and-both}
 use Rattle.format.proofs.WordLaws.{pick-elim}
 use Rattle.format.proofs.Acceptance.{in-order}
 use Rattle.format.proofs.PartialLaws.{partial-sound, begun-length}
@@ -58,10 +60,10 @@ unopened kind d card xs s = tally-zero (inEvent (behind [] xs)) (omega (arith, b
 
 -- ---- the continuation inside an event
 
--- the latest item is in range
+-- the latest item is within its limits
 ranged : ℕ → List Item → Type 0
 ranged card [] = Unit {0}
-ranged card (x ∷ p) = inRange card x ≡ true
+ranged card (x ∷ p) = Limits card x
 
 module _ (card : ℕ) where
   Continued : List Item → Type 0
@@ -130,7 +132,7 @@ module _ (card : ℕ) where
   continued (Sample v ∷ p) r e b = at-once _ e refl (omega arith)
   continued (Bin x y ∷ p) r e b = at-once _ e refl (omega arith)
   continued (LastCell x y ∷ p) r e b = at-once _ e refl (omega arith)
-  continued (TimeBin t ∷ p) r e b = after-time t p (leb-true t 511 r) e (omega arith)
+  continued (TimeBin t ∷ p) r e b = after-time t p r e (omega arith)
   continued (Text s ∷ p) r e b = at-once _ e refl (omega arith)
   continued (StartEvent x y z ∷ p) r e b = at-once _ e refl (omega arith)
   continued (EndEvent n ∷ p) r e b = at-once _ e refl (omega arith)
@@ -145,7 +147,7 @@ as-it-stands kind card xs s e =
 
 in-range : (card : ℕ) (xs : List Item) → Sound dataKind card [] xs → ranged card (behind [] xs)
 unfolding ranged
-in-range card xs s = sound-keeps dataKind card (ranged card) (λ p x h a. and-left (inRange card x) (sized p x) (a .valued)) [] xs tt s
+in-range card xs s = sound-keeps dataKind card (ranged card) (λ p x h a. allowed-limits dataKind card p x a) [] xs tt s
 
 ends : (kind : Kind) (card : ℕ) (xs : List Item) → Sound kind card [] xs → length (allWords xs) ≤ 4092 → Ends kind card xs
 unfolding Continued

@@ -1,15 +1,13 @@
 -- A part of the words of some bytes is a part of the bytes, twice as long and twice as far in.
 -- Assumes nothing.
-use Prim.Native.Nat.{ℕ, zero, suc, _+_, _-_, _*_, _/_, _%_, _<_, _≤_}
-use mathlib.Core.Path.{_≡_, refl, sym, ap, ap₂, _∙_}
+use Prim.Native.Nat.{ℕ, zero, suc, _+_, _*_, _<_, _≤_}
+use mathlib.Core.Path.{_≡_, refl, ap, ap₂, _∙_}
 use mathlib.Core.List.{List, [], _∷_}
 use native.Mathlib.Omega.{arith}
-use lib.ListN.{length, getD, take, drop}
-use lib.Seq.{take-take}
+use lib.ListN.{length, take, drop}
+use lib.Seq.{take-take, take-nil}
 use Rattle.format.specs.Words.{Bytes, words, bytes}
-
-twice : (i : ℕ) → 2 * suc i ≡ suc (suc (2 * i))
-twice i = omega arith
+use Rattle.format.proofs.WordLaws.{twice}
 
 pub bytes-part : (s : List ℕ) (p m : ℕ) → Bytes s → 2 * (p + m) ≤ length s → bytes (take m (drop p (words s))) ≡ take (2 * m) (drop (2 * p) s)
 unfolding bytes words
@@ -21,6 +19,14 @@ bytes-part (a ∷ b ∷ s) zero (suc m) bs h =
     let hb : b < 256 = bs 1 in
     rw (twice m) (ap₂ _∷_ (omega arith) (ap₂ _∷_ (omega arith) (bytes-part s zero m (λ i. bs (suc (suc i))) (omega arith))))
 bytes-part (a ∷ b ∷ s) (suc p) (suc m) bs h = rw (twice p) (bytes-part s p (suc m) (λ i. bs (suc (suc i))) (omega arith))
+
+-- the first words of some bytes are the words of their first bytes
+pub take-words : (k : ℕ) (s : List ℕ) → take k (words s) ≡ words (take (2 * k) s)
+unfolding words
+take-words zero s = refl
+take-words (suc k) [] = rw (twice k)
+take-words (suc k) (a ∷ []) = rw (twice k) (ap (λ (l : List ℕ). a ∷ l) (take-nil k))
+take-words (suc k) (a ∷ b ∷ s) = rw (twice k) (ap (λ (l : List ℕ). (a + 256 * b) ∷ l) (take-words k s))
 
 pub part-take : (m p q : ℕ) (l : List ℕ) → p + m ≤ q → take m (drop p (take q l)) ≡ take m (drop p l)
 part-take m zero q l h = take-take m q l (omega arith)

@@ -1,24 +1,24 @@
 -- From the walk to the verdict on a partial frame; and `add` and `close` by the state that the verdict carries.
 -- Assumes nothing.
-use Prim.Native.Nat.{ℕ, zero, suc, _+_, _*_, _/_, _%_, _<_, _≤_}
-use mathlib.Core.Path.{_≡_, refl, sym, ap, ap₂, _∙_}
-use mathlib.Core.List.{List, [], _∷_}
+use Prim.Native.Nat.{ℕ, _+_, _*_, _/_, _%_, _<_, _≤_}
+use mathlib.Core.Path.{_≡_, refl, sym, ap, _∙_}
+use mathlib.Core.List.{List, []}
 use mathlib.Core.Bool.{Bool, true, false}
 use native.Mathlib.Omega.{arith}
 use lib.Dec.{leb, eqb}
 use lib.ListN.{length, take, drop}
-use lib.Seq.{sets, take-nil}
-use borrow.Author.Tests.{leb-true, le-leb, lt-leb, eq-eqb, ne-eqb}
+use lib.Seq.{sets}
+use borrow.Author.Tests.{le-leb, lt-leb, eq-eqb, ne-eqb}
 use Rattle.format.specs.Words.{pick, Bytes, words, wordAt}
 use Rattle.format.specs.Answers.{Outcome, accepted, refused, andThen, leaves}
 use Rattle.format.specs.Items.{Item, Token, tokens}
 use Rattle.format.specs.Rules.{Kind, total, mayEnd, Checked, good, bad, check}
 use Rattle.format.specs.Frames.{allWords, startFits, kindIn, cardIn, walk}
-use Rattle.format.specs.Steps.{St, stateOf, checkBy, endedBy, rest, Summary, summary, summed}
+use Rattle.format.specs.Steps.{stateOf, checkBy, endedBy, rest, Summary, summary, summed}
 use Rattle.format.specs.Writing.{Partial, partialFault, partialBody, partialOf, partialJudged, partialVerdict, tokenBytes, roomFor, addChecked, addAnswer, addLeft, closeAnswer}
-use Rattle.format.specs.WriterCases.{partialLength, PartialHead}
+use Rattle.format.specs.WriterCases.{partialLength}
 use Rattle.format.specs.PartialSteps.{PartialOverview, partialOverview, partialReadOf, Put, putChecked, putAnswer, putLeft}
-use Rattle.format.proofs.WordLaws.{twice}
+use Rattle.format.proofs.PartLaws.{take-words}
 use Rattle.format.proofs.StateLaws.{states, turn}
 use Rattle.format.proofs.JudgeLaws.{may-end}
 use Rattle.format.proofs.PartialLaws.{kept, then-kept, accepted-is, partial-head, measured-of, partial-sound, begun-length}
@@ -50,13 +50,6 @@ module _ (buf : List ℕ) (n : ℕ) where
       head-right z q = rw (l, k, eq-eqb (wordAt buf 1) 0 z, le-leb (wordAt buf 2) 0x0100 q)
 
 -- ---- the walk over the words before word n / 2 is that over the words of the first n bytes
-
-pub take-words : (k : ℕ) (s : List ℕ) → take k (words s) ≡ words (take (2 * k) s)
-unfolding words
-take-words zero s = refl
-take-words (suc k) [] = rw twice
-take-words (suc k) (a ∷ []) = rw twice (ap (λ (l : List ℕ). a ∷ l) (take-nil k))
-take-words (suc k) (a ∷ b ∷ s) = rw twice (ap (λ (l : List ℕ). (a + 256 * b) ∷ l) (take-words k s))
 
 module _ (buf : List ℕ) (n : ℕ) where
   pub fault-refused : (k : ℕ) → k ≡ partialFault buf n → (k ≡ 0 → ⊥) → refused k 0 ≡ partialReadOf buf n

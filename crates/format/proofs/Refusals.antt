@@ -8,25 +8,25 @@ use mathlib.Core.Bool.{Bool, true, false}
 use mathlib.Core.Logic.{_↔_}
 use native.Mathlib.Omega.{arith}
 use borrow.Author.Tests.{ne-eqb, le-leb, lt-ltb}
-use lib.ListN.{length, drop, length-drop}
-use lib.Seq.{drop-at, drop-drop}
-use Rattle.format.specs.Words.{pick, Bytes, words, bytes, wordAt, nonZero, allZero}
+use lib.ListN.{length, drop}
+use Rattle.format.specs.Words.{pick, Bytes, words, bytes, nonZero, allZero}
 use Rattle.format.specs.Answers.{Outcome, accepted, refused, andThen}
 use Rattle.format.specs.Prefix.{find}
-use Rattle.format.specs.Book.{classOf, after}
+use Rattle.format.specs.Book.{classOf}
 use Rattle.format.specs.Items.{Item, Histogram, Bin, wordsOf, decode, Token, whole, tokenOf, tokens}
-use Rattle.format.specs.Rules.{Kind, monitorKind, since, count, total, gather, above, mayEnd, Checked, good, bad, check}
+use Rattle.format.specs.Rules.{Kind, monitorKind, since, count, total, gather, above, mayEnd, check}
 use Rattle.format.specs.Frames.{Frame, behind, Sound, allWords, frameWords, encode, Legal, lastOf, headFault, kindIn, cardIn, front, body, walk, ending, judged, verdict}
 use Rattle.format.specs.Questions.{events, pickNth, eventAt}
 use Rattle.format.specs.Figures.{pedestal}
-use Rattle.format.specs.Faults.{HeadBroken, ItemBroken, First, Refused, ofHead, ofItem, ofEnd}
+use Rattle.format.specs.Faults.{HeadBroken, Refused, ofHead, ofItem, ofEnd}
 use Rattle.format.proofs.PrefixLaws.{and-both}
 use Rattle.format.proofs.WordLaws.{below-drop}
 use Rattle.format.proofs.ItemLaws.{read-written}
-use Rattle.format.proofs.WalkLaws.{walk-sound, walk-complete, walk-bad, passes, allowed-fits}
-use Rattle.format.proofs.HeadLaws.{length-front, front-below}
+use Rattle.format.proofs.WalkLaws.{walk-sound, walk-complete, allowed-fits}
+use Rattle.format.proofs.HeadLaws.{front-below}
 use Rattle.format.proofs.Acceptance.{verdict-of, sound, complete, exactly, in-order}
-use Rattle.format.proofs.FaultLaws.{one-first, HeadJudged, fine, faulty, head-number, head-judged, item-number, left, from-word, ItemJudged, item-judged, walk-over, walk-stops}
+use Rattle.format.proofs.FaultLaws.{one-first, HeadJudged, fine, faulty, head-number, head-judged, item-number}
+use Rattle.format.proofs.WalkFaults.{refused-is, not-refused, walk-refused, walk-refuses}
 
 -- ---- T6: two legal frames that are written as the same bytes are one
 
@@ -38,12 +38,6 @@ one-reading f g l m e = one-accepted f g (sym (complete f l) ∙ ap verdict e �
 
 -- ---- T7: a refusal is given exactly where it is due
 
-the-refusal : (n p m r : ℕ) → _≡_ {A = Outcome Frame} (refused n p) (refused m r) → (n ≡ m) × (p ≡ r)
-the-refusal n p m r e = (cc, cc)
-
-not-refused : {A : Type 0} (f : Frame) (n p : ℕ) → accepted f ≡ refused n p → A
-not-refused f n p e = let z : _≡_ {A = ℕ} 0 1 = cc in absurd (omega arith)
-
 head-refused : (s : List ℕ) (n : ℕ) → headFault s ≡ suc n → verdict s ≡ refused (suc n) 0
 unfolding verdict
 head-refused s n e = rw (e, ne-eqb (suc n) 0 (λ h. omega arith))
@@ -52,54 +46,15 @@ head-passed : (s : List ℕ) → headFault s ≡ 0 → verdict s ≡ judged s
 unfolding verdict
 head-passed s e = rw e
 
-tokens-at : (w : ℕ) (ws : List ℕ) → tokens 0 (w ∷ ws) ≡ tokenOf w ws ∷ tokens (after (classOf w) w) ws
-unfolding tokens
-tokens-at w ws = refl
-
--- a word with the words after it, found by either way
-same-word : (w v : ℕ) (ws vs : List ℕ) → w ∷ ws ≡ v ∷ vs → (w ≡ v) × (ws ≡ vs)
-same-word w v ws vs e = (cc, cc)
-
-no-check : {A : Type 0} (q : List Item) (n : ℕ) → good q ≡ bad n → A
-no-check q n e = let z : _≡_ {A = ℕ} 0 1 = cc in absurd (omega arith)
-
-one-bad : (m n : ℕ) → _≡_ {A = Checked (List Item)} (bad m) (bad n) → m ≡ n
-one-bad m n e = cc
-
 module _ (s : List ℕ) (bs : Bytes s) where
-  -- the word at which the items xs end
-  at-word : (xs : List Item) (p : ℕ) (rest : List ℕ) → p ≡ 3 + length (allWords xs) → drop 3 (front s) ≡ allWords xs ++ rest → drop p (front s) ≡ rest
-  at-word xs p rest r w =
-      ap (λ (n : ℕ). drop n (front s)) r
-      ∙ sym (drop-drop (length (allWords xs)) 3 (front s))
-      ∙ ap (drop (length (allWords xs))) w
-      ∙ drop-at (allWords xs) rest (length (allWords xs)) refl
-
-  -- at one item: the number that the checks give is that of the first broken rule
-  check-first : (q : List Item) (p n : ℕ) → p < lastOf s → check (kindIn s) (cardIn s) q (tokenOf (wordAt s p) (left s p)) ≡ bad n → First (ItemBroken s q p) n
-  check-first q p n l e = go (item-judged s bs q p l)
-    where
-      go : ItemJudged s q p → First (ItemBroken s q p) n
-      go (fine x t a none) = no-check _ n (sym (passes (kindIn s) (cardIn s) q x a) ∙ ap (check (kindIn s) (cardIn s) q) (sym t) ∙ e)
-      go (faulty m c f) = subst (First (ItemBroken s q p)) (one-bad m n (sym c ∙ e)) f
-
-  first-check : (q : List Item) (p n : ℕ) → p < lastOf s → First (ItemBroken s q p) n → check (kindIn s) (cardIn s) q (tokenOf (wordAt s p) (left s p)) ≡ bad n
-  first-check q p n l f = go (item-judged s bs q p l)
-    where
-      go : ItemJudged s q p → check (kindIn s) (cardIn s) q (tokenOf (wordAt s p) (left s p)) ≡ bad n
-      go (fine x t a none) = absurd (none n (f .broken))
-      go (faulty m c g) = c ∙ ap bad (one-first (ItemBroken s q p) m n g f)
+  -- the items end before the last word
+  enough : 2 * lastOf s ≤ length s
+  enough = omega arith
 
   -- a refusal that the walk gives is due
   item-due : (n p : ℕ) → ((m : ℕ) → HeadBroken s m → ⊥) → walk (kindIn s) (cardIn s) [] 3 (body s) ≡ refused n p → Refused s n p
-  item-due n p none e =
-      let h = walk-stops (kindIn s) (cardIn s) (length (drop 3 (front s))) [] 3 (drop 3 (front s)) n p (omega arith) (below-drop 3 (front s) 65536 (front-below s bs)) e in
-      let d : drop p (front s) ≡ h .word ∷ h .rest = at-word (h .items) p (h .word ∷ h .rest) (h .reach) (h .written) in
-      let k : length (drop p (front s)) ≡ suc (length (h .rest)) = ap length d in
-      let l : p < lastOf s = omega (arith, length-drop p (front s), length-front s) in
-      let (i, j) = same-word _ _ _ _ (sym (from-word s p l) ∙ d) in
-      ofItem n (h .items) p none (h .sound) (h .reach) (h .written ∙ ap (λ (r : List ℕ). allWords (h .items) ++ r) (sym d)) l
-      (check-first (behind [] (h .items)) p n l (ap₂ (λ (w : ℕ) (ws : List ℕ). check (kindIn s) (cardIn s) (behind [] (h .items)) (tokenOf w ws)) i j ∙ h .checked))
+  unfolding front
+  item-due n p none e = ofItem n p none (walk-refused s bs (lastOf s) enough n p e)
 
   -- and so is one after the last item
   end-due : (n p : ℕ) (q : List Item) → ((m : ℕ) → HeadBroken s m → ⊥) → walk (kindIn s) (cardIn s) [] 3 (body s) ≡ accepted q → ending s q ≡ refused n p → Refused s n p
@@ -109,7 +64,7 @@ module _ (s : List ℕ) (bs : Bytes s) where
       go true k m g = not-refused k n p g
       go false k m g =
           let w = walk-sound (kindIn s) (cardIn s) (length (drop 3 (front s))) [] 3 (drop 3 (front s)) q (omega arith) (below-drop 3 (front s) 65536 (front-below s bs)) e in
-          let (i, j) = the-refusal 11 (lastOf s) n p g in
+          let (i, j) = refused-is 11 n (lastOf s) p g in
           subst (λ (k : ℕ). Refused s k p) i
           (subst (λ (r : ℕ). Refused s 11 r) j (ofEnd (w .items) none (w .sound) (w .written) (ap mayEnd (sym (w .earlier)) ∙ m)))
 
@@ -119,12 +74,12 @@ module _ (s : List ℕ) (bs : Bytes s) where
     where
       by-walk : ((m : ℕ) → HeadBroken s m → ⊥) → (o : Outcome (List Item)) → walk (kindIn s) (cardIn s) [] 3 (body s) ≡ o → andThen o (ending s) ≡ refused n p → Refused s n p
       by-walk none (accepted q) w f = end-due n p q none w f
-      by-walk none (refused m r) w f = let (i, j) = the-refusal m r n p f in item-due n p none (w ∙ ap₂ refused i j)
+      by-walk none (refused m r) w f = let (i, j) = refused-is m n r p f in item-due n p none (w ∙ ap₂ refused i j)
 
       go : HeadJudged s → Refused s n p
       go (fine h none) = by-walk none (walk (kindIn s) (cardIn s) [] 3 (body s)) refl (sym (head-passed s h) ∙ e)
       go (faulty m h f) =
-          let (i, j) = the-refusal (suc m) 0 n p (sym (head-refused s m h) ∙ e) in
+          let (i, j) = refused-is (suc m) n 0 p (sym (head-refused s m h) ∙ e) in
           subst (λ (r : ℕ). Refused s n r) j (subst (λ (k : ℕ). Refused s k 0) i (ofHead (suc m) f))
 
   -- where the first five rules hold, the verdict is that of the items
@@ -138,21 +93,13 @@ module _ (s : List ℕ) (bs : Bytes s) where
 
   -- a refusal that is due is given
   given : (n p : ℕ) → Refused s n p → verdict s ≡ refused n p
+  unfolding front
   given n p (ofHead k f) = go (head-judged s)
     where
       go : HeadJudged s → verdict s ≡ refused k 0
       go (fine h none) = absurd (none k (f .broken))
       go (faulty m h g) = head-refused s m h ∙ ap (λ (n : ℕ). refused n 0) (one-first (HeadBroken s) (suc m) k g f)
-  given n p (ofItem k xs r none sd reach written inside f) =
-      by-items (refused k r) none
-      (ap (λ (l : List ℕ). walk (kindIn s) (cardIn s) [] 3 (tokens 0 l)) (written ∙ ap (λ (l : List ℕ). allWords xs ++ l) (from-word s r inside))
-      ∙ walk-over (kindIn s) (cardIn s) xs [] 3 (wordAt s r ∷ left s r) sd
-      ∙ stops (behind [] xs) (3 + length (allWords xs)) (first-check (behind [] xs) r k inside f)
-      ∙ ap (refused k) (sym reach))
-    where
-      stops : (q : List Item) (at : ℕ) → check (kindIn s) (cardIn s) q (tokenOf (wordAt s r) (left s r)) ≡ bad k
-          → walk (kindIn s) (cardIn s) q at (tokens 0 (wordAt s r ∷ left s r)) ≡ refused k at
-      stops q at e = ap (walk (kindIn s) (cardIn s) q at) (tokens-at (wordAt s r) (left s r)) ∙ walk-bad (kindIn s) (cardIn s) q k at (tokenOf (wordAt s r) (left s r)) _ e
+  given n p (ofItem k r none f) = by-items (refused k r) none (walk-refuses s bs (lastOf s) enough k r f)
   given n p (ofEnd xs none sd written opened) =
       by-items (accepted (behind [] xs)) none
       (ap (λ (l : List ℕ). walk (kindIn s) (cardIn s) [] 3 (tokens 0 l)) written ∙ walk-complete (kindIn s) (cardIn s) xs [] 3 sd)
@@ -175,9 +122,9 @@ due-placed : (s : List ℕ) (n p : ℕ) → Refused s n p → Placed s n p
 due-placed s n p (ofHead k f) =
     let (a, b) = head-number s k (f .broken) in
     record { least = a; most = omega arith; head = λ h. refl; item = λ h i. absurd (omega arith); last = λ h. absurd (omega arith) }
-due-placed s n p (ofItem k xs r none sd reach written inside f) =
-    let (a, b) = item-number s (behind [] xs) r k (f .broken) in
-    record { least = omega arith; most = omega arith; head = λ h. absurd (omega arith); item = λ h i. (omega arith, inside); last = λ h. absurd (omega arith) }
+due-placed s n p (ofItem k r none f) =
+    let (a, b) = item-number s (lastOf s) (behind [] (f .items)) r k (f .first .broken) in
+    record { least = omega arith; most = omega arith; head = λ h. absurd (omega arith); item = λ h i. (omega (arith, f .begins), f .inside); last = λ h. absurd (omega arith) }
 due-placed s n p (ofEnd xs none sd written opened) =
     record { least = omega arith; most = omega arith; head = λ h. absurd (omega arith); item = λ h i. absurd (omega arith); last = λ h. refl }
 
@@ -201,7 +148,7 @@ answered s bs = go (verdict s) refl
         reads f e l w (λ g m v. one-accepted g f (sym (exactly s bs g .1 (m, v)) ∙ e)) (λ n p r. not-refused f n p (sym e ∙ refusals s bs n p .1 r))
     go (refused n p) e =
         let h = places s bs n p e in
-        refuses n p e (h .least) (h .most) (λ m r d. the-refusal m r n p (sym (refusals s bs m r .1 d) ∙ e)) (λ f l w. not-refused f n p (sym (exactly s bs f .1 (l, w)) ∙ e))
+        refuses n p e (h .least) (h .most) (λ m r d. refused-is m n r p (sym (refusals s bs m r .1 d) ∙ e)) (λ f l w. not-refused f n p (sym (exactly s bs f .1 (l, w)) ∙ e))
 
 -- ---- T9: the words after an item are data
 

@@ -3,16 +3,17 @@
 use Prim.Native.Nat.{ℕ, _<_}
 use mathlib.Core.Path.{_≡_, sym, subst}
 use mathlib.Core.List.{List, [], _∷_, _++_}
-use mathlib.Core.Bool.{Bool, true, _&&_}
+use mathlib.Core.Bool.{Bool, true}
 use native.Mathlib.Omega.{arith}
-use lib.Dec.{leb, ltb, eqb}
-use borrow.Author.Tests.{ltb-true, eqb-true}
+use lib.Dec.{ltb}
+use borrow.Author.Tests.{ltb-true}
 use Rattle.format.specs.Words.{pick}
 use Rattle.format.specs.Book.{Class, startEvent}
 use Rattle.format.specs.Items.{Item, Channel, Histogram, classFor, key}
 use Rattle.format.specs.Rules.{Kind, same, since, count, gather, channelKey, histogramKey, above}
 use Rattle.format.specs.Frames.{Sound, behind}
 use Rattle.format.proofs.PrefixLaws.{and-left, and-right}
+use Rattle.format.proofs.LimitLaws.{allowed-limits}
 use Rattle.format.proofs.SoundLaws.{tally, tally-zero, sound-right, sound-head, sound-tail}
 
 -- whatever is above all of these is above k
@@ -44,15 +45,6 @@ module _ (g : Item → List ℕ) where
   higher-all k p (x ∷ xs) h = higher-all k (x ∷ p) xs (higher-behind k (g x) (gather g p) h)
 
 module _ (kind : Kind) (card : ℕ) where
-  -- the card of a header is the frame's
-  header-card : (a b c n : ℕ) (q : Bool) → eqb a card && leb a 31 && leb b 3 && leb c n && q ≡ true → a ≡ card
-  header-card a b c n q e =
-      eqb-true a card
-      (and-left (eqb a card) (leb a 31)
-      (and-left (eqb a card && leb a 31) (leb b 3)
-      (and-left (eqb a card && leb a 31 && leb b 3) (leb c n)
-      (and-left (eqb a card && leb a 31 && leb b 3 && leb c n) q e))))
-
   -- "Channel headers in one event rise": of two with no Start event between them
   pub channels-rise : (p m r : List Item) (a b c a′ b′ c′ : ℕ) → count startEvent m ≡ 0
       → Sound kind card p (Channel a b c ∷ (m ++ (Channel a′ b′ c′ ∷ r))) → key a b c < key a′ b′ c′
@@ -78,8 +70,8 @@ module _ (kind : Kind) (card : ℕ) where
       let h = sound-head kind card _ _ _ s in
       let t = sound-tail kind card p (Channel a chip c) (m ++ (Channel a′ chip c ∷ r)) s in
       let u = sound-head kind card _ _ _ (sound-right kind card (Channel a chip c ∷ p) m (Channel a′ chip c ∷ r) t) in
-      let i : a ≡ card = header-card a chip c 78 true (h .valued) in
-      let j : a′ ≡ card = header-card a′ chip c 78 true (u .valued) in
+      let i : a ≡ card = allowed-limits kind card _ (Channel a chip c) h .0 in
+      let j : a′ ≡ card = allowed-limits kind card _ (Channel a′ chip c) u .0 in
       omega (arith, channels-rise p m r a chip c a′ chip c n s)
 
   pub one-histogram : (p m r : List Item) (a a′ chip c : ℕ)
@@ -88,6 +80,6 @@ module _ (kind : Kind) (card : ℕ) where
       let h = sound-head kind card _ _ _ s in
       let t = sound-tail kind card p (Histogram a chip c) (m ++ (Histogram a′ chip c ∷ r)) s in
       let u = sound-head kind card _ _ _ (sound-right kind card (Histogram a chip c ∷ p) m (Histogram a′ chip c ∷ r) t) in
-      let i : a ≡ card = header-card a chip c 78 true (h .valued) in
-      let j : a′ ≡ card = header-card a′ chip c 78 true (u .valued) in
+      let i : a ≡ card = allowed-limits kind card _ (Histogram a chip c) h .0 in
+      let j : a′ ≡ card = allowed-limits kind card _ (Histogram a′ chip c) u .0 in
       omega (arith, histograms-rise p m r a chip c a′ chip c s)

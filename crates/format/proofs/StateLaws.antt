@@ -1,20 +1,19 @@
 -- The state is an abstraction of the list of earlier items: a turn of the rules by the state alone is the turn by the list.
 -- Assumes nothing.
-use Prim.Native.Nat.{ℕ, zero, suc, _+_, _-_, _*_, max, _≤_, _<_}
-use mathlib.Core.Path.{_≡_, refl, sym, ap, ap₂, subst, _∙_}
-use mathlib.Core.List.{List, [], _∷_, _++_}
-use mathlib.Core.Bool.{Bool, true, false, not, _&&_, _||_, true≢false, and-true}
+use Prim.Native.Nat.{ℕ, suc, _+_, _-_, _*_, max, _≤_}
+use mathlib.Core.Path.{_≡_, refl, sym, ap, _∙_}
+use mathlib.Core.List.{List, [], _∷_}
+use mathlib.Core.Bool.{Bool, true, false, not, _&&_, _||_, true≢false}
 use native.Mathlib.Nat.{zero-add}
-use native.Mathlib.Numerals.{add-one}
 use native.Mathlib.Omega.{arith}
 use lib.ListN.{length}
-use lib.Dec.{leb, ltb, eqb}
-use borrow.Author.Tests.{leb-true, leb-false, le-leb, lt-leb, ltb-true, ltb-false, lt-ltb, le-ltb, eq-eqb}
+use lib.Dec.{leb, ltb}
+use borrow.Author.Tests.{leb-true, leb-false, le-leb, lt-leb, ltb-true, ltb-false}
 use Rattle.format.specs.Words.{pick}
 use Rattle.format.specs.Book.{Class, channel, histogram, hitCount, sample, bin, lastCell, timeBin, dataFrame, monitorFrame, commandFrame, text, startEvent, endEvent, frameEnd, unassigned}
-use Rattle.format.specs.Items.{Item, Channel, Histogram, HitCount, Sample, Bin, LastCell, TimeBin, Text, StartEvent, EndEvent, classFor, wordsOf, inRange, key, Token, whole, broken, flawed}
-use Rattle.format.specs.Rules.{Kind, dataKind, monitorKind, commandKind, same, since, count, has, latest, total, gather, channelKey, histogramKey, binNumber, startTime, first, above, inEvent, time, Where, outside, inside, afterChannel, afterTime, afterSample, unheaded, headed, commands, within, whereAfter, allowed, among, place, eventSize, sized, value, order, Checked, good, bad, check}
-use Rattle.format.specs.Steps.{St, aboveAll, keyAfter, nextAfter, openerAfter, stateOf, firstMode, start, placeBy, sizedBy, valueBy, paused, orderBy, stateAfter, checkBy}
+use Rattle.format.specs.Items.{Item, Channel, Histogram, HitCount, Sample, Bin, LastCell, TimeBin, Text, StartEvent, EndEvent, classFor, wordsOf, key, Token, whole, broken, flawed}
+use Rattle.format.specs.Rules.{Kind, dataKind, monitorKind, commandKind, same, since, before, count, has, latest, total, gather, channelKey, histogramKey, binNumber, startTime, first, above, inEvent, time, lastTime, Where, outside, inside, afterChannel, afterTime, afterSample, unheaded, headed, commands, within, whereAfter, allowed, among, place, value, order, Checked, good, bad, check}
+use Rattle.format.specs.Steps.{St, aboveAll, openerAfter, stateOf, start, valueBy, paused, orderBy, stateAfter, checkBy}
 
 -- ---- numbers above all of some
 
@@ -163,11 +162,11 @@ time-same p n e = rw e (rw (zero-add (count sample (since timeBin p))))
 
 -- a Time bin stands right behind a Channel, or behind a Sample, and only there leaves a pause
 pause : (x : Item) (q : List Item) (t : ℕ) → among timeBin (allowed (within (classFor x))) ≡ true
-    → paused (within (classFor x)) (time (x ∷ q)) t ≡ not (has sample (since channel (x ∷ q))) || leb (time (x ∷ q) + 1) t
-unfolding since count
+    → paused (within (classFor x)) (time (x ∷ q)) t ≡ not (has sample (since channel (x ∷ q))) || leb (lastTime (x ∷ q) + 2) t
+unfolding since before count gather
 pause (Channel a b c) q t h = refl
 pause (Sample v) q t h =
-    rw (le-leb 1 (1 + count sample (since channel q)) (omega arith), add-one (first (gather startTime (Sample v ∷ q)) + (1 + count sample (since timeBin q))))
+    rw (le-leb 1 (1 + count sample (since channel q)) (omega arith)) (ap (λ (n : ℕ). leb n t) (omega arith))
 pause (Histogram a b c) q t h = no h
 pause (HitCount a b c) q t h = no h
 pause (Bin b n) q t h = no h
@@ -178,7 +177,7 @@ pause (StartEvent k ts n) q t h = no h
 pause (EndEvent n) q t h = no h
 
 time-ordered : (p : List Item) (t : ℕ) → place dataKind p timeBin ≡ true → inEvent p ≡ true
-    → paused (whereAfter dataKind p) (time p) t ≡ not (has sample (since channel p)) || leb (time p + 1) t
+    → paused (whereAfter dataKind p) (time p) t ≡ not (has sample (since channel p)) || leb (lastTime p + 2) t
 unfolding since count
 time-ordered [] t h o = no o
 time-ordered (x ∷ q) t h o = rw o (pause x q t (rw o at h))

@@ -11,7 +11,7 @@ use Rattle.format.specs.Book.{Class, sample, bin, timeBin}
 use Rattle.format.specs.Items.{Item, Channel, HitCount, LastCell, EndEvent}
 use Rattle.format.specs.Rules.{Kind, dataKind, monitorKind, commandKind, same, since, count, latest, mayEnd}
 use Rattle.format.specs.Frames.{Frame, behind, Sound, Legal}
-use Rattle.format.specs.Tree.{Run, run, Part, hits, cell, pulse, Event, event, Bar, bar, Pedestal, pedestal, Tree, ofSamples, ofRuns, ofParts, ofEvents, ofBars, ofPedestals, ofTexts, leaves, Shaped, InRange, Lawful}
+use Rattle.format.specs.Tree.{Run, run, Part, hits, cell, pulse, Event, event, Bar, bar, Pedestal, pedestal, Tree, ofSamples, ofRuns, ofParts, ofEvents, ofBars, ofPedestals, ofTexts, leaves, Shaped, Limited, Lawful}
 use Rattle.format.proofs.Moves.{State, out, empty, texts, kindFor, Leaves, Moves}
 use Rattle.format.proofs.SoundMoves.{sound-moves, moves-sound}
 use Rattle.format.proofs.TreeMoves.{events-moves, monitor-moves, texts-moves, build}
@@ -189,7 +189,7 @@ pub record TreeOf (kind : Kind) (card : ℕ) (xs : List Item) : Type 0 where
 -- the leaves of a lawful tree are sound, and end outside an event
 pub of-tree : (kind : Kind) (card : ℕ) (tree : Tree kind) → Lawful kind card tree → Sound kind card [] (leaves kind tree) × (mayEnd (behind [] (leaves kind tree)) ≡ true)
 of-tree kind card tree l =
-    let (s, e) = moves-sound card (leaves kind tree) (begin kind) (tree-moves kind tree (l .shaped)) [] (begins kind card) (l .ranged) in
+    let (s, e) = moves-sound card (leaves kind tree) (begin kind) (tree-moves kind tree (l .shaped)) [] (begins kind card) (l .limited) in
     (subst (λ (k : Kind). Sound k card [] (leaves kind tree)) (kind-back kind) s, e)
 
 -- and such a list is the leaves of a lawful tree
@@ -197,7 +197,7 @@ pub tree-of : (kind : Kind) (card : ℕ) (xs : List Item) → Sound kind card []
 tree-of kind card xs s e =
     let (ms, r) = sound-moves card xs [] (begin kind) (begins kind card) (subst (λ (k : Kind). Sound k card [] xs) (sym (kind-back kind)) s) e in
     let (t, h, l) = moves-tree kind xs ms in
-    record { tree = t; lawful = record { shaped = h; ranged = subst (InRange card) (sym l) r }; leaves-are = l }
+    record { tree = t; lawful = record { shaped = h; limited = subst (Limited card) (sym l) r }; leaves-are = l }
 
 -- T6b, both ways; by `one-tree` the tree is the only one
 pub as-tree : (kind : Kind) (card : ℕ) (xs : List Item) → (Sound kind card [] xs × (mayEnd (behind [] xs) ≡ true)) ↔ TreeOf kind card xs

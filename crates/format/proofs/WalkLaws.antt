@@ -1,44 +1,21 @@
 -- The walk over the items: words are accepted as items exactly where they are what a sound list of items is written as.
 -- Assumes nothing.
-use Prim.Native.Nat.{ℕ, zero, suc, _+_, _-_, _*_, _<_, _≤_}
+use Prim.Native.Nat.{ℕ, zero, suc, _+_, _<_, _≤_}
 use mathlib.Core.Path.{_≡_, refl, sym, ap, ap₂, subst, _∙_}
-use mathlib.Core.List.{List, [], _∷_, _++_, map}
-use mathlib.Core.Bool.{Bool, true, false, _&&_, true≢false}
+use mathlib.Core.List.{List, [], _∷_, _++_}
+use mathlib.Core.Bool.{Bool, true, false}
 use native.Mathlib.Omega.{arith}
-use lib.Dec.{leb, ltb, eqb}
-use lib.Pow.{areBytes}
-use lib.ListN.{length, getD, take, drop, take-append-drop}
-use borrow.Author.Tests.{leb-true, le-leb}
-use Rattle.format.specs.Words.{pick, nonZero}
-use Rattle.format.specs.Answers.{Outcome, accepted, refused}
+use lib.ListN.{length, getD, drop, take-append-drop}
+use Rattle.format.specs.Words.{pick}
+use Rattle.format.specs.Answers.{accepted, refused}
 use Rattle.format.specs.Book.{classOf, after}
-use Rattle.format.specs.Items.{Item, Channel, Histogram, HitCount, Sample, Bin, LastCell, TimeBin, Text, StartEvent, EndEvent, classFor, wordsOf, fits, inRange, Token, whole, broken, flawed, tokenOf, tokens}
-use Rattle.format.specs.Rules.{Kind, place, sized, value, order, Checked, good, bad, check}
+use Rattle.format.specs.Items.{Item, wordsOf, fits, inRange, Token, whole, broken, flawed, tokenOf, tokens}
+use Rattle.format.specs.Rules.{Kind, place, sized, Checked, good, bad, check}
 use Rattle.format.specs.Frames.{behind, Allowed, Sound, allWords, width, walk}
-use Rattle.format.proofs.PrefixLaws.{and-left, and-right, and-both}
+use Rattle.format.proofs.PrefixLaws.{and-left}
 use Rattle.format.proofs.WordLaws.{below-drop}
-use Rattle.format.proofs.ItemLaws.{tokens-skip, read-written, Read, written-read}
-
--- an item in range fits its fields
-three-fits : (q : Bool) (a b c n : ℕ) → n ≤ 127 → q && leb a 31 && leb b 3 && leb c n ≡ true → leb a 31 && leb b 3 && leb c 127 ≡ true
-three-fits q a b c n h e =
-    let f = and-left (q && leb a 31 && leb b 3) (leb c n) e in
-    let l : c ≤ n = leb-true c n (and-right (q && leb a 31 && leb b 3) (leb c n) e) in
-    and-both _ _ (and-both _ _ (and-right q (leb a 31) (and-left (q && leb a 31) (leb b 3) f)) (and-right (q && leb a 31) (leb b 3) f)) (le-leb c 127 (omega arith))
-
-pub range-fits : (card : ℕ) (x : Item) → inRange card x ≡ true → fits x ≡ true
-range-fits card (Channel a b c) e = three-fits (eqb a card) a b c 78 (omega arith) e
-range-fits card (Histogram a b c) e = three-fits (eqb a card) a b c 78 (omega arith) e
-range-fits card (HitCount a b c) e = three-fits (eqb a card) a b c 79 (omega arith) e
-range-fits card (Sample v) e = e
-range-fits card (Bin b n) e =
-    let f = and-left (leb b 4095 && leb 1 n) (ltb n 4294967296) e in
-    and-both _ _ (and-left (leb b 4095) (leb 1 n) f) (and-right (leb b 4095 && leb 1 n) (ltb n 4294967296) e)
-range-fits card (LastCell a b) e = e
-range-fits card (TimeBin t) e = e
-range-fits card (Text s) e = e
-range-fits card (StartEvent t ts n) e = e
-range-fits card (EndEvent n) e = e
+use Rattle.format.proofs.LimitLaws.{range-fits}
+use Rattle.format.proofs.ItemLaws.{tokens-skip, read-written, written-read}
 
 module _ (kind : Kind) (card : ℕ) where
   pub allowed-fits : (p : List Item) (x : Item) → Allowed kind card p x → fits x ≡ true

@@ -5,25 +5,20 @@ use mathlib.Core.Path.{_≡_, refl, sym, ap, _∙_}
 use mathlib.Core.List.{List, [], _∷_}
 use mathlib.Core.Logic.{_↔_}
 use mathlib.Core.Bool.{Bool, true, false, _&&_, _||_}
-use mathlib.Core.Option.{Option, none, some}
 use native.Mathlib.Omega.{arith}
 use lib.Dec.{eqb}
-use lib.ListN.{length, take, drop, length-append, length-drop}
-use lib.Seq.{length-take-le}
 use borrow.Author.Tests.{eqb-true}
-use Rattle.format.specs.Words.{Bytes, words}
+use Rattle.format.specs.Words.{Bytes}
 use Rattle.format.specs.Answers.{Outcome, refused}
-use Rattle.format.specs.Book.{Class, classOf, after}
-use Rattle.format.specs.Items.{ItemOf, Item, Channel, Histogram, HitCount, Sample, Bin, LastCell, TimeBin, Text, StartEvent, EndEvent, decode, Token, whole, tokenFor}
+use Rattle.format.specs.Book.{Class}
+use Rattle.format.specs.Items.{ItemOf, Item, Channel, Histogram, HitCount, Sample, Bin, LastCell, TimeBin, Text, StartEvent, EndEvent, Token, whole}
 use Rattle.format.specs.Rules.{Kind}
-use Rattle.format.specs.Frames.{allWords, kindIn, cardIn}
-use Rattle.format.specs.TokenFaults.{Breaks, misplaced, misvalued, misordered, classMisplaced, classBroken, flaw, Faults, unknown, cut, breaks, FirstFault}
+use Rattle.format.specs.Frames.{behind}
+use Rattle.format.specs.Faults.{ItemBroken, noClass, cut, misplaced, misvalued, disordered, FirstFaulty, NewBroken, outOfPlace, wrongValue, outOfOrder, EmptyBroken, emptyOutOfPlace, noContent}
 use Rattle.format.specs.Writing.{Partial, partialVerdict, beginAnswer, given, addAnswer, closeAnswer}
-use Rattle.format.specs.WriterCases.{PartialHead, PartialAnswer, stands, wrongLength, wrongKind, wrongSize, wrongSequence, faulty, oneOf, headNumbers, itemNumbers, PartialRefused, byHead, byItem, handed, Begin, begins, cardWide, sequenceWide, beginShort, Add, adds, addPartial, addBreaks, addShort, Short, Close, closes, closePartial, closeOpen, closeShort}
+use Rattle.format.specs.WriterCases.{PartialAnswer, stands, wrongLength, wrongKind, wrongSize, wrongSequence, faulty, oneOf, headNumbers, itemNumbers, PartialRefused, byHead, byItem, handed, Begin, begins, cardWide, sequenceWide, beginShort, Add, adds, addPartial, addBreaks, addEmpty, addFlawed, addShort, Short, Close, closes, closePartial, closeOpen, closeShort}
 use Rattle.format.proofs.PrefixLaws.{and-left, and-right}
-use Rattle.format.proofs.WordLaws.{length-words}
 use Rattle.format.proofs.WalkFaults.{not-refused, refused-is}
-use Rattle.format.proofs.PartialLaws.{measured-of}
 use Rattle.format.proofs.PartialRefusals.{partial-exactly}
 use Rattle.format.proofs.WriterLaws.{begin-exactly, add-exactly, close-exactly}
 
@@ -48,22 +43,21 @@ widen k (n ∷ ns) ms i e = go (eqb k n) refl e (widen k ns ms (and-right (oneOf
 abbrev ruleNumbers : List ℕ
 ruleNumbers = 8 ∷ 9 ∷ 10 ∷ []
 
-breaks-number : (kind : Kind) (card : ℕ) (p : List Item) (t : Token) (k : ℕ) → handed t ≡ true → Breaks kind card p t k → oneOf k ruleNumbers ≡ true
-breaks-number kind card p t k h (misplaced x a) = refl
-breaks-number kind card p t k h (misvalued x a b) = refl
-breaks-number kind card p t k h (misordered x a b c) = refl
-breaks-number kind card p t k h (classMisplaced c a) = refl
-breaks-number kind card p t k h (classBroken c a) = refl
-breaks-number kind card p t k h (flaw n) = let z : _≡_ {A = ℕ} 0 1 = cc in absurd (omega arith)
+new-number : (kind : Kind) (card : ℕ) (q : List Item) (x : Item) (k : ℕ) → NewBroken kind card q x k → oneOf k ruleNumbers ≡ true
+new-number kind card q x k (outOfPlace e) = refl
+new-number kind card q x k (wrongValue e) = refl
+new-number kind card q x k (outOfOrder e) = refl
 
-read-handed : (c : Class) (o : Option Item) → handed (tokenFor c o) ≡ true
-read-handed c none = refl
-read-handed c (some x) = refl
+empty-number : (kind : Kind) (q : List Item) (c : Class) (k : ℕ) → EmptyBroken kind q c k → oneOf k ruleNumbers ≡ true
+empty-number kind q c k (emptyOutOfPlace e) = refl
+empty-number kind q c k noContent = refl
 
-pub faults-number : (kind : Kind) (card : ℕ) (p : List Item) (w : ℕ) (ws : List ℕ) (k : ℕ) → Faults kind card p w ws k → oneOf k itemNumbers ≡ true
-faults-number kind card p w ws k (unknown a) = refl
-faults-number kind card p w ws k (cut a h) = refl
-faults-number kind card p w ws k (breaks j a h b) = widen j ruleNumbers itemNumbers refl (breaks-number kind card p _ j (read-handed (classOf w) (decode (classOf w) w (take (after (classOf w) w) ws))) b)
+fault-number : (s : List ℕ) (end : ℕ) (q : List Item) (p k : ℕ) → ItemBroken s end q p k → oneOf k itemNumbers ≡ true
+fault-number s end q p k (noClass e) = refl
+fault-number s end q p k (cut e) = refl
+fault-number s end q p k (misplaced e) = refl
+fault-number s end q p k (misvalued e) = refl
+fault-number s end q p k (disordered x e f g) = refl
 
 -- ---- a partial frame
 
@@ -73,17 +67,10 @@ partial-refused buf bs n k q e = go _ (partial-exactly buf bs n (refused k q) .0
     head : (j : ℕ) → oneOf j headNumbers ≡ true → _≡_ {A = Outcome Partial} (refused j 0) (refused k q) → PartialRefused n k q
     head j o e = let (a, b) = refused-is j k 0 q e in byHead (ap (λ (k : ℕ). oneOf k headNumbers) (sym a) ∙ o) (sym b)
 
-    item : (j r : ℕ) → PartialHead buf n → FirstFault (kindIn buf) (cardIn buf) [] 3 (drop 3 (words (take n buf))) j r → (j ≡ k) × (r ≡ q) → PartialRefused n k q
-    item j r h f (a, b) =
-        let m = measured-of buf n (h .measured) in
-        let even = m .even in
-        let least = m .least in
-        let t = length-take-le n buf (m .inside) in
-        let l = length-words (take n buf) in
-        let d = length-drop 3 (words (take n buf)) in
-        let s = ap length (f .split) ∙ length-append (allWords (f .items)) (f .word ∷ f .rest) in
-        let g = f .found in
-        byItem (ap (λ (k : ℕ). oneOf k itemNumbers) (sym a) ∙ faults-number _ _ _ _ _ j (f .fault)) (omega arith) (omega arith)
+    item : (j r : ℕ) → FirstFaulty buf (n / 2) j r → (j ≡ k) × (r ≡ q) → PartialRefused n k q
+    item j r f (a, b) =
+        byItem (ap (λ (k : ℕ). oneOf k itemNumbers) (sym a) ∙ fault-number buf (n / 2) (behind [] (f .items)) r j (f .first .broken))
+        (omega (arith, f .begins)) (omega (arith, f .inside))
 
     go : (o : Outcome Partial) → PartialAnswer buf n o → o ≡ refused k q → PartialRefused n k q
     go o (stands f xs b) e = not-refused _ _ _ e
@@ -91,7 +78,7 @@ partial-refused buf bs n k q e = go _ (partial-exactly buf bs n (refused k q) .0
     go o (wrongKind a b) e = head 2 refl e
     go o (wrongSize a b c) e = head 3 refl e
     go o (wrongSequence a b c d) e = head 4 refl e
-    go o (faulty j r h f) e = item j r h f (refused-is j k r q e)
+    go o (faulty j r h f) e = item j r f (refused-is j k r q e)
 
 -- its numbers, which 11 and 12 are not among
 abbrev pub partialNumbers : List ℕ
@@ -147,7 +134,9 @@ add-numbers buf bs n t h k p e = go t _ h (add-exactly buf n t (refused k p) .0 
     go : (t : Token) (o : Outcome ℕ) → handed t ≡ true → Add buf n t o → o ≡ refused k p → oneOf k addNumbers ≡ true
     go t o h (adds f x e a r s) q = not-refused _ _ _ q
     go t o h (addPartial u j r e) q = by-one addNumbers j r k p (widen j partialNumbers addNumbers refl (partial-numbers buf bs n j r e)) q
-    go t o h (addBreaks f u j e b) q = by-one addNumbers j (n / 2) k p (widen j ruleNumbers addNumbers refl (breaks-number _ _ _ u j h b)) q
+    go t o h (addBreaks f x j e b) q = by-one addNumbers j (n / 2) k p (widen j ruleNumbers addNumbers refl (new-number _ _ _ x j (b .broken))) q
+    go t o h (addEmpty f c j e b) q = by-one addNumbers j (n / 2) k p (widen j ruleNumbers addNumbers refl (empty-number _ _ c j (b .broken))) q
+    go t o h (addFlawed f j e) q = let z : _≡_ {A = ℕ} 0 1 = cc in absurd (omega arith)
     go t o h (addShort f x e a r) q = by-one addNumbers 12 0 k p refl q
 
 pub close-numbers : (buf : List ℕ) → Bytes buf → (n k p : ℕ) → closeAnswer buf n ≡ refused k p → oneOf k closeNumbers ≡ true
@@ -172,7 +161,9 @@ add-room buf bs n t h p = (λ e. go t _ h (add-exactly buf n t (refused 12 p) .0
     go : (t : Token) (o : Outcome ℕ) → handed t ≡ true → Add buf n t o → o ≡ refused 12 p → Short buf n t p
     go t o h (adds f x e a r s) q = not-refused _ _ _ q
     go t o h (addPartial u j r e) q = absurd (other j r partialNumbers (partial-numbers buf bs n j r e) refl q)
-    go t o h (addBreaks f u j e b) q = absurd (other j (n / 2) ruleNumbers (breaks-number _ _ _ u j h b) refl q)
+    go t o h (addBreaks f x j e b) q = absurd (other j (n / 2) ruleNumbers (new-number _ _ _ x j (b .broken)) refl q)
+    go t o h (addEmpty f c j e b) q = absurd (other j (n / 2) ruleNumbers (empty-number _ _ c j (b .broken)) refl q)
+    go t o h (addFlawed f j e) q = let z : _≡_ {A = ℕ} 0 1 = cc in absurd (omega arith)
     go t o h (addShort f x e a r) q =
         record { partial = f; item = x; token = refl; judged = e; allowed = a; short = r; at = sym (refused-is 12 12 0 p q .1) }
 

@@ -1,5 +1,5 @@
 -- Front page of the writer (document 01, "Reading and writing items"): T15 to T20 and T33 to T35 in full, each by citing one law. What the
--- statements say is in specs/Writing.antt, specs/TokenFaults.antt, specs/WriterCases.antt and specs/Runs.antt.
+-- statements say is in specs/Writing.antt, specs/Faults.antt, specs/WriterCases.antt and specs/Runs.antt.
 -- Assumes nothing.
 use Prim.Native.Nat.{ℕ, _+_, _<_, _≤_}
 use mathlib.Core.Path.{_≡_}

@@ -11,11 +11,11 @@ use lib.Dec.{leb, ltb, eqb}
 use lib.Pow.{areBytes}
 use lib.ListN.{length, getD, take, drop, length-drop}
 use lib.Seq.{take-all}
-use borrow.Author.Tests.{leb-true, le-leb}
+use borrow.Author.Tests.{leb-true}
 use Rattle.format.specs.Words.{words, bytes, longOf, longWords, timeWords, nonZero}
 use Rattle.format.specs.Book.{Class, channel, histogram, hitCount, sample, bin, lastCell, timeBin, dataFrame, monitorFrame, commandFrame, text, startEvent, endEvent, frameEnd, unassigned, classOf, after}
-use Rattle.format.specs.Items.{ItemOf, Item, Channel, Histogram, HitCount, Sample, Bin, LastCell, TimeBin, Text, StartEvent, EndEvent, classFor, wordsOf, fits, closed, decode, Token, whole, tokenOf, tokens, inRange}
-use Rattle.format.proofs.PrefixLaws.{and-left, and-right, and-both}
+use Rattle.format.specs.Items.{ItemOf, Item, Channel, Histogram, HitCount, Sample, Bin, LastCell, TimeBin, Text, StartEvent, EndEvent, classFor, wordsOf, fits, closed, decode, Token, whole, tokenOf, tokens}
+use Rattle.format.proofs.PrefixLaws.{and-left, and-right}
 use Rattle.format.proofs.BookLaws.{nth}
 use Rattle.format.proofs.WordLaws.{pick-elim}
 use Rattle.format.proofs.ItemLaws.{Written, read-written, written-read, token-passed, tokens-skip}
@@ -210,25 +210,6 @@ written x f =
 -- an item has one word and those after it
 pub words-count : (x : Item) → fits x ≡ true → length (wordsOf x) ≡ 1 + after (classFor x) (firstWord x)
 words-count x f = let h = written x f in ap length (h .words) ∙ omega (arith, h .count)
-
--- VALUE: an item in range fits its fields
-
-loosened : (p q r s : Bool) (t : Bool) → (s ≡ true → t ≡ true) → p && q && r && s ≡ true → q && r && t ≡ true
-loosened p q r s t h e =
-    let (i, j, k) = three-tests (p && q) r s e in
-    and-both (q && r) t (and-both q r (and-right p q i) j) (h k)
-
-pub range-fits : (card : ℕ) (x : Item) → inRange card x ≡ true → fits x ≡ true
-range-fits card (Channel a b c) e = loosened (eqb a card) (leb a 31) (leb b 3) (leb c 78) (leb c 127) (λ h. le-leb c 127 (omega (arith, leb-true c 78 h))) e
-range-fits card (Histogram a b c) e = loosened (eqb a card) (leb a 31) (leb b 3) (leb c 78) (leb c 127) (λ h. le-leb c 127 (omega (arith, leb-true c 78 h))) e
-range-fits card (HitCount a b c) e = loosened (eqb a card) (leb a 31) (leb b 3) (leb c 79) (leb c 127) (λ h. le-leb c 127 (omega (arith, leb-true c 79 h))) e
-range-fits card (Sample v) e = e
-range-fits card (Bin b n) e = let (p, q, r) = three-tests (leb b 4095) (leb 1 n) (ltb n 4294967296) e in and-both _ _ p r
-range-fits card (LastCell a b) e = e
-range-fits card (TimeBin t) e = e
-range-fits card (Text s) e = e
-range-fits card (StartEvent t ts n) e = e
-range-fits card (EndEvent n) e = e
 
 -- READ: what is read at a word has the content that is cut from the word
 

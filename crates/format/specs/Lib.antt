@@ -14,7 +14,6 @@ pub mod Stands
 pub mod Faults
 pub mod Tree
 pub mod Runs
-pub mod TokenFaults
 pub mod WriterCases
 pub mod Spots
 pub mod Scans

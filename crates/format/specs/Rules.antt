@@ -40,6 +40,11 @@ unfoldable pub since : Class → List Item → List Item
 since c [] = []
 since c (x ∷ p) = x ∷ pick (same c (classFor x)) [] (since c p)
 
+-- the items before the latest one of the class, latest first
+unfoldable pub before : Class → List Item → List Item
+before c [] = []
+before c (x ∷ p) = pick (same c (classFor x)) p (before c p)
+
 -- how many items are of the class
 unfoldable pub count : Class → List Item → ℕ
 count c [] = 0
@@ -128,6 +133,10 @@ inEvent p = has startEvent (since endEvent p)
 abbrev pub time : List Item → ℕ
 time p = first (gather startTime p) + count sample (since timeBin p)
 
+-- "the last sample's time": the one that the latest Sample has, after the items before it
+abbrev pub lastTime : List Item → ℕ
+lastTime p = time (before sample p)
+
 -- ---- place
 
 -- where the next item would stand
@@ -203,7 +212,7 @@ value card p x = inRange card x && sized p x
 
 -- ---- order
 
--- "none after 511. A later Time bin in a channel is at least 2 above the last sample's time", which is one below that of the next sample.
+-- "none after 511. A later Time bin in a channel is at least 2 above the last sample's time"; it is later where a Sample stands since the Channel.
 -- "Channel headers in one event rise by their 14-bit content, so do Histogram headers in a frame, and bin numbers in a histogram"
 abbrev pub order : List Item → Item → Bool
 order p (Channel a b c) = above (key a b c) (gather channelKey (since startEvent p))
@@ -212,7 +221,7 @@ order p (HitCount a b c) = true
 order p (Sample v) = leb (time p) 511
 order p (Bin b n) = above b (gather binNumber (since histogram p))
 order p (LastCell a b) = true
-order p (TimeBin t) = not (has sample (since channel p)) || leb (time p + 1) t
+order p (TimeBin t) = not (has sample (since channel p)) || leb (lastTime p + 2) t
 order p (Text s) = true
 order p (StartEvent t ts n) = true
 order p (EndEvent n) = true

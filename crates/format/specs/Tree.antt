@@ -1,12 +1,11 @@
--- A frame's items as a tree: a second writing of place, order and the event's size, apart from the one in Rules (document 01, "Shape of a
--- frame"). That the two say the same is proved in proofs/Tree.
+-- A frame's items as a tree: a second writing of place, value and order, with limits of its own, apart from the one in Rules and Items (document
+-- 01, "Shape of a frame"). That the two say the same is proved in proofs/Tree.
 -- Assumes nothing.
-use Prim.Native.Nat.{ℕ, suc, _+_, _*_, _≤_}
+use Prim.Native.Nat.{ℕ, suc, _+_, _*_, _^_, _<_, _≤_}
 use mathlib.Core.Path.{_≡_}
 use mathlib.Core.List.{List, [], _∷_}
-use mathlib.Core.Bool.{true}
 use lib.ListN.{length}
-use Rattle.format.specs.Items.{Item, Channel, Histogram, HitCount, Sample, Bin, LastCell, TimeBin, Text, StartEvent, EndEvent, three, inRange}
+use Rattle.format.specs.Items.{Item, Channel, Histogram, HitCount, Sample, Bin, LastCell, TimeBin, Text, StartEvent, EndEvent, three}
 use Rattle.format.specs.Rules.{Kind, dataKind, monitorKind, commandKind}
 use Rattle.format.specs.Frames.{allWords}
 
@@ -130,11 +129,31 @@ Shaped dataKind es = AllEvents es
 Shaped monitorKind hs = Rising 0 (histograms hs) × AllBars hs
 Shaped commandKind ss = Unit {0}
 
--- what each item allows by itself, and the frame's card
-unfoldable pub InRange : ℕ → List Item → Type 0
-InRange card [] = Unit {0}
-InRange card (x ∷ xs) = (inRange card x ≡ true) × InRange card xs
+-- "earlier bytes not zero": each byte of a text is one of 1 to 255
+unfoldable pub Letters : List ℕ → Type 0
+Letters [] = Unit {0}
+Letters (b ∷ s) = (1 ≤ b) × (b ≤ 255) × Letters s
+
+-- "Card equals the frame's card; channel at most 78; hit count at most 79; bin count at least 1"; a text has at most 254 bytes before its zero, so
+-- that n is at most 255; and no content is wider than its field: card 5 bits, chip 2, sample and bin 12, cell and time 9, type 4, timestamp 48,
+-- count, number and size 32
+abbrev pub Limits : ℕ → Item → Type 0
+Limits card (Channel a b c) = (a ≡ card) × (a ≤ 31) × (b ≤ 3) × (c ≤ 78)
+Limits card (Histogram a b c) = (a ≡ card) × (a ≤ 31) × (b ≤ 3) × (c ≤ 78)
+Limits card (HitCount a b n) = (a ≡ card) × (a ≤ 31) × (b ≤ 3) × (n ≤ 79)
+Limits card (Sample v) = v ≤ 4095
+Limits card (Bin b n) = (b ≤ 4095) × (1 ≤ n) × (n < 2 ^ 32)
+Limits card (LastCell b c) = (b ≤ 3) × (c ≤ 511)
+Limits card (TimeBin t) = t ≤ 511
+Limits card (Text s) = (length s ≤ 254) × Letters s
+Limits card (StartEvent t ts n) = (t ≤ 15) × (ts < 2 ^ 48) × (n < 2 ^ 32)
+Limits card (EndEvent z) = z < 2 ^ 32
+
+-- of every item, and the frame's card
+unfoldable pub Limited : ℕ → List Item → Type 0
+Limited card [] = Unit {0}
+Limited card (x ∷ xs) = Limits card x × Limited card xs
 
 pub record Lawful (kind : Kind) (card : ℕ) (tree : Tree kind) : Type 0 where
   pub shaped : Shaped kind tree
-  pub ranged : InRange card (leaves kind tree)
+  pub limited : Limited card (leaves kind tree)

@@ -7,12 +7,13 @@ use mathlib.Core.Logic.{_⊎_}
 use mathlib.Core.Bool.{Bool, true, false, _&&_, _||_}
 use lib.Dec.{leb, eqb}
 use lib.ListN.{length, take, drop}
-use Rattle.format.specs.Words.{words, bytes, wordAt}
+use Rattle.format.specs.Words.{bytes, wordAt}
 use Rattle.format.specs.Answers.{Outcome, accepted, refused}
+use Rattle.format.specs.Book.{Class}
 use Rattle.format.specs.Items.{Item, wordsOf, Token, whole, broken, flawed}
 use Rattle.format.specs.Rules.{Kind, mayEnd}
-use Rattle.format.specs.Frames.{Frame, behind, Allowed, Sound, encode, Legal, startFits, kindIn, cardIn, verdict}
-use Rattle.format.specs.TokenFaults.{Breaks, FirstFault}
+use Rattle.format.specs.Frames.{Frame, behind, Allowed, Sound, encode, Legal, startFits, verdict}
+use Rattle.format.specs.Faults.{First, FirstFaulty, NewBroken, EmptyBroken}
 use Rattle.format.specs.Writing.{Partial, partialWords, partialVerdict}
 
 -- ---- partial frames
@@ -38,14 +39,14 @@ pub record PartialHead (buf : List ℕ) (n : ℕ) : Type 0 where
   pub sequence : wordAt buf 2 ≤ 0x0100
 
 -- the verdict, case by case: a partial frame stands there; or the first of rules 1 to 4 that is broken, at place 0; or the first faulty item, at its
--- word
+-- word, of those before the word past the last one
 pub data PartialAnswer (buf : List ℕ) (n : ℕ) : Outcome Partial → Type 0 where
   stands : (f : Partial) (xs : List Item) → Begun buf n f xs → PartialAnswer buf n (accepted f)
   wrongLength : partialLength buf n ≡ false → PartialAnswer buf n (refused 1 0)
   wrongKind : partialLength buf n ≡ true → startFits (wordAt buf 0) ≡ false → PartialAnswer buf n (refused 2 0)
   wrongSize : partialLength buf n ≡ true → startFits (wordAt buf 0) ≡ true → (wordAt buf 1 ≡ 0 → ⊥) → PartialAnswer buf n (refused 3 0)
   wrongSequence : partialLength buf n ≡ true → startFits (wordAt buf 0) ≡ true → wordAt buf 1 ≡ 0 → 0x0100 < wordAt buf 2 → PartialAnswer buf n (refused 4 0)
-  faulty : (k q : ℕ) → PartialHead buf n → FirstFault (kindIn buf) (cardIn buf) [] 3 (drop 3 (words (take n buf))) k q → PartialAnswer buf n (refused k q)
+  faulty : (k q : ℕ) → PartialHead buf n → FirstFaulty buf (n / 2) k q → PartialAnswer buf n (refused k q)
 
 -- the content of a partial frame with the items xs, and a content with one item more
 abbrev pub content : Kind → ℕ → ℕ → List Item → Partial
@@ -107,7 +108,12 @@ pub data Add (buf : List ℕ) (n : ℕ) : Token → Outcome ℕ → Type 0 where
   adds : (f : Partial) (x : Item) → partialVerdict buf n ≡ accepted f → Allowed (f .kind) (f .card) (f .earlier) x
       → longer n x + 2 ≤ length buf → longer n x + 2 ≤ 8192 → Add buf n (whole x) (accepted (longer n x))
   addPartial : (t : Token) (k p : ℕ) → partialVerdict buf n ≡ refused k p → Add buf n t (refused k p)
-  addBreaks : (f : Partial) (t : Token) (k : ℕ) → partialVerdict buf n ≡ accepted f → Breaks (f .kind) (f .card) (f .earlier) t k → Add buf n t (refused k (n / 2))
+  -- "8, 9, 10 for the new item": the first of them that it breaks, at "the word index it would start at"
+  addBreaks : (f : Partial) (x : Item) (k : ℕ) → partialVerdict buf n ≡ accepted f → First (NewBroken (f .kind) (f .card) (f .earlier) x) k
+      → Add buf n (whole x) (refused k (n / 2))
+  addEmpty : (f : Partial) (c : Class) (k : ℕ) → partialVerdict buf n ≡ accepted f → First (EmptyBroken (f .kind) (f .earlier) c) k → Add buf n (broken c) (refused k (n / 2))
+  -- what no caller can hand over
+  addFlawed : (f : Partial) (k : ℕ) → partialVerdict buf n ≡ accepted f → Add buf n (flawed k) (refused k (n / 2))
   addShort : (f : Partial) (x : Item) → partialVerdict buf n ≡ accepted f → Allowed (f .kind) (f .card) (f .earlier) x
       → (length buf < longer n x + 2) ⊎ (8192 < longer n x + 2) → Add buf n (whole x) (refused 12 0)
 
