@@ -16,6 +16,7 @@ pub mod Tree
 pub mod Runs
 pub mod TokenFaults
 pub mod WriterCases
+pub mod Handing
 pub mod Spots
 pub mod Scans
 pub mod PartialSteps
