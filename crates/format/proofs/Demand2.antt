@@ -18,9 +18,9 @@ use Rattle.format.specs.Faults.{Refused}
 use Rattle.format.specs.Tree.{Tree, leaves}
 use Rattle.format.specs.WriterCases.{RunWrote}
 use Rattle.format.specs.Runs.{ran, writeAll}
-use Rattle.format.specs.Questions.{shownAt}
+use Rattle.format.specs.Questions.{Shown, shownAt}
 use Rattle.format.specs.Steps.{Overview, readOf}
-use Rattle.format.specs.Handing.{Told, toldOf, Answers, toldWords, allTold, frameTold, Call, tokenOfCall, callOf, handOver, writeCalls, CallsWrote}
+use Rattle.format.specs.Handing.{ReadAs, Told, toldOf, Answers, toldWords, allTold, frameTold, Call, tokenOfCall, callOf, handOver, writeCalls, CallsWrote}
 use Rattle.format.proofs.Acceptance.{exactly}
 use Rattle.format.proofs.Refusals as refusals
 use Rattle.format.proofs.Tree as tree
@@ -86,11 +86,30 @@ answers-hand-over = handing.handed-over
 pub one-call : (c : Call) (x : Item) → tokenOfCall c ≡ whole x → c ≡ handOver x
 one-call = handing.handed-back
 
--- "and then read as the one kind, card, sequence word and list of items it stands for": where `read` accepts,
+-- "A frame is accepted exactly when it follows our word book and frame rules": so `read` answers,
+pub read-exactly : (s : List ℕ) → Bytes s → (o : Overview) → (readOf s ≡ accepted o) ↔ ReadAs s o
+read-exactly = handing.read-exactly
+
+pub read-refused-exactly : (s : List ℕ) → Bytes s → (n p : ℕ) → (readOf s ≡ refused n p) ↔ Refused s n p
+read-refused-exactly = handing.read-refused
+
+-- "and then read as the one kind, card, sequence word and list of items it stands for": the answers are those of its items,
+pub read-as-its-items : (s : List ℕ) → Bytes s → (o : Overview) (a : ReadAs s o) (xs : List Told) → Answers s 0 xs → length xs ≡ o .items
+    → map callOf xs ≡ map handOver (a .frame .items)
+read-as-its-items = handing.its-items
+
+-- two callers are answered the same,
+pub one-list-of-answers : (s : List ℕ) (n : ℕ) (xs ys : List Told) → Answers s n xs → Answers s n ys → length xs ≡ length ys → xs ≡ ys
+one-list-of-answers s n xs ys = handing.told-once
+
+-- and where `read` accepts,
 module _ (s : List ℕ) (o : Overview) (read : readOf s ≡ accepted o) where
   -- "The item at ordinal n (from 0) answers with its class and content" (T10), for each of the items that `read` counts, and for no further one;
   pub all-items-are-answered : (xs : List Told) × Answers s 0 xs × (length xs ≡ o .items)
   all-items-are-answered = handing.all-answered s o read
+
+  pub each-item-is-answered : (n : ℕ) → n < o .items → (x : Shown) × (shownAt s n ≡ accepted x)
+  each-item-is-answered = handing.each-answered s o read
 
   pub no-further-item : (n : ℕ) → o .items ≤ n → shownAt s n ≡ refused 13 0
   no-further-item = handing.no-further s o read
@@ -108,10 +127,6 @@ module _ (s : List ℕ) (o : Overview) (read : readOf s ≡ accepted o) where
     pub copied-by-calls : Bytes s → (buf : List ℕ) → length s ≤ length buf
         → writeCalls buf (o .kind) (o .card) (o .sequence) (map callOf xs) ≡ ran (accepted (length s)) (s ++ drop (length s) buf)
     copied-by-calls = handing.copied s o read xs answers count
-
--- two callers are answered the same
-pub one-list-of-answers : (s : List ℕ) (n : ℕ) (xs ys : List Told) → Answers s n xs → Answers s n ys → length xs ≡ length ys → xs ≡ ys
-one-list-of-answers s n xs ys = handing.told-once
 
 -- "Every list that the rules allow can be written, if it fits", by calls of add and add_text (T18, T18b),
 pub every-list-is-written-by-calls : (f : Frame) → Legal f → (buf : List ℕ) → length (encode f) ≤ length buf

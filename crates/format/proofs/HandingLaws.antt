@@ -4,7 +4,7 @@
 use Prim.Native.Nat.{ℕ, suc, _+_, _*_, _<_, _≤_}
 use mathlib.Core.Path.{_≡_, refl, sym, ap, ap₂, subst, _∙_}
 use mathlib.Core.List.{List, [], _∷_, _++_, map, append-nil, append-assoc}
-use mathlib.Core.Logic.{_⊎_}
+use mathlib.Core.Logic.{_↔_, _⊎_}
 use native.Mathlib.Omega.{arith}
 use lib.ListN.{length, take, drop, length-append, length-map}
 use lib.Seq.{take-at}
@@ -17,9 +17,11 @@ use Rattle.format.specs.Questions.{Found, itemAt, Shown, shown, shownAt,
 use Rattle.format.specs.Stands.{ItemIs, indexOf}
 use Rattle.format.specs.Steps.{Overview, overview, readOf}
 use Rattle.format.specs.Runs.{Ran, ran, writeAll}
-use Rattle.format.specs.Handing.{Told, toldOf, Answers, no-more, then, toldWords, allTold, frameTold, Call, byAdd, byText, tokenOfCall, callOf, handOver, writeCalls, CallsWrote}
-use Rattle.format.proofs.Acceptance.{sound}
-use Rattle.format.proofs.ItemQuestions.{all-words, item-there, item-past, item-refused, text-of}
+use Rattle.format.specs.Faults.{Refused}
+use Rattle.format.specs.Handing.{ReadAs, Told, toldOf, Answers, no-more, then, toldWords, allTold, frameTold, Call, byAdd, byText, tokenOfCall, callOf, handOver, writeCalls, CallsWrote}
+use Rattle.format.proofs.Acceptance.{exactly, sound}
+use Rattle.format.proofs.Refusals.{refusals}
+use Rattle.format.proofs.ItemQuestions.{item-stands, all-words, item-there, item-past, item-refused, text-of}
 use Rattle.format.proofs.WriterSteps.{encode-length}
 use Rattle.format.proofs.Completeness.{written, too-short, run-wrote, rewritten}
 
@@ -176,6 +178,12 @@ module _ (s : List ℕ) (f : Frame) (v : verdict s ≡ accepted f) where
   answers-are : (xs : List Told) → Answers s 0 xs → length xs ≡ length (f .items) → xs ≡ tellFrom (f .items) 0 (f .items)
   answers-are xs a h = told-once a answered (h ∙ sym (tell-long (f .items) 0 (f .items)))
 
+  -- each of them
+  item-shown : (n : ℕ) → n < length (f .items) → (x : Shown) × (shownAt s n ≡ accepted x)
+  item-shown n h =
+      let (x, i) = item-stands n (f .items) h in
+      (record { item = shown x; next = indexOf (f .items) (suc n) }, shown-there n x i)
+
 -- a frame that `read` accepts, and the frame that it stands for
 record Seen (s : List ℕ) (o : Overview) : Type 0 where
   pub frame : Frame
@@ -193,11 +201,58 @@ seen s o e = go (verdict s) refl
     go (accepted f) v = record { frame = f; judged = v; seen = same _ o (sym (rw v) ∙ e) }
     go (refused k p) v = let q : refused k p ≡ accepted o = sym (rw v) ∙ e in let z : _≡_ {A = ℕ} 0 1 = cc in absurd (omega arith)
 
+read-of : (s : List ℕ) (f : Frame) → verdict s ≡ accepted f → readOf s ≡ accepted (overview f)
+unfolding readOf
+read-of s f v = rw v
+
+refused-too : (s : List ℕ) (n p : ℕ) → verdict s ≡ refused n p → readOf s ≡ refused n p
+unfolding readOf
+refused-too s n p v = rw v
+
+refused-by : (s : List ℕ) (n p : ℕ) → readOf s ≡ refused n p → verdict s ≡ refused n p
+refused-by s n p e = go (verdict s) refl
+  where
+    go : (v : Outcome Frame) → verdict s ≡ v → verdict s ≡ refused n p
+    go (accepted f) v =
+        let q : accepted (overview f) ≡ refused n p = sym (read-of s f v) ∙ e in
+        let z : _≡_ {A = ℕ} 0 1 = cc in absurd (omega arith)
+    go (refused m q) v = v ∙ (let i : _≡_ {A = Outcome Overview} (refused m q) (refused n p) = sym (refused-too s m q v) ∙ e in cc)
+
+-- T5 and T7 of what `read` answers
+module _ (s : List ℕ) (bs : Bytes s) where
+  pub read-exactly : (o : Overview) → (readOf s ≡ accepted o) ↔ ReadAs s o
+  read-exactly o = (there, back)
+    where
+      there : readOf s ≡ accepted o → ReadAs s o
+      there e =
+          let f = seen s o e in
+          let (l, q) = sound s bs (f .frame) (f .judged) in
+          record { frame = f .frame; legal = l; written = q; told = sym (f .seen) }
+
+      back : ReadAs s o → readOf s ≡ accepted o
+      back a = read-of s (a .frame) (exactly s bs (a .frame) .1 (a .legal, a .written)) ∙ ap accepted (sym (a .told))
+
+  pub read-refused : (n p : ℕ) → (readOf s ≡ refused n p) ↔ Refused s n p
+  read-refused n p = (λ e. refusals s bs n p .0 (refused-by s n p e), λ h. refused-too s n p (refusals s bs n p .1 h))
+
+  -- and the answers are those of the one list of items
+  pub its-items : (o : Overview) (a : ReadAs s o) (xs : List Told) → Answers s 0 xs → length xs ≡ o .items → map callOf xs ≡ map handOver (a .frame .items)
+  its-items o a xs k h =
+      let f = a .frame in
+      let c : o .items ≡ length (f .items) = ap (λ (o : Overview). o .items) (a .told) in
+      ap (map callOf) (answers-are s f (exactly s bs f .1 (a .legal, a .written)) xs k (h ∙ c)) ∙ tell-calls (f .items) 0 (f .items)
+
 module _ (s : List ℕ) (o : Overview) (r : readOf s ≡ accepted o) where
   pub all-answered : (xs : List Told) × Answers s 0 xs × (length xs ≡ o .items)
   all-answered =
       let f = seen s o r in
       (tellFrom (f .frame .items) 0 (f .frame .items), answered s (f .frame) (f .judged), tell-long (f .frame .items) 0 (f .frame .items) ∙ ap (λ (o : Overview). o .items) (f .seen))
+
+  pub each-answered : (n : ℕ) → n < o .items → (x : Shown) × (shownAt s n ≡ accepted x)
+  each-answered n h =
+      let f = seen s o r in
+      let c : length (f .frame .items) ≡ o .items = ap (λ (o : Overview). o .items) (f .seen) in
+      item-shown s (f .frame) (f .judged) n (omega arith)
 
   pub no-further : (n : ℕ) → o .items ≤ n → shownAt s n ≡ refused 13 0
   no-further n h =

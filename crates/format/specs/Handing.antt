@@ -10,7 +10,7 @@ use Rattle.format.specs.Answers.{accepted}
 use Rattle.format.specs.Book.{text, printed}
 use Rattle.format.specs.Items.{ItemOf, Item, Channel, Histogram, HitCount, Sample, Bin, LastCell, TimeBin, Text, StartEvent, EndEvent, classFor, Token, whole}
 use Rattle.format.specs.Rules.{Kind, same}
-use Rattle.format.specs.Frames.{Frame, startWord}
+use Rattle.format.specs.Frames.{Frame, startWord, encode, Legal}
 use Rattle.format.specs.Questions.{Shown, shown, shownAt, textIn, textAt}
 use Rattle.format.specs.Steps.{Overview, overview, readOf}
 use Rattle.format.specs.Writing.{given}
@@ -18,6 +18,13 @@ use Rattle.format.specs.Runs.{Ran, writeAll}
 use Rattle.format.specs.WriterCases.{Holds}
 
 -- ---- what a caller is told
+
+-- of a frame: these bytes are a legal frame's, and o is its kind, card, sequence word and count of items
+pub record ReadAs (s : List ℕ) (o : Overview) : Type 0 where
+  pub frame : Frame
+  pub legal : Legal frame
+  pub written : s ≡ encode frame
+  pub told : o ≡ overview frame
 
 -- of an item: what `item` answers, and the bytes that `text` answers
 pub record Told : Type 0 where
