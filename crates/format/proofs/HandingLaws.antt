@@ -2,21 +2,22 @@
 -- it is the items themselves.
 -- Assumes nothing.
 use Prim.Native.Nat.{ℕ, suc, _+_, _*_, _<_, _≤_}
-use mathlib.Core.Path.{_≡_, refl, sym, ap, ap₂, subst, _∙_}
-use mathlib.Core.List.{List, [], _∷_, _++_, map, append-nil, append-assoc}
+use mathlib.Core.Path.{_≡_, refl, sym, ap, ap₂, _∙_}
+use mathlib.Core.List.{List, [], _∷_, _++_, map, append-assoc}
 use mathlib.Core.Logic.{_↔_, _⊎_}
 use native.Mathlib.Omega.{arith}
 use lib.ListN.{length, take, drop, length-append, length-map}
 use lib.Seq.{take-at}
 use Rattle.format.specs.Words.{Bytes, bytes, words, longWords, timeWords}
 use Rattle.format.specs.Answers.{Outcome, accepted, refused}
+use Rattle.format.specs.Book.{Class, text}
 use Rattle.format.specs.Items.{Item, Channel, Histogram, HitCount, Sample, Bin, LastCell, TimeBin, Text, StartEvent, EndEvent, wordsOf, Token, whole, broken}
 use Rattle.format.specs.Rules.{Kind}
 use Rattle.format.specs.Frames.{Frame, startWord, allWords, frameWords, encode, Legal, Sound, verdict}
-use Rattle.format.specs.Questions.{Found, itemAt, Shown, shown, shownAt, textIn, textAt}
+use Rattle.format.specs.Questions.{Shown, shown, shownAt}
 use Rattle.format.specs.Stands.{ItemIs, indexOf}
 use Rattle.format.specs.Steps.{Overview, overview, readOf}
-use Rattle.format.specs.Runs.{Ran, ran, writeAll}
+use Rattle.format.specs.Runs.{ran, writeAll}
 use Rattle.format.specs.Faults.{Refused}
 use Rattle.format.specs.Handing.{ReadAs, Told, toldOf, Answers, no-more, then, toldWords, allTold, frameTold, Call, byAdd, byText, tokenOfCall, callOf, handOver, writeCalls, CallsWrote}
 use Rattle.format.proofs.Acceptance.{exactly, sound}
@@ -57,6 +58,9 @@ handed-over (EndEvent n) = refl
 whole-is : (x y : Item) → whole x ≡ whole y → x ≡ y
 whole-is x y e = cc
 
+no-item : {A : Type 0} (c : Class) (x : Item) → broken c ≡ whole x → A
+no-item c x e = let z : _≡_ {A = ℕ} 0 1 = cc in absurd (omega arith)
+
 -- and a call that hands over an item is the one that its answers make
 pub handed-back : (c : Call) (x : Item) → tokenOfCall c ≡ whole x → c ≡ handOver x
 handed-back (byAdd (Channel a b c)) x e = ap handOver (whole-is _ x e)
@@ -66,7 +70,7 @@ handed-back (byAdd (Sample v)) x e = ap handOver (whole-is _ x e)
 handed-back (byAdd (Bin b n)) x e = ap handOver (whole-is _ x e)
 handed-back (byAdd (LastCell a b)) x e = ap handOver (whole-is _ x e)
 handed-back (byAdd (TimeBin t)) x e = ap handOver (whole-is _ x e)
-handed-back (byAdd (Text n)) x e = let z : _≡_ {A = ℕ} 0 1 = cc in absurd (omega arith)
+handed-back (byAdd (Text n)) x e = no-item text x e
 handed-back (byAdd (StartEvent t ts n)) x e = ap handOver (whole-is _ x e)
 handed-back (byAdd (EndEvent n)) x e = ap handOver (whole-is _ x e)
 handed-back (byText s) x e = ap handOver (whole-is _ x e)

@@ -13,24 +13,26 @@ use lib.Pow.{areBytes}
 use lib.ListN.{length, take, drop, length-map}
 use borrow.Author.Tests.{leb-true, lt-ltb}
 use Rattle.format.specs.Words.{Bytes, nonZero}
-use Rattle.format.specs.Answers.{Outcome, accepted, refused}
+use Rattle.format.specs.Answers.{accepted, refused}
 use Rattle.format.specs.Items as items
 use Rattle.format.specs.Items.{fits}
 use Rattle.format.specs.Rules as rules
 use Rattle.format.specs.Frames as frames
-use Rattle.format.specs.Frames.{Sound, encode, Legal, verdict}
+use Rattle.format.specs.Frames.{Sound, encode, Legal}
 use Rattle.format.specs.Faults.{Refused}
-use Rattle.format.specs.Questions.{Shown, shownAt}
+use Rattle.format.specs.Questions.{Shown}
+use Rattle.format.specs.Stands.{indexOf}
 use Rattle.format.specs.Steps.{Overview, overview, readOf}
 use Rattle.format.specs.Runs.{Ran, ran}
-use Rattle.format.specs.Handing.{ReadAs, Told, Answers, Call, handOver, callOf, writeCalls, CallsWrote}
+use Rattle.format.specs.Handing.{ReadAs, Answers, Call, handOver, callOf, writeCalls, CallsWrote}
 use Rattle.format.proofs.PrefixLaws.{and-left, and-right, and-both}
 use Rattle.format.proofs.WalkLaws.{allowed-fits}
+use Rattle.format.proofs.Acceptance.{exactly}
+use Rattle.format.proofs.ItemQuestions.{item-stands}
+use Rattle.format.proofs.HandingLaws.{shown-there}
 use Rattle.format.proofs.Demand2 as format2
 use Rattle.book.specs.declared.items.Item.{Item}
-use Rattle.book.specs.declared.items.Item.the-variants as item
 use Rattle.book.specs.declared.refusal.Refusal.{Refusal}
-use Rattle.book.specs.Views.{viewItem}
 use Rattle.book.proofs.Unique.{same-item}
 use Rattle.frame.specs.declared.state.Kind.{Kind}
 use Rattle.frame.specs.declared.state.Kind.the-variants as kind
@@ -40,7 +42,7 @@ use Rattle.frame.specs.declared.reading.Reading.the-variants as reading
 use Rattle.frame.specs.declared.items.FoundItem.{FoundItem}
 use Rattle.frame.specs.declared.items.Found.{Found}
 use Rattle.frame.specs.declared.items.Found.the-variants as found
-use Rattle.frame.specs.Views.{viewKind, viewFrame, viewReading, viewFound}
+use Rattle.frame.specs.Views.{viewKind, viewFrame, viewReading}
 use Rattle.frame.proofs.Unique.{same-kind, same-reading, same-found}
 use Rattle.writer.specs.declared.answers.Written.{Written}
 use Rattle.writer.specs.declared.answers.Written.the-variants as written
@@ -154,6 +156,32 @@ read-refused s bs r e q =
     let x = format2.read-refused-exactly (now s) bs (q .number) (q .place) in
     (λ i. x .0 (sym e ∙ ap viewReading i), λ a. same-reading r (reading.Refused q) (e ∙ x .1 a))
 
+-- so a frame is accepted exactly where its bytes are a legal frame's
+pub accepts-exactly : (s : RefT (List ℕ)) → Bytes (now s) → (r : Reading) → Read s r
+    → ((g : Frame) × (r ≡ reading.Accepted g)) ↔ ((f : frames.Frame) × Legal f × (now s ≡ encode f))
+accepts-exactly s bs r e = (there, back r e)
+  where
+    there : (g : Frame) × (r ≡ reading.Accepted g) → (f : frames.Frame) × Legal f × (now s ≡ encode f)
+    there (g, i) =
+        let a = read-exactly s bs r e g .0 i in
+        (a .frame, a .legal, a .written)
+
+    back : (r : Reading) → Read s r → (f : frames.Frame) × Legal f × (now s ≡ encode f) → (g : Frame) × (r ≡ reading.Accepted g)
+    back (reading.Accepted g) e x = (g, refl)
+    back (reading.Refused q) e (f, l, w) =
+        no-refusal (overview f) (q .number) (q .place)
+        (sym (format2.read-exactly (now s) bs (overview f) .1 (record { frame = f; legal = l; written = w; told = refl })) ∙ sym e)
+
+-- "the index of the next item or end word"
+pub next-index : (s : RefT (List ℕ)) → Bytes (now s) → (g : Frame) (a : ReadAs (now s) (viewFrame g)) (n : ℕ) → n < g .items → (x : FoundItem) → ItemAnswered s n (found.Item x)
+    → x .next ≡ indexOf (a .frame .items) (suc n)
+next-index s bs g a n h x e =
+    let f = a .frame in
+    let c : g .items ≡ length (f .items) = ap (λ (o : Overview). o .items) (a .told) in
+    let (y, i) = item-stands n (f .items) (subst (λ (m : ℕ). n < m) c h) in
+    let q = exactly (now s) bs f .1 (a .legal, a .written) in
+    ap (λ (o : Shown). o .next) (same-accepted _ _ (e ∙ shown-there (now s) f q n y i))
+
 pub its-items : (s : RefT (List ℕ)) → Bytes (now s) → (g : Frame) (a : ReadAs (now s) (viewFrame g)) (gs : List Argument) → Copies s 0 gs → length gs ≡ g .items
     → gs ≡ map argumentFor (a .frame .items)
 its-items s bs g a gs c h =
@@ -226,7 +254,8 @@ module _ (buf : List ℕ) (k : Kind) (card sequence : ℕ) (gs : List Argument) 
   count = sym (length-map (run-wrote .items) handOver) ∙ ap length (sym (run-wrote .handed)) ∙ length-map gs callIn
 
   module _ (s : RefT (List ℕ)) (its-bytes : now s ≡ take m left) where
-    seen : (r : Reading) → Read s r → (g : Frame) × (r ≡ reading.Accepted g) × (viewFrame g ≡ overview (record { kind = viewKind k; card = card; sequence = sequence; items = run-wrote .items }))
+    seen : (r : Reading) → Read s r
+        → (g : Frame) × (r ≡ reading.Accepted g) × (viewFrame g ≡ overview (record { kind = viewKind k; card = card; sequence = sequence; items = run-wrote .items }))
     seen (reading.Accepted g) e = (g, refl, same-accepted _ _ (e ∙ ap readOf its-bytes ∙ run-wrote .read))
     seen (reading.Refused q) e = no-refusal _ (q .number) (q .place) (sym (run-wrote .read) ∙ sym (e ∙ ap readOf its-bytes))
 

@@ -2,7 +2,7 @@
 -- `close`, each call by its contract's promise alone (specs/Runs.antt). Each theorem is one law; what the meaning says is on the page of the crate
 -- `format`, proofs/Demand2.antt.
 -- Assumes nothing.
-use Prim.Native.Nat.{ℕ, _<_, _≤_}
+use Prim.Native.Nat.{ℕ, suc, _<_, _≤_}
 use mathlib.Core.Path.{_≡_}
 use mathlib.Core.List.{List, [], _++_, map}
 use mathlib.Core.Bool.{true}
@@ -15,6 +15,7 @@ use Rattle.format.specs.Rules as rules
 use Rattle.format.specs.Frames as frames
 use Rattle.format.specs.Frames.{Sound, encode, Legal}
 use Rattle.format.specs.Faults.{Refused}
+use Rattle.format.specs.Stands.{indexOf}
 use Rattle.format.specs.Handing.{ReadAs, CallsWrote}
 use Rattle.book.specs.declared.refusal.Refusal.{Refusal}
 use Rattle.frame.specs.declared.state.Kind.{Kind}
@@ -33,17 +34,25 @@ use Rattle.writer.proofs.CopyLaws as copies
 
 -- > "A frame is accepted exactly when it follows our word book and frame rules,"
 module _ (s : RefT (List ℕ)) (bytes : Bytes (now s)) (r : Reading) (read : Read s r) where
-  pub read-exactly : (f : Frame) → (r ≡ reading.Accepted f) ↔ ReadAs (now s) (viewFrame f)
-  read-exactly = copies.read-exactly s bytes r read
+  pub accepted-exactly : ((f : Frame) × (r ≡ reading.Accepted f)) ↔ ((f : frames.Frame) × Legal f × (now s ≡ encode f))
+  accepted-exactly = copies.accepts-exactly s bytes r read
 
   pub refused-exactly : (q : Refusal) → (r ≡ reading.Refused q) ↔ Refused (now s) (q .number) (q .place)
   refused-exactly = copies.read-refused s bytes r read
 
--- > "and then read as the one kind, card, sequence word and list of items it stands for."
--- What is handed over by a caller who copies the frame are the items of the one frame that its bytes are.
-pub read-as-its-items : (s : RefT (List ℕ)) → Bytes (now s) → (f : Frame) (stands : ReadAs (now s) (viewFrame f)) (gs : List Argument) → Copies s 0 gs → length gs ≡ f .items
-    → gs ≡ map argumentFor (stands .frame .items)
-read-as-its-items = copies.its-items
+  -- > "and then read as the one kind, card, sequence word"
+  pub read-exactly : (f : Frame) → (r ≡ reading.Accepted f) ↔ ReadAs (now s) (viewFrame f)
+  read-exactly = copies.read-exactly s bytes r read
+
+-- > "and list of items it stands for."
+module _ (s : RefT (List ℕ)) (bytes : Bytes (now s)) (f : Frame) (stands : ReadAs (now s) (viewFrame f)) where
+  -- What a caller who copies the frame is answered and hands over are the items of the one frame that its bytes are, each by its fields;
+  pub read-as-its-items : (gs : List Argument) → Copies s 0 gs → length gs ≡ f .items → gs ≡ map argumentFor (stands .frame .items)
+  read-as-its-items = copies.its-items s bytes f stands
+
+  -- and with each of them "the index of the next item or end word".
+  pub next-index : (n : ℕ) → n < f .items → (x : FoundItem) → ItemAnswered s n (found.Item x) → x .next ≡ indexOf (stands .frame .items) (suc n)
+  next-index = copies.next-index s bytes f stands
 
 module _ (s : RefT (List ℕ)) (f : Frame) (read : Read s (reading.Accepted f)) where
   -- Each item that `read` counts is answered, no further one is there,

@@ -1,18 +1,16 @@
 -- A run of the code's calls is the run that the crate `format` speaks of, and what a caller hands over who copies a frame is what its answers say.
 -- Assumes nothing.
-use Prim.Native.Nat.{ℕ, suc, _<_, _≤_}
+use Prim.Native.Nat.{ℕ, suc}
 use mathlib.Core.Path.{_≡_, refl, sym, ap, ap₂, _∙_}
 use mathlib.Core.List.{List, [], _∷_, map}
-use mathlib.Core.Bool.{Bool, true, false}
-use native.Mathlib.Omega.{arith}
 use denote.Ref.{RefT, now}
 use lib.ListN.{length}
 use Rattle.format.specs.Answers.{Outcome, accepted, refused}
 use Rattle.format.specs.Items.{Token}
 use Rattle.format.specs.Questions.{textAt}
 use Rattle.format.specs.Writing.{beginAnswer, beginLeft, addAnswer, addLeft, closeAnswer, closeLeft, Wrote}
-use Rattle.format.specs.Runs.{Ran, ran, addAll}
-use Rattle.format.specs.Handing.{Told, Answers, Call, tokenOfCall, callOf, writeCalls}
+use Rattle.format.specs.Runs.{ran, addAll}
+use Rattle.format.specs.Handing.{Told, Answers, tokenOfCall, callOf, writeCalls}
 use Rattle.format.specs.Handing as handing
 use Rattle.format.proofs.Completeness.{begin-on, begin-stops, add-on, add-stops, close-on}
 use Rattle.frame.specs.declared.state.Kind.{Kind}

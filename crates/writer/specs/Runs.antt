@@ -78,8 +78,10 @@ Handed b n (aText s) r left = AddedText b n s r left
 -- length that it answered. A refused call is the last. The last answer, and the buffer after it
 pub data Adds : List ℕ → ℕ → List Argument → Written → List ℕ → Type 0 where
   closes : {b left : List ℕ} {n : ℕ} {r : Written} → Closed b n r left → Adds b n [] r left
-  adds : {b c left : List ℕ} {n m : ℕ} {g : Argument} {gs : List Argument} {r : Written} → Handed b n g (written.Length m) c → Adds c m gs r left → Adds b n (g ∷ gs) r left
-  refuses : {b left : List ℕ} {n : ℕ} {g : Argument} {gs : List Argument} {q : Refusal} → Handed b n g (written.Refused q) left → Adds b n (g ∷ gs) (written.Refused q) left
+  adds : {b c left : List ℕ} {n m : ℕ} {g : Argument} {gs : List Argument} {r : Written} → Handed b n g (written.Length m) c → Adds c m gs r left
+      → Adds b n (g ∷ gs) r left
+  refuses : {b left : List ℕ} {n : ℕ} {g : Argument} {gs : List Argument} {q : Refusal} → Handed b n g (written.Refused q) left
+      → Adds b n (g ∷ gs) (written.Refused q) left
 
 -- the same from begin on
 pub data Run (b : List ℕ) (kind : Kind) (card sequence : ℕ) (gs : List Argument) : Written → List ℕ → Type 0 where
@@ -94,8 +96,10 @@ isText x = same text (classFor (viewItem x))
 -- who copies the frame s, from ordinal n on, asks `item` and hands over what it answers; where that is a text, what `text` answers
 pub data Copies (s : RefT (List ℕ)) : ℕ → List Argument → Type 0 where
   no-more : {n : ℕ} → Copies s n []
-  with-item : {n : ℕ} {gs : List Argument} (x : FoundItem) → ItemAnswered s n (found.Item x) → isText (x .item) ≡ false → Copies s (suc n) gs → Copies s n (anItem (x .item) ∷ gs)
-  with-text : {n : ℕ} {gs : List Argument} (x : FoundItem) (t : RefT (List ℕ)) → ItemAnswered s n (found.Item x) → isText (x .item) ≡ true → TextAnswered s n t → Copies s (suc n) gs
+  with-item : {n : ℕ} {gs : List Argument} (x : FoundItem) → ItemAnswered s n (found.Item x) → isText (x .item) ≡ false → Copies s (suc n) gs
+      → Copies s n (anItem (x .item) ∷ gs)
+  with-text : {n : ℕ} {gs : List Argument} (x : FoundItem) (t : RefT (List ℕ)) → ItemAnswered s n (found.Item x) → isText (x .item) ≡ true → TextAnswered s n t
+      → Copies s (suc n) gs
       → Copies s n (aText (now t) ∷ gs)
 
 -- who has a list of items hands each over by its fields
