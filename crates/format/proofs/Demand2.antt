@@ -20,7 +20,7 @@ use Rattle.format.specs.WriterCases.{RunWrote}
 use Rattle.format.specs.Runs.{ran, writeAll}
 use Rattle.format.specs.Questions.{Shown, shownAt}
 use Rattle.format.specs.Steps.{Overview, readOf}
-use Rattle.format.specs.Handing.{ReadAs, Told, toldOf, Answers, toldWords, allTold, frameTold, Call, tokenOfCall, callOf, handOver, writeCalls, CallsWrote}
+use Rattle.format.specs.Handing.{StandsFor, Told, toldOf, Answers, toldWords, allTold, frameTold, Call, tokenOfCall, callOf, handOver, writeCalls, CallsWrote}
 use Rattle.format.proofs.Acceptance.{exactly}
 use Rattle.format.proofs.Refusals as refusals
 use Rattle.format.proofs.Tree as tree
@@ -87,14 +87,14 @@ pub one-call : (c : Call) (x : Item) → tokenOfCall c ≡ whole x → c ≡ han
 one-call = handing.handed-back
 
 -- "A frame is accepted exactly when it follows our word book and frame rules": so `read` answers,
-pub read-exactly : (s : List ℕ) → Bytes s → (o : Overview) → (readOf s ≡ accepted o) ↔ ReadAs s o
+pub read-exactly : (s : List ℕ) → Bytes s → (o : Overview) → (readOf s ≡ accepted o) ↔ StandsFor s o
 read-exactly = handing.read-exactly
 
 pub read-refused-exactly : (s : List ℕ) → Bytes s → (n p : ℕ) → (readOf s ≡ refused n p) ↔ Refused s n p
 read-refused-exactly = handing.read-refused
 
 -- "and then read as the one kind, card, sequence word and list of items it stands for": the answers are those of its items,
-pub read-as-its-items : (s : List ℕ) → Bytes s → (o : Overview) (a : ReadAs s o) (xs : List Told) → Answers s 0 xs → length xs ≡ o .items
+pub read-as-its-items : (s : List ℕ) → Bytes s → (o : Overview) (a : StandsFor s o) (xs : List Told) → Answers s 0 xs → length xs ≡ o .items
     → map callOf xs ≡ map handOver (a .frame .items)
 read-as-its-items = handing.its-items
 

@@ -19,7 +19,7 @@ use Rattle.format.specs.Stands.{ItemIs, indexOf}
 use Rattle.format.specs.Steps.{Overview, overview, readOf}
 use Rattle.format.specs.Runs.{ran, writeAll}
 use Rattle.format.specs.Faults.{Refused}
-use Rattle.format.specs.Handing.{ReadAs, Told, toldOf, Answers, no-more, then, toldWords, allTold, frameTold, Call, byAdd, byText, tokenOfCall, callOf, handOver, writeCalls, CallsWrote}
+use Rattle.format.specs.Handing.{StandsFor, Told, toldOf, Answers, no-more, then, toldWords, allTold, frameTold, Call, byAdd, byText, tokenOfCall, callOf, handOver, writeCalls, CallsWrote}
 use Rattle.format.proofs.Acceptance.{exactly, sound}
 use Rattle.format.proofs.Refusals.{refusals}
 use Rattle.format.proofs.ItemQuestions.{item-stands, all-words, item-there, item-past, item-refused, text-of}
@@ -224,23 +224,23 @@ refused-by s n p e = go (verdict s) refl
 
 -- T5 and T7 of what `read` answers
 module _ (s : List ℕ) (bs : Bytes s) where
-  pub read-exactly : (o : Overview) → (readOf s ≡ accepted o) ↔ ReadAs s o
+  pub read-exactly : (o : Overview) → (readOf s ≡ accepted o) ↔ StandsFor s o
   read-exactly o = (there, back)
     where
-      there : readOf s ≡ accepted o → ReadAs s o
+      there : readOf s ≡ accepted o → StandsFor s o
       there e =
           let f = seen s o e in
           let (l, q) = sound s bs (f .frame) (f .judged) in
           record { frame = f .frame; legal = l; written = q; told = sym (f .seen) }
 
-      back : ReadAs s o → readOf s ≡ accepted o
+      back : StandsFor s o → readOf s ≡ accepted o
       back a = read-of s (a .frame) (exactly s bs (a .frame) .1 (a .legal, a .written)) ∙ ap accepted (sym (a .told))
 
   pub read-refused : (n p : ℕ) → (readOf s ≡ refused n p) ↔ Refused s n p
   read-refused n p = (λ e. refusals s bs n p .0 (refused-by s n p e), λ h. refused-too s n p (refusals s bs n p .1 h))
 
   -- and the answers are those of the one list of items
-  pub its-items : (o : Overview) (a : ReadAs s o) (xs : List Told) → Answers s 0 xs → length xs ≡ o .items → map callOf xs ≡ map handOver (a .frame .items)
+  pub its-items : (o : Overview) (a : StandsFor s o) (xs : List Told) → Answers s 0 xs → length xs ≡ o .items → map callOf xs ≡ map handOver (a .frame .items)
   its-items o a xs k h =
       let f = a .frame in
       let c : o .items ≡ length (f .items) = ap (λ (o : Overview). o .items) (a .told) in

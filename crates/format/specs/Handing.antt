@@ -20,7 +20,7 @@ use Rattle.format.specs.WriterCases.{Holds}
 -- ---- what a caller is told
 
 -- of a frame: these bytes are a legal frame's, and o is its kind, card, sequence word and count of items
-pub record ReadAs (s : List ℕ) (o : Overview) : Type 0 where
+pub record StandsFor (s : List ℕ) (o : Overview) : Type 0 where
   pub frame : Frame
   pub legal : Legal frame
   pub written : s ≡ encode frame

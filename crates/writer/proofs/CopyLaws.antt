@@ -24,7 +24,7 @@ use Rattle.format.specs.Questions.{Shown}
 use Rattle.format.specs.Stands.{indexOf}
 use Rattle.format.specs.Steps.{Overview, overview, readOf}
 use Rattle.format.specs.Runs.{Ran, ran}
-use Rattle.format.specs.Handing.{ReadAs, Answers, Call, handOver, callOf, writeCalls, CallsWrote}
+use Rattle.format.specs.Handing.{StandsFor, Answers, Call, handOver, callOf, writeCalls, CallsWrote}
 use Rattle.format.proofs.PrefixLaws.{and-left, and-right, and-both}
 use Rattle.format.proofs.WalkLaws.{allowed-fits}
 use Rattle.format.proofs.Acceptance.{exactly}
@@ -47,7 +47,7 @@ use Rattle.frame.proofs.Unique.{same-kind, same-reading, same-found}
 use Rattle.writer.specs.declared.answers.Written.{Written}
 use Rattle.writer.specs.declared.answers.Written.the-variants as written
 use Rattle.writer.specs.Views.{viewWritten}
-use Rattle.writer.specs.Runs.{Read, ItemAnswered, TextAnswered, Argument, anItem, aText, callIn, Run, isText, Copies, no-more, with-item, with-text, argumentFor, typed, allTyped, ReadsBack}
+use Rattle.writer.specs.Runs.{ReadAs, ItemAnswered, TextAnswered, Argument, anItem, aText, callIn, Run, isText, Copies, no-more, with-item, with-text, argumentFor, typed, allTyped, ReadsBack}
 use Rattle.writer.proofs.Unique.{same-written}
 use Rattle.writer.proofs.RunLaws.{run-ran, asked}
 
@@ -97,7 +97,7 @@ all-arguments (x ∷ xs) = ap₂ _∷_ (its-call x) (all-arguments xs)
 
 -- ---- T20
 
-module _ (s : RefT (List ℕ)) (g : Frame) (read : Read s (reading.Accepted g)) where
+module _ (s : RefT (List ℕ)) (g : Frame) (read : ReadAs (now s) (reading.Accepted g)) where
   pub copied : Bytes (now s) → (gs : List Argument) → Copies s 0 gs → length gs ≡ g .items → (buf : List ℕ) → length (now s) ≤ length buf
       → (r : Written) (left : List ℕ) → Run buf (g .kind) (g .card) (g .sequence) gs r left
       → (r ≡ written.Length (length (now s))) × (left ≡ now s ++ drop (length (now s)) buf)
@@ -111,24 +111,24 @@ module _ (s : RefT (List ℕ)) (g : Frame) (read : Read s (reading.Accepted g)) 
   -- ---- T10
 
   -- each item that `read` counts is answered, and no further one is there
-  pub item-answered : (n : ℕ) → n < g .items → (r : Found) → ItemAnswered s n r → (x : FoundItem) × (r ≡ found.Item x)
+  pub item-answered : (n : ℕ) → n < g .items → (r : Found) → ItemAnswered (now s) n r → (x : FoundItem) × (r ≡ found.Item x)
   item-answered n h (found.Item x) e = (x, refl)
   item-answered n h (found.Refused q) e =
       let (x, a) = format2.each-item-is-answered (now s) (viewFrame g) (sym read) n h in
       no-refusal x (q .number) (q .place) (sym a ∙ sym e)
 
-  pub item-absent : (n : ℕ) → g .items ≤ n → (r : Found) → ItemAnswered s n r → r ≡ found.Refused (record { number = 13; place = 0 })
+  pub item-absent : (n : ℕ) → g .items ≤ n → (r : Found) → ItemAnswered (now s) n r → r ≡ found.Refused (record { number = 13; place = 0 })
   item-absent n h r e = same-found r (found.Refused (record { number = 13; place = 0 })) (e ∙ format2.no-further-item (now s) (viewFrame g) (sym read) n h)
 
   -- so that the two questions, which always answer, let a caller copy the frame
-  module _ (answers : (n : ℕ) → (r : Found) × ItemAnswered s n r) (texts : (n : ℕ) → (t : RefT (List ℕ)) × TextAnswered s n t) where
+  module _ (answers : (n : ℕ) → (r : Found) × ItemAnswered (now s) n r) (texts : (n : ℕ) → (t : RefT (List ℕ)) × TextAnswered s n t) where
     one-more : (n : ℕ) → n < g .items → (gs : List Argument) → Copies s (suc n) gs → (a : Argument) × Copies s n (a ∷ gs)
     one-more n h gs k =
         let (r, e) = answers n in
         let (x, q) = item-answered n h r e in
-        go x (subst (ItemAnswered s n) q e) (isText (x .item)) refl
+        go x (subst (ItemAnswered (now s) n) q e) (isText (x .item)) refl
       where
-        go : (x : FoundItem) → ItemAnswered s n (found.Item x) → (b : Bool) → isText (x .item) ≡ b → (a : Argument) × Copies s n (a ∷ gs)
+        go : (x : FoundItem) → ItemAnswered (now s) n (found.Item x) → (b : Bool) → isText (x .item) ≡ b → (a : Argument) × Copies s n (a ∷ gs)
         go x e true i =
             let (t, j) = texts n in
             (aText (now t), with-text x t e i j k)
@@ -146,18 +146,18 @@ module _ (s : RefT (List ℕ)) (g : Frame) (read : Read s (reading.Accepted g)) 
 
 -- ---- T5, T6 and T7 of `read`
 
-pub read-exactly : (s : RefT (List ℕ)) → Bytes (now s) → (r : Reading) → Read s r → (g : Frame) → (r ≡ reading.Accepted g) ↔ ReadAs (now s) (viewFrame g)
+pub read-exactly : (s : RefT (List ℕ)) → Bytes (now s) → (r : Reading) → ReadAs (now s) r → (g : Frame) → (r ≡ reading.Accepted g) ↔ StandsFor (now s) (viewFrame g)
 read-exactly s bs r e g =
     let x = format2.read-exactly (now s) bs (viewFrame g) in
     (λ i. x .0 (sym e ∙ ap viewReading i), λ a. same-reading r (reading.Accepted g) (e ∙ x .1 a))
 
-pub read-refused : (s : RefT (List ℕ)) → Bytes (now s) → (r : Reading) → Read s r → (q : Refusal) → (r ≡ reading.Refused q) ↔ Refused (now s) (q .number) (q .place)
+pub read-refused : (s : RefT (List ℕ)) → Bytes (now s) → (r : Reading) → ReadAs (now s) r → (q : Refusal) → (r ≡ reading.Refused q) ↔ Refused (now s) (q .number) (q .place)
 read-refused s bs r e q =
     let x = format2.read-refused-exactly (now s) bs (q .number) (q .place) in
     (λ i. x .0 (sym e ∙ ap viewReading i), λ a. same-reading r (reading.Refused q) (e ∙ x .1 a))
 
 -- so a frame is accepted exactly where its bytes are a legal frame's
-pub accepts-exactly : (s : RefT (List ℕ)) → Bytes (now s) → (r : Reading) → Read s r
+pub accepts-exactly : (s : RefT (List ℕ)) → Bytes (now s) → (r : Reading) → ReadAs (now s) r
     → ((g : Frame) × (r ≡ reading.Accepted g)) ↔ ((f : frames.Frame) × Legal f × (now s ≡ encode f))
 accepts-exactly s bs r e = (there, back r e)
   where
@@ -166,14 +166,14 @@ accepts-exactly s bs r e = (there, back r e)
         let a = read-exactly s bs r e g .0 i in
         (a .frame, a .legal, a .written)
 
-    back : (r : Reading) → Read s r → (f : frames.Frame) × Legal f × (now s ≡ encode f) → (g : Frame) × (r ≡ reading.Accepted g)
+    back : (r : Reading) → ReadAs (now s) r → (f : frames.Frame) × Legal f × (now s ≡ encode f) → (g : Frame) × (r ≡ reading.Accepted g)
     back (reading.Accepted g) e x = (g, refl)
     back (reading.Refused q) e (f, l, w) =
         no-refusal (overview f) (q .number) (q .place)
         (sym (format2.read-exactly (now s) bs (overview f) .1 (record { frame = f; legal = l; written = w; told = refl })) ∙ sym e)
 
 -- "the index of the next item or end word"
-pub next-index : (s : RefT (List ℕ)) → Bytes (now s) → (g : Frame) (a : ReadAs (now s) (viewFrame g)) (n : ℕ) → n < g .items → (x : FoundItem) → ItemAnswered s n (found.Item x)
+pub next-index : (s : RefT (List ℕ)) → Bytes (now s) → (g : Frame) (a : StandsFor (now s) (viewFrame g)) (n : ℕ) → n < g .items → (x : FoundItem) → ItemAnswered (now s) n (found.Item x)
     → x .next ≡ indexOf (a .frame .items) (suc n)
 next-index s bs g a n h x e =
     let f = a .frame in
@@ -182,7 +182,7 @@ next-index s bs g a n h x e =
     let q = exactly (now s) bs f .1 (a .legal, a .written) in
     ap (λ (o : Shown). o .next) (same-accepted _ _ (e ∙ shown-there (now s) f q n y i))
 
-pub its-items : (s : RefT (List ℕ)) → Bytes (now s) → (g : Frame) (a : ReadAs (now s) (viewFrame g)) (gs : List Argument) → Copies s 0 gs → length gs ≡ g .items
+pub its-items : (s : RefT (List ℕ)) → Bytes (now s) → (g : Frame) (a : StandsFor (now s) (viewFrame g)) (gs : List Argument) → Copies s 0 gs → length gs ≡ g .items
     → gs ≡ map argumentFor (a .frame .items)
 its-items s bs g a gs c h =
     let k = asked c in
@@ -254,7 +254,7 @@ module _ (buf : List ℕ) (k : Kind) (card sequence : ℕ) (gs : List Argument) 
   count = sym (length-map (run-wrote .items) handOver) ∙ ap length (sym (run-wrote .handed)) ∙ length-map gs callIn
 
   module _ (s : RefT (List ℕ)) (its-bytes : now s ≡ take m left) where
-    seen : (r : Reading) → Read s r
+    seen : (r : Reading) → ReadAs (now s) r
         → (g : Frame) × (r ≡ reading.Accepted g) × (viewFrame g ≡ overview (record { kind = viewKind k; card = card; sequence = sequence; items = run-wrote .items }))
     seen (reading.Accepted g) e = (g, refl, same-accepted _ _ (e ∙ ap readOf its-bytes ∙ run-wrote .read))
     seen (reading.Refused q) e = no-refusal _ (q .number) (q .place) (sym (run-wrote .read) ∙ sym (e ∙ ap readOf its-bytes))
@@ -268,7 +268,7 @@ module _ (buf : List ℕ) (k : Kind) (card sequence : ℕ) (gs : List Argument) 
         format2.one-list-of-answers (take m left) 0 (a .told) (w .answers) (subst (λ (s : List ℕ). Answers s 0 (a .told)) its-bytes (a .answers)) (w .answered) n in
         same-arguments hs gs (sym (a .handed) ∙ ap (map callOf) t ∙ w .same)
 
-    pub reads-back : (r : Reading) → Read s r → (hs : List Argument) → Copies s 0 hs → length hs ≡ length gs → ReadsBack k card sequence gs r hs
+    pub reads-back : (r : Reading) → ReadAs (now s) r → (hs : List Argument) → Copies s 0 hs → length hs ≡ length gs → ReadsBack k card sequence gs r hs
     reads-back r e hs c h =
         let (g, q, v) = seen r e in
         record {

@@ -16,7 +16,7 @@ use Rattle.format.specs.Frames as frames
 use Rattle.format.specs.Frames.{Sound, encode, Legal}
 use Rattle.format.specs.Faults.{Refused}
 use Rattle.format.specs.Stands.{indexOf}
-use Rattle.format.specs.Handing.{ReadAs, CallsWrote}
+use Rattle.format.specs.Handing.{StandsFor, CallsWrote}
 use Rattle.book.specs.declared.refusal.Refusal.{Refusal}
 use Rattle.frame.specs.declared.state.Kind.{Kind}
 use Rattle.frame.specs.declared.reading.Frame.{Frame}
@@ -28,12 +28,12 @@ use Rattle.frame.specs.declared.items.Found.the-variants as found
 use Rattle.frame.specs.Views.{viewKind, viewFrame}
 use Rattle.writer.specs.declared.answers.Written.{Written}
 use Rattle.writer.specs.declared.answers.Written.the-variants as written
-use Rattle.writer.specs.Runs.{Read, ItemAnswered, TextAnswered, Argument, callIn, Run, Copies, argumentFor, allTyped, ReadsBack}
+use Rattle.writer.specs.Runs.{ReadAs, ItemAnswered, TextAnswered, Argument, callIn, Run, Copies, argumentFor, allTyped, ReadsBack}
 use Rattle.writer.proofs.RunLaws as runs
 use Rattle.writer.proofs.CopyLaws as copies
 
 -- > "A frame is accepted exactly when it follows our word book and frame rules,"
-module _ (s : RefT (List ℕ)) (bytes : Bytes (now s)) (r : Reading) (read : Read s r) where
+module _ (s : RefT (List ℕ)) (bytes : Bytes (now s)) (r : Reading) (read : ReadAs (now s) r) where
   pub accepted-exactly : ((f : Frame) × (r ≡ reading.Accepted f)) ↔ ((f : frames.Frame) × Legal f × (now s ≡ encode f))
   accepted-exactly = copies.accepts-exactly s bytes r read
 
@@ -41,29 +41,29 @@ module _ (s : RefT (List ℕ)) (bytes : Bytes (now s)) (r : Reading) (read : Rea
   refused-exactly = copies.read-refused s bytes r read
 
   -- > "and then read as the one kind, card, sequence word"
-  pub read-exactly : (f : Frame) → (r ≡ reading.Accepted f) ↔ ReadAs (now s) (viewFrame f)
+  pub read-exactly : (f : Frame) → (r ≡ reading.Accepted f) ↔ StandsFor (now s) (viewFrame f)
   read-exactly = copies.read-exactly s bytes r read
 
 -- > "and list of items it stands for."
-module _ (s : RefT (List ℕ)) (bytes : Bytes (now s)) (f : Frame) (stands : ReadAs (now s) (viewFrame f)) where
+module _ (s : RefT (List ℕ)) (bytes : Bytes (now s)) (f : Frame) (stands : StandsFor (now s) (viewFrame f)) where
   -- What a caller who copies the frame is answered and hands over are the items of the one frame that its bytes are, each by its fields;
   pub read-as-its-items : (gs : List Argument) → Copies s 0 gs → length gs ≡ f .items → gs ≡ map argumentFor (stands .frame .items)
   read-as-its-items = copies.its-items s bytes f stands
 
   -- and with each of them "the index of the next item or end word".
-  pub next-index : (n : ℕ) → n < f .items → (x : FoundItem) → ItemAnswered s n (found.Item x) → x .next ≡ indexOf (stands .frame .items) (suc n)
+  pub next-index : (n : ℕ) → n < f .items → (x : FoundItem) → ItemAnswered (now s) n (found.Item x) → x .next ≡ indexOf (stands .frame .items) (suc n)
   next-index = copies.next-index s bytes f stands
 
-module _ (s : RefT (List ℕ)) (f : Frame) (read : Read s (reading.Accepted f)) where
+module _ (s : RefT (List ℕ)) (f : Frame) (read : ReadAs (now s) (reading.Accepted f)) where
   -- Each item that `read` counts is answered, no further one is there,
-  pub each-item-is-answered : (n : ℕ) → n < f .items → (r : Found) → ItemAnswered s n r → (x : FoundItem) × (r ≡ found.Item x)
+  pub each-item-is-answered : (n : ℕ) → n < f .items → (r : Found) → ItemAnswered (now s) n r → (x : FoundItem) × (r ≡ found.Item x)
   each-item-is-answered = copies.item-answered s f read
 
-  pub no-further-item : (n : ℕ) → f .items ≤ n → (r : Found) → ItemAnswered s n r → r ≡ found.Refused (record { number = 13; place = 0 })
+  pub no-further-item : (n : ℕ) → f .items ≤ n → (r : Found) → ItemAnswered (now s) n r → r ≡ found.Refused (record { number = 13; place = 0 })
   no-further-item = copies.item-absent s f read
 
   -- and so the frame can be copied to its end, whatever the two questions answer.
-  pub can-be-copied : ((n : ℕ) → (r : Found) × ItemAnswered s n r) → ((n : ℕ) → (t : RefT (List ℕ)) × TextAnswered s n t)
+  pub can-be-copied : ((n : ℕ) → (r : Found) × ItemAnswered (now s) n r) → ((n : ℕ) → (t : RefT (List ℕ)) × TextAnswered s n t)
       → (gs : List Argument) × Copies s 0 gs × (length gs ≡ f .items)
   can-be-copied = copies.can-be-copied s f read
 
@@ -105,6 +105,6 @@ module _ (buf : List ℕ) (k : Kind) (card sequence : ℕ) (gs : List Argument) 
   only-frames-are-written = copies.run-wrote buf k card sequence gs m left run
 
   -- of those m bytes read answers this kind, card, sequence word and number of items, and who copies them hands over the same again.
-  pub reads-back : (s : RefT (List ℕ)) → now s ≡ take m left → (r : Reading) → Read s r → (hs : List Argument) → Copies s 0 hs → length hs ≡ length gs
+  pub reads-back : (s : RefT (List ℕ)) → now s ≡ take m left → (r : Reading) → ReadAs (now s) r → (hs : List Argument) → Copies s 0 hs → length hs ≡ length gs
       → ReadsBack k card sequence gs r hs
   reads-back = copies.reads-back buf k card sequence gs m left run

@@ -36,11 +36,11 @@ use Rattle.writer.specs.Views.{viewWritten}
 -- ---- the promises of the calls, each as its function's contract has it
 
 -- `read`, `item` and `text` of the crate `frame`, asked of the frame s
-abbrev pub Read : RefT (List ℕ) → Reading → Type 0
-Read s r = viewReading r ≡ readOf (now s)
+abbrev pub ReadAs : List ℕ → Reading → Type 0
+ReadAs s r = viewReading r ≡ readOf s
 
-abbrev pub ItemAnswered : RefT (List ℕ) → ℕ → Found → Type 0
-ItemAnswered s n r = viewFound r ≡ shownAt (now s) n
+abbrev pub ItemAnswered : List ℕ → ℕ → Found → Type 0
+ItemAnswered s n r = viewFound r ≡ shownAt s n
 
 abbrev pub TextAnswered : RefT (List ℕ) → ℕ → RefT (List ℕ) → Type 0
 TextAnswered s n r = (now r ≡ textAt (now s) n) × (ptr r ≡ within (ptr s) (textFrom (now s) n))
@@ -96,9 +96,9 @@ isText x = same text (classFor (viewItem x))
 -- who copies the frame s, from ordinal n on, asks `item` and hands over what it answers; where that is a text, what `text` answers
 pub data Copies (s : RefT (List ℕ)) : ℕ → List Argument → Type 0 where
   no-more : {n : ℕ} → Copies s n []
-  with-item : {n : ℕ} {gs : List Argument} (x : FoundItem) → ItemAnswered s n (found.Item x) → isText (x .item) ≡ false → Copies s (suc n) gs
+  with-item : {n : ℕ} {gs : List Argument} (x : FoundItem) → ItemAnswered (now s) n (found.Item x) → isText (x .item) ≡ false → Copies s (suc n) gs
       → Copies s n (anItem (x .item) ∷ gs)
-  with-text : {n : ℕ} {gs : List Argument} (x : FoundItem) (t : RefT (List ℕ)) → ItemAnswered s n (found.Item x) → isText (x .item) ≡ true → TextAnswered s n t
+  with-text : {n : ℕ} {gs : List Argument} (x : FoundItem) (t : RefT (List ℕ)) → ItemAnswered (now s) n (found.Item x) → isText (x .item) ≡ true → TextAnswered s n t
       → Copies s (suc n) gs
       → Copies s n (aText (now t) ∷ gs)
 
