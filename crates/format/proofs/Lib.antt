@@ -49,6 +49,7 @@ pub mod StoreLaws
 pub mod WriterSteps
 pub mod WriterNumbers
 pub mod Completeness
+pub mod HandingLaws
 pub mod NoDeadEnd
 pub mod Writing
 pub mod Demand2

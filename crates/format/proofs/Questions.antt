@@ -13,17 +13,21 @@ use Rattle.format.specs.Book.{text, startEvent, endEvent}
 use Rattle.format.specs.Items.{Item, Text, StartEvent, EndEvent, classFor}
 use Rattle.format.specs.Rules.{dataKind, same, count}
 use Rattle.format.specs.Frames.{Frame, allWords, verdict}
-use Rattle.format.specs.Questions.{Event, itemAt, textAt, eventAt, samplesAt, samplesLeft, countsAt, countsLeft}
+use Rattle.format.specs.Questions.{Event, itemAt, shown, shownAt, textAt, eventAt, samplesAt, samplesLeft, countsAt, countsLeft}
 use Rattle.format.specs.Stands.{ItemIs, indexOf, EventIn, ChannelIn, HistogramIn, SampleIn, BinIn, Fill}
 use Rattle.format.proofs.ItemQuestions as items
 use Rattle.format.proofs.EventQuestions as events
 use Rattle.format.proofs.StandLaws.{sampleOrdinal, binOrdinal}
 use Rattle.format.proofs.FillQuestions as fill
+use Rattle.format.proofs.HandingLaws as handing
 
 -- "Order: frame refusals, ..": a refused frame is refused by every question, and has no text
 module _ (s : List ℕ) (k p : ℕ) (v : verdict s ≡ refused k p) where
   pub item-refused : (n : ℕ) → itemAt s n ≡ refused k p
   item-refused = items.item-refused s k p v
+
+  pub shown-refused : (n : ℕ) → shownAt s n ≡ refused k p
+  shown-refused = handing.shown-refused s k p v
 
   pub text-refused : (n : ℕ) → textAt s n ≡ []
   text-refused = items.text-refused s k p v
@@ -51,12 +55,19 @@ module _ (s : List ℕ) (bytes : Bytes s) (f : Frame) (v : verdict s ≡ accepte
   pub item-answer : (n : ℕ) (x : Item) → ItemIs (f .items) n x → itemAt s n ≡ accepted (record { item = x; next = indexOf (f .items) (suc n) })
   item-answer = items.item-there s f v
 
+  -- as it is answered: of a text, its n (proofs/Demand2.antt ties the answers to the printed columns, and to what the writer is handed)
+  pub item-shown : (n : ℕ) (x : Item) → ItemIs (f .items) n x → shownAt s n ≡ accepted (record { item = shown x; next = indexOf (f .items) (suc n) })
+  item-shown = handing.shown-there s f v
+
   pub item-there : (n : ℕ) → n < length (f .items) → (x : Item) × ItemIs (f .items) n x
   item-there n = items.item-stands n (f .items)
 
   -- ABSENT, "no such item"
   pub item-absent : (n : ℕ) → length (f .items) ≤ n → itemAt s n ≡ refused 13 0
   item-absent = items.item-past s f v
+
+  pub shown-absent : (n : ℕ) → length (f .items) ≤ n → shownAt s n ≡ refused 13 0
+  shown-absent = handing.shown-past s f v
 
   -- the first item stands behind the three first words, each further one behind it, and behind the last one the frame's last word
   pub first-index : indexOf (f .items) 0 ≡ 3

@@ -15,6 +15,7 @@ pub mod Faults
 pub mod Tree
 pub mod Runs
 pub mod WriterCases
+pub mod Handing
 pub mod Spots
 pub mod Scans
 pub mod PartialSteps

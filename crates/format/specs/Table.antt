@@ -6,15 +6,17 @@ use lib.ListN.{getD, replicate}
 use Rattle.follower.specs.Follow as follower
 use Rattle.follower.specs.Sender.{answers}
 use Rattle.format.specs.Answers.{Outcome, accepted, refused, andThen}
-use Rattle.format.specs.Items.{Channel, Histogram, Sample, Bin, TimeBin, StartEvent, EndEvent}
+use Rattle.format.specs.Items.{ItemOf, Channel, Histogram, Sample, Bin, TimeBin, StartEvent, EndEvent}
 use Rattle.format.specs.Rules.{dataKind, monitorKind}
 use Rattle.format.specs.Frames.{Frame, verdict}
-use Rattle.format.specs.Questions.{Event, eventAt, samplesAt, samplesLeft, countsAt, countsLeft}
+use Rattle.format.specs.Questions.{Shown, shownAt, Event, eventAt, samplesAt, samplesLeft, countsAt, countsLeft}
 use Rattle.format.specs.Figures.{empty, pulse, pedestal}
 
 pub data Question : Type 0 where
   -- of some bytes: what frame are they
   reading : List ℕ → Question
+  -- item n
+  ordinal : List ℕ → ℕ → Question
   -- event e
   event : List ℕ → ℕ → Question
   -- of event e, chip, channel: what stands in 512 lent words at these times
@@ -26,6 +28,7 @@ pub data Question : Type 0 where
 
 pub data Reply : Type 0 where
   frame : Outcome Frame → Reply
+  showing : Outcome Shown → Reply
   told : Outcome Event → Reply
   standing : Outcome (List ℕ) → Reply
   followed : List follower.Answer → Reply
@@ -37,6 +40,7 @@ elements l places = map (λ (i : ℕ). getD l i 0) places
 -- the lent words are 1 each when the question is asked
 abbrev pub ask : Question → Reply
 ask (reading s) = frame (verdict s)
+ask (ordinal s n) = showing (shownAt s n)
 ask (event s e) = told (eventAt s e)
 ask (samples s e chip c times) =
     standing (andThen (samplesAt s e chip c 512) (λ xs. accepted (elements (samplesLeft (accepted xs) (replicate 512 1)) times)))
@@ -50,6 +54,10 @@ pub record Row : Type 0 where
 
 abbrev pub row : Question → Reply → Row
 row q a = record { asked = q; answer = a }
+
+-- an item as it is answered, and the index of the next
+abbrev pub at : ItemOf ℕ → ℕ → Reply
+at x next = showing (accepted (record { item = x; next = next }))
 
 -- each row under its case's words
 abbrev pub table : List Row
@@ -68,6 +76,13 @@ table =
       sequence = 0x0100;
       items = StartEvent 1 1000 7 ∷ Channel 5 2 10 ∷ TimeBin 3 ∷ Sample 250 ∷ Sample 251 ∷ EndEvent 26 ∷ [];
     })))
+    ∷ row (ordinal (pulse 0x0E03 0x001A) 0) (at (StartEvent 1 1000 7) 9)
+    ∷ row (ordinal (pulse 0x0E03 0x001A) 1) (at (Channel 5 2 10) 10)
+    ∷ row (ordinal (pulse 0x0E03 0x001A) 2) (at (TimeBin 3) 11)
+    ∷ row (ordinal (pulse 0x0E03 0x001A) 3) (at (Sample 250) 12)
+    ∷ row (ordinal (pulse 0x0E03 0x001A) 4) (at (Sample 251) 13)
+    ∷ row (ordinal (pulse 0x0E03 0x001A) 5) (at (EndEvent 26) 16)
+    ∷ row (ordinal (pulse 0x0E03 0x001A) 6) (showing (refused 13 0))
     ∷ row (event (pulse 0x0E03 0x001A) 0) (told (accepted (record { kind = 1; timestamp = 1000; number = 7; size = 26; index = 3 })))
     ∷ row (event (pulse 0x0E03 0x001A) 1) (told (refused 13 0))
     ∷ row (samples (pulse 0x0E03 0x001A) 0 2 10 (2 ∷ 3 ∷ 4 ∷ 5 ∷ [])) (standing (accepted (0xFFFF ∷ 250 ∷ 251 ∷ 0xFFFF ∷ [])))
@@ -79,6 +94,8 @@ table =
     -- 7. "chip 0, channel 78, bin 256, count 70,000"
     ∷ row (reading (pedestal 0x8A4E 0x1170 0x0001))
     (frame (accepted (record { kind = monitorKind; card = 5; sequence = 0; items = Histogram 5 0 78 ∷ Bin 256 70000 ∷ [] })))
+    ∷ row (ordinal (pedestal 0x8A4E 0x1170 0x0001) 0) (at (Histogram 5 0 78) 4)
+    ∷ row (ordinal (pedestal 0x8A4E 0x1170 0x0001) 1) (at (Bin 256 70000) 7)
     ∷ row (counts (pedestal 0x8A4E 0x1170 0x0001) 0 78 (255 ∷ 256 ∷ 257 ∷ [])) (standing (accepted (0 ∷ 70000 ∷ 0 ∷ [])))
     -- 8. "9 at 3", 9. "9 at 4"
     ∷ row (reading (pedestal 0x8A4F 0x1170 0x0001)) (frame (refused 9 3))

@@ -5,3 +5,6 @@ pub mod PartStores
 pub mod AddLaws
 pub mod Unique
 pub mod Promises
+pub mod RunLaws
+pub mod CopyLaws
+pub mod Demand2
