@@ -59,9 +59,6 @@ pub fn time(s: &[u8], i: usize) -> u64
         return 0;
     }
     let low = long(s, i) as u64;
-    if s.len() - i <= 2 {
-        return low;
-    }
     let high = word(s, i + 2) as u64;
     low + 4294967296 * high
 }
