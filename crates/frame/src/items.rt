@@ -41,7 +41,7 @@ pub enum Found {
     Refused(Refusal),
 }
 
-// The item at word `at`, where one stands whole. The words of the last five classes begin none.
+// The item at word `at`, where one stands whole. The words of the last five classes begin none, so that a text it is where none of the others is.
 fn show(s: &[u8], at: usize) -> Item
     requires { ⌜ at < lastOf (now s) ⌝ }
     ensures { λ r. ⌜ ((x : items.Item) → tokenAt (now (s .entry)) (lastOf (now (s .entry))) at ≡ whole x → viewItem r ≡ shown x) ⌝ }
@@ -59,7 +59,6 @@ fn show(s: &[u8], at: usize) -> Item
         }),
         Class::LastCell => Item::LastCell(LastCell::of_word(w)),
         Class::TimeBin => Item::TimeBin(TimeBin::of_word(w)),
-        Class::Text => Item::Text(Text::of_word(w)),
         Class::StartEvent => Item::StartEvent(StartEvent {
             kind: StartEvent::of_word(w),
             timestamp: time(s, at + 1),
@@ -68,11 +67,12 @@ fn show(s: &[u8], at: usize) -> Item
         Class::EndEvent => Item::EndEvent(EndEvent {
             size: long(s, at + 1),
         }),
-        Class::DataFrame => Item::Text(Text { length: 0 }),
-        Class::MonitorFrame => Item::Text(Text { length: 0 }),
-        Class::CommandFrame => Item::Text(Text { length: 0 }),
-        Class::FrameEnd => Item::Text(Text { length: 0 }),
-        Class::Unassigned => Item::Text(Text { length: 0 }),
+        Class::Text
+        | Class::DataFrame
+        | Class::MonitorFrame
+        | Class::CommandFrame
+        | Class::FrameEnd
+        | Class::Unassigned => Item::Text(Text::of_word(w)),
     }
 }
 

@@ -1,6 +1,6 @@
 // The rules of place, value and order at one item, by the state alone. The reader and the writer both go by these.
 ghost use mathlib.Core.Path.{_≡_};
-ghost use Prim.Native.Nat.{_+_, _*_, _-_, _≤_};
+ghost use Prim.Native.Nat.{_+_, _*_, _-_, _≤_, _<_};
 ghost use lib.Dec.{eqb};
 ghost use Rattle.format.specs.Items as items;
 ghost use Rattle.format.specs.Steps.{marked};
@@ -136,9 +136,9 @@ pub fn time_bin(st: State, x: TimeBin, next: usize) -> Step
     )
 }
 
-// The time after this one, where this one is not past the last.
+// The time after this one; 0 where this one is past the last, which the order rule refuses.
 fn later(time: u32) -> u32
-    ensures { λ r. ⌜ (time ≤ 511 → r ≡ time + 1) ⌝ }
+    ensures { λ r. ⌜ (time ≤ 511 → r ≡ time + 1) × (511 < time → r ≡ 0) ⌝ }
 {
     if time <= TimeBin::LAST as u32 {
         return time + 1;
