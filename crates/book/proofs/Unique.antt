@@ -1,9 +1,7 @@
--- T39, T40. What an answer says on paper fixes the answer: each view is injective, so each promise of this crate has one answer.
+-- T40: what an answer says on paper fixes the answer, since each view is injective; and why a promise then has one answer (Once.antt).
 -- Assumes nothing.
-use Prim.Native.Nat.{ℕ, _%_}
+use Prim.Native.Nat.{ℕ}
 use mathlib.Core.Path.{_≡_, refl, sym, ap, _∙_}
-use mathlib.Core.List.{List}
-use lib.Seq.{sets}
 use Rattle.format.specs.Answers.{Outcome, refused}
 use Rattle.format.specs.Book as paper
 use Rattle.format.specs.Items as items
@@ -11,9 +9,6 @@ use Rattle.book.specs.declared.class.Class.{Class}
 use Rattle.book.specs.declared.class.Class.the-variants.{Channel, Histogram, HitCount, Sample, Bin, LastCell, TimeBin, DataFrame, MonitorFrame, CommandFrame, Text, StartEvent, EndEvent, FrameEnd, Unassigned}
 use Rattle.book.specs.declared.items.Item.{Item}
 use Rattle.book.specs.declared.items.Item.the-variants as item
-use Rattle.book.specs.declared.items.Sample as samples
-use Rattle.book.specs.declared.items.TimeBin as times
-use Rattle.book.specs.declared.items.Text as texts
 use Rattle.book.specs.declared.refusal.Refusal.{Refusal}
 use Rattle.book.specs.Views.{view, viewItem, refusal}
 
@@ -106,26 +101,6 @@ module _ {A : Type 0} where
       let p = place-of (r .number) (q .number) (r .place) (q .place) e in
       λ i. record { number = n i; place = p i }
 
--- T39, no second result, function by function
-
-pub classify-once : (w : ℕ) (r q : Class) → view r ≡ paper.classOf w → view q ≡ paper.classOf w → r ≡ q
-classify-once w = one view same-class (paper.classOf w)
-
--- Where the promise is an equation of the answer itself, of a number, a bool or a struct: words_after, text_words; of_word of Channel,
--- Histogram, HitCount, Bin, LastCell, StartEvent; every `word` and `valid`; EndEvent::low_bits; word, long, time.
+-- an equation of the answer itself, of a number, a bool, a struct or a list, has one answer
 pub equal-once : {A : Type 0} (b r q : A) → r ≡ b → q ≡ b → r ≡ q
 equal-once b r q e f = e ∙ sym f
-
--- Where it is an equation of the struct's one field.
-pub sample-once : (w : ℕ) (r q : samples.Sample) → r .value ≡ w % 4096 → q .value ≡ w % 4096 → r ≡ q
-sample-once w = one (λ (r : samples.Sample). r .value) (undone (λ (r : samples.Sample). r .value) (λ (v : ℕ). record { value = v }) (λ r. refl)) (w % 4096)
-
-pub time-bin-once : (w : ℕ) (r q : times.TimeBin) → r .time ≡ w % 512 → q .time ≡ w % 512 → r ≡ q
-time-bin-once w = one (λ (r : times.TimeBin). r .time) (undone (λ (r : times.TimeBin). r .time) (λ (t : ℕ). record { time = t }) (λ r. refl)) (w % 512)
-
-pub text-once : (w : ℕ) (r q : texts.Text) → r .length ≡ w % 256 → q .length ≡ w % 256 → r ≡ q
-text-once w = one (λ (r : texts.Text). r .length) (undone (λ (r : texts.Text). r .length) (λ (n : ℕ). record { length = n }) (λ r. refl)) (w % 256)
-
--- `copy` answers nothing; its promise is of the list that it leaves, whole.
-pub copy-once : (dst src r q : List ℕ) → r ≡ sets dst 0 src → q ≡ sets dst 0 src → r ≡ q
-copy-once dst src = equal-once (sets dst 0 src)

@@ -3,6 +3,7 @@ ghost use mathlib.Core.Path.{_≡_};
 ghost use Prim.Native.Nat.{_<_};
 ghost use Rattle.format.specs.Book.{classOf, after, textWords};
 ghost use Rattle.book.specs.Views.{view};
+ghost use Rattle.book.specs.Promises.{Classified, TextLong, WordsAfter};
 
 // A class of document 01's word book, in its order, or none.
 pub enum Class {
@@ -92,7 +93,7 @@ fn classify_low(w: u16) -> Class
 // The class of a word. It is that of the search, shortest prefix first; where a prefix is the highest of those left, a comparison with its
 // first word stands for the shift and the test, since most words of a frame are told so and it is the cheaper.
 pub fn classify(w: u16) -> Class
-    ensures { λ r. ⌜ view r ≡ classOf w ⌝ }
+    ensures { λ r. ⌜ Classified w r ⌝ }
 {
     if w < Class::HIT_COUNT {
         return classify_low(w);
@@ -108,7 +109,7 @@ pub fn classify(w: u16) -> Class
 
 // The words that a text of n bytes takes, n in the word's low byte: n/2, rounded up.
 pub fn text_words(w: u16) -> u16
-    ensures { λ r. ⌜ r ≡ textWords w ⌝ }
+    ensures { λ r. ⌜ TextLong w r ⌝ }
 {
     (w & 0xFF) + 1 >> 1
 }
@@ -139,7 +140,7 @@ fn after_class(class: Class, w: u16, text: u16) -> u16
 
 // How many words come after a word as its own.
 pub fn words_after(w: u16) -> u16
-    ensures { λ r. ⌜ r ≡ after (classOf w) w ⌝ }
+    ensures { λ r. ⌜ WordsAfter w r ⌝ }
 {
     let text = text_words(w);
     after_class(classify(w), w, text)

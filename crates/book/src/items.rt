@@ -1,9 +1,8 @@
 // The ten items: what each holds, its limits, its fields cut out of a word by shifts and masks and put in the same way. The fields are wide
 // enough that a content too wide for the word can be handed to the writer, which refuses it. Each limit is named in its item, once.
 ghost use mathlib.Core.Path.{_≡_};
-ghost use Prim.Native.Nat.{_%_};
-ghost use Rattle.format.specs.Items.{inRange};
-ghost use Rattle.book.specs.Fields.{threeCut, channelOf, histogramOf, hitsOf, binOf, cellOf, typeOf, channelWord, histogramWord, hitsWord, sampleWord, binWord, cellWord, timeBinWord, textWord, startWord, channelItem, histogramItem, hitsItem, sampleItem, binItem, cellItem, timeItem, startItem};
+ghost use Rattle.book.specs.Fields.{threeCut};
+ghost use Rattle.book.specs.Promises.{ChannelRead, ChannelWord, ChannelValid, HistogramRead, HistogramWord, HistogramValid, HitCountRead, HitCountWord, HitCountValid, SampleRead, SampleWord, SampleValid, BinRead, BinWord, BinValid, LastCellRead, LastCellWord, LastCellValid, TimeBinRead, TimeBinWord, TimeBinValid, TextRead, TextWord, StartEventRead, StartEventWord, StartEventValid, EndEventLow};
 
 // A channel of a chip of a card, whose samples follow.
 pub struct Channel {
@@ -83,15 +82,15 @@ fn three(card: u16, chip: u16, low: u16) -> u16
 }
 
 impl Channel {
-    pub const LAST_CARD: u16 = 31;
+    pub const LAST_CARD: u16 = 31; // five bits of a Channel's word
 
-    pub const LAST_CHIP: u16 = 3;
+    pub const LAST_CHIP: u16 = 3; // two bits of a Channel's word
 
     pub const LAST: u16 = 78; // the last channel of a chip
 
     // The fields of a word, high bits first: card 5, chip 2, channel 7.
     pub fn of_word(w: u16) -> Channel
-        ensures { λ r. ⌜ r ≡ channelOf w ⌝ }
+        ensures { λ r. ⌜ ChannelRead w r ⌝ }
     {
         Channel {
             card: w >> 9 & 0x1F,
@@ -102,7 +101,7 @@ impl Channel {
 
     // The word with these fields, each cut to its width.
     pub fn word(self) -> u16
-        ensures { λ r. ⌜ r ≡ channelWord self ⌝ }
+        ensures { λ r. ⌜ ChannelWord self r ⌝ }
     {
         three(self.card, self.chip, self.channel) | 0xC000
     }
@@ -110,7 +109,7 @@ impl Channel {
     // The value rules in a frame of the card. Here and in the two items below the card has a branch of its own: it costs less than all the
     // tests at once.
     pub fn valid(self, card: u16) -> bool
-        ensures { λ r. ⌜ r ≡ inRange card (channelItem self) ⌝ }
+        ensures { λ r. ⌜ ChannelValid self card r ⌝ }
     {
         if self.card == card {
             return (self.card <= Channel::LAST_CARD)
@@ -122,15 +121,15 @@ impl Channel {
 }
 
 impl Histogram {
-    pub const LAST_CARD: u16 = 31;
+    pub const LAST_CARD: u16 = 31; // five bits of a Histogram's word
 
-    pub const LAST_CHIP: u16 = 3;
+    pub const LAST_CHIP: u16 = 3; // two bits of a Histogram's word
 
     pub const LAST: u16 = 78; // the last channel that has a histogram
 
     // The fields of a word, high bits first: card 5, chip 2, channel 7.
     pub fn of_word(w: u16) -> Histogram
-        ensures { λ r. ⌜ r ≡ histogramOf w ⌝ }
+        ensures { λ r. ⌜ HistogramRead w r ⌝ }
     {
         Histogram {
             card: w >> 9 & 0x1F,
@@ -141,14 +140,14 @@ impl Histogram {
 
     // The word with these fields, each cut to its width.
     pub fn word(self) -> u16
-        ensures { λ r. ⌜ r ≡ histogramWord self ⌝ }
+        ensures { λ r. ⌜ HistogramWord self r ⌝ }
     {
         three(self.card, self.chip, self.channel) | 0x8000
     }
 
     // The value rules in a frame of the card.
     pub fn valid(self, card: u16) -> bool
-        ensures { λ r. ⌜ r ≡ inRange card (histogramItem self) ⌝ }
+        ensures { λ r. ⌜ HistogramValid self card r ⌝ }
     {
         if self.card == card {
             return (self.card <= Histogram::LAST_CARD)
@@ -160,15 +159,15 @@ impl Histogram {
 }
 
 impl HitCount {
-    pub const LAST_CARD: u16 = 31;
+    pub const LAST_CARD: u16 = 31; // five bits of a Hit count's word
 
-    pub const LAST_CHIP: u16 = 3;
+    pub const LAST_CHIP: u16 = 3; // two bits of a Hit count's word
 
     pub const MOST: u16 = 79; // every channel of a chip
 
     // The fields of a word, high bits first: card 5, chip 2, count 7.
     pub fn of_word(w: u16) -> HitCount
-        ensures { λ r. ⌜ r ≡ hitsOf w ⌝ }
+        ensures { λ r. ⌜ HitCountRead w r ⌝ }
     {
         HitCount {
             card: w >> 9 & 0x1F,
@@ -179,14 +178,14 @@ impl HitCount {
 
     // The word with these fields, each cut to its width.
     pub fn word(self) -> u16
-        ensures { λ r. ⌜ r ≡ hitsWord self ⌝ }
+        ensures { λ r. ⌜ HitCountWord self r ⌝ }
     {
         three(self.card, self.chip, self.count) | 0x4000
     }
 
     // The value rules in a frame of the card.
     pub fn valid(self, card: u16) -> bool
-        ensures { λ r. ⌜ r ≡ inRange card (hitsItem self) ⌝ }
+        ensures { λ r. ⌜ HitCountValid self card r ⌝ }
     {
         if self.card == card {
             return (self.card <= HitCount::LAST_CARD)
@@ -201,20 +200,20 @@ impl Sample {
     pub const LAST: u16 = 4095; // the largest value of 12 bits
 
     pub fn of_word(w: u16) -> Sample
-        ensures { λ r. ⌜ r .value ≡ w % 4096 ⌝ }
+        ensures { λ r. ⌜ SampleRead w r ⌝ }
     {
         Sample { value: w & 0xFFF }
     }
 
     // The word with this value, cut to its width.
     pub fn word(self) -> u16
-        ensures { λ r. ⌜ r ≡ sampleWord self ⌝ }
+        ensures { λ r. ⌜ SampleWord self r ⌝ }
     {
         self.value & 0xFFF | 0x3000
     }
 
     pub fn valid(self) -> bool
-        ensures { λ r. ⌜ r ≡ inRange 0 (sampleItem self) ⌝ }
+        ensures { λ r. ⌜ SampleValid self r ⌝ }
     {
         self.value <= Sample::LAST
     }
@@ -227,33 +226,33 @@ impl Bin {
 
     // The bin number of a word; the count stands in the two words after it.
     pub fn of_word(w: u16) -> u16
-        ensures { λ r. ⌜ r ≡ binOf w ⌝ }
+        ensures { λ r. ⌜ BinRead w r ⌝ }
     {
         w & 0xFFF
     }
 
     // The first word of the bin, its number cut to its width.
     pub fn word(self) -> u16
-        ensures { λ r. ⌜ r ≡ binWord self ⌝ }
+        ensures { λ r. ⌜ BinWord self r ⌝ }
     {
         self.bin & 0xFFF | 0x2000
     }
 
     pub fn valid(self) -> bool
-        ensures { λ r. ⌜ r ≡ inRange 0 (binItem self) ⌝ }
+        ensures { λ r. ⌜ BinValid self r ⌝ }
     {
         (self.bin <= Bin::LAST) & (Bin::LEAST_COUNT <= self.count)
     }
 }
 
 impl LastCell {
-    pub const LAST_CHIP: u16 = 3;
+    pub const LAST_CHIP: u16 = 3; // two bits of a Last cell's word
 
     pub const LAST: u16 = 511; // the last cell of a channel
 
     // The fields of a word, high bits first: chip 2, cell 9.
     pub fn of_word(w: u16) -> LastCell
-        ensures { λ r. ⌜ r ≡ cellOf w ⌝ }
+        ensures { λ r. ⌜ LastCellRead w r ⌝ }
     {
         LastCell {
             chip: w >> 9 & 3,
@@ -263,13 +262,13 @@ impl LastCell {
 
     // The word with these fields, each cut to its width.
     pub fn word(self) -> u16
-        ensures { λ r. ⌜ r ≡ cellWord self ⌝ }
+        ensures { λ r. ⌜ LastCellWord self r ⌝ }
     {
         (self.chip & 3) << 9 | self.cell & 0x1FF | 0x1800
     }
 
     pub fn valid(self) -> bool
-        ensures { λ r. ⌜ r ≡ inRange 0 (cellItem self) ⌝ }
+        ensures { λ r. ⌜ LastCellValid self r ⌝ }
     {
         (self.chip <= LastCell::LAST_CHIP) & (self.cell <= LastCell::LAST)
     }
@@ -279,20 +278,20 @@ impl TimeBin {
     pub const LAST: u16 = 511; // the last time of an event
 
     pub fn of_word(w: u16) -> TimeBin
-        ensures { λ r. ⌜ r .time ≡ w % 512 ⌝ }
+        ensures { λ r. ⌜ TimeBinRead w r ⌝ }
     {
         TimeBin { time: w & 0x1FF }
     }
 
     // The word with this time, cut to its width.
     pub fn word(self) -> u16
-        ensures { λ r. ⌜ r ≡ timeBinWord self ⌝ }
+        ensures { λ r. ⌜ TimeBinWord self r ⌝ }
     {
         self.time & 0x1FF | 0x0E00
     }
 
     pub fn valid(self) -> bool
-        ensures { λ r. ⌜ r ≡ inRange 0 (timeItem self) ⌝ }
+        ensures { λ r. ⌜ TimeBinValid self r ⌝ }
     {
         self.time <= TimeBin::LAST
     }
@@ -303,14 +302,14 @@ impl Text {
     pub const MOST: usize = 254;
 
     pub fn of_word(w: u16) -> Text
-        ensures { λ r. ⌜ r .length ≡ w % 256 ⌝ }
+        ensures { λ r. ⌜ TextRead w r ⌝ }
     {
         Text { length: w & 0xFF }
     }
 
     // The first word of the text, its length cut to its width.
     pub fn word(self) -> u16
-        ensures { λ r. ⌜ r ≡ textWord self ⌝ }
+        ensures { λ r. ⌜ TextWord self r ⌝ }
     {
         self.length & 0xFF | 0x0100
     }
@@ -323,20 +322,20 @@ impl StartEvent {
 
     // The type of a word; timestamp and number stand in the five words after it.
     pub fn of_word(w: u16) -> u16
-        ensures { λ r. ⌜ r ≡ typeOf w ⌝ }
+        ensures { λ r. ⌜ StartEventRead w r ⌝ }
     {
         w & 0xF
     }
 
     // The first word of the event, its type cut to its width.
     pub fn word(self) -> u16
-        ensures { λ r. ⌜ r ≡ startWord self ⌝ }
+        ensures { λ r. ⌜ StartEventWord self r ⌝ }
     {
         self.kind & 0xF | 0x00F0
     }
 
     pub fn valid(self) -> bool
-        ensures { λ r. ⌜ r ≡ inRange 0 (startItem self) ⌝ }
+        ensures { λ r. ⌜ StartEventValid self r ⌝ }
     {
         (self.kind <= StartEvent::LAST_TYPE) & (self.timestamp <= StartEvent::LAST_TIMESTAMP)
     }
@@ -348,7 +347,7 @@ impl EndEvent {
 
     // The low four bits of a word.
     pub fn low_bits(w: u16) -> u16
-        ensures { λ r. ⌜ r ≡ w % 16 ⌝ }
+        ensures { λ r. ⌜ EndEventLow w r ⌝ }
     {
         w & 0xF
     }

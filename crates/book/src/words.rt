@@ -3,7 +3,8 @@ ghost use mathlib.Core.Path.{_≡_};
 ghost use Prim.Native.Nat.{_/_, _≤_, _<_};
 ghost use lib.ListN.{length};
 ghost use lib.Seq.{sets};
-ghost use Rattle.format.specs.Words.{wordAt, longAt, timeAt};
+ghost use Rattle.format.specs.Words.{wordAt};
+ghost use Rattle.book.specs.Promises.{WordRead, LongRead, TimeRead, Copied};
 
 // A byte, as a word.
 fn wide(x: u8) -> u16
@@ -28,7 +29,7 @@ fn end_word(s: &[u8], i: usize) -> u16
 
 // The word at index i.
 pub fn word(s: &[u8], i: usize) -> u16
-    ensures { λ r. ⌜ r ≡ wordAt (now (s .entry)) i ⌝ }
+    ensures { λ r. ⌜ WordRead (now (s .entry)) i r ⌝ }
 {
     if i < s.len() / 2 {
         let low = wide(s[2 * i]);
@@ -40,7 +41,7 @@ pub fn word(s: &[u8], i: usize) -> u16
 
 // The number of 32 bits whose low word stands at index i.
 pub fn long(s: &[u8], i: usize) -> u32
-    ensures { λ r. ⌜ r ≡ longAt (now (s .entry)) i ⌝ }
+    ensures { λ r. ⌜ LongRead (now (s .entry)) i r ⌝ }
 {
     if s.len() <= i {
         return 0;
@@ -52,15 +53,12 @@ pub fn long(s: &[u8], i: usize) -> u32
 
 // The number of 48 bits whose low word stands at index i.
 pub fn time(s: &[u8], i: usize) -> u64
-    ensures { λ r. ⌜ r ≡ timeAt (now (s .entry)) i ⌝ }
+    ensures { λ r. ⌜ TimeRead (now (s .entry)) i r ⌝ }
 {
     if s.len() <= i {
         return 0;
     }
     let low = long(s, i) as u64;
-    if s.len() - i <= 2 {
-        return low;
-    }
     let high = word(s, i + 2) as u64;
     low + 4294967296 * high
 }
@@ -79,7 +77,7 @@ fn copy_all(src: &[u8], dst: &mut [u8])
 
 // Copies src to the start of dst, as far as there is room.
 pub fn copy(src: &[u8], dst: &mut [u8])
-    ensures { λ _. ⌜ now (dst .exit) ≡ sets (now (dst .entry)) 0 (now (src .entry)) ⌝ }
+    ensures { λ _. ⌜ Copied (now (src .entry)) (now (dst .entry)) (now (dst .exit)) ⌝ }
 {
     let room = dst.len();
     if src.len() <= room {

@@ -3,3 +3,4 @@ pub mod GivenLaws
 pub mod NumberLaws
 pub mod Unique
 pub mod Exports
+pub mod Once

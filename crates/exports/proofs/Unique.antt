@@ -1,4 +1,4 @@
--- T39: each export's promise has one answer, and one content of all lent memory. T40: a flat answer fixes document 01's answer.
+-- T40: a flat answer fixes document 01's answer. That each export's promise has one flat answer is in Once.antt.
 -- Assumes nothing.
 use Prim.Native.Nat.{ℕ, _≤_}
 use mathlib.Core.Path.{_≡_, refl, sym, ap, ap₂, _∙_}
@@ -17,35 +17,17 @@ use Rattle.format.specs.Questions.{Shown, Event}
 use Rattle.format.specs.Writing.{given}
 use Rattle.follower.specs.Follow as follow
 use Rattle.ledger.specs.Formats.{Correction}
-use Rattle.book.proofs.Unique.{equal-once, undone}
+use Rattle.book.proofs.Unique.{undone}
 use Rattle.exports.specs.declared.answers.PlaneFrame.{PlaneFrame}
 use Rattle.exports.specs.declared.answers.PlaneItem.{PlaneItem}
 use Rattle.exports.specs.declared.answers.PlaneFound.{PlaneFound}
-use Rattle.exports.specs.declared.answers.PlaneText.{PlaneText}
 use Rattle.exports.specs.declared.answers.PlaneFollower.{PlaneFollower}
 use Rattle.exports.specs.declared.answers.PlaneCorrection.{PlaneCorrection}
 use Rattle.exports.specs.Flat.{classNumber, kindNumber, flatDone, flatFrame, flatItem, flatFound, flatEvent, flatWritten, flatFollower, flatFollowed, flatRecord, flatEntry}
 use Rattle.exports.specs.Given.{asked, followerOf, kindOf, tokenOf}
-use Rattle.exports.specs.Promises.{Leaves, TextPart}
 use Rattle.exports.specs.Told.{Numbered, Tells, FrameSeen, seenFrame, seenEntry}
 
--- ---- T39
-
--- plane_classify, plane_read, plane_item, plane_event, plane_follow, plane_record, plane_entry: the promise is an equation of the answer
-pub answer-once : {A : Type 0} (b r q : A) → r ≡ b → q ≡ b → r ≡ q
-answer-once = equal-once
-
--- plane_samples, plane_counts, plane_begin, plane_add, plane_add_text, plane_close, plane_open, plane_edit, plane_restore
-pub leaves-once : {A : Type 0} (answer : A) (left : List ℕ) (r q : A) (b d : List ℕ) → Leaves answer left r b → Leaves answer left q d → (r ≡ q) × (b ≡ d)
-leaves-once answer left r q b d e f = (e .answered ∙ sym (f .answered), e .written ∙ sym (f .written))
-
-pub text-once : (s : List ℕ) (n : ℕ) (r q : PlaneText) → TextPart s n r → TextPart s n q → r ≡ q
-text-once s n r q e f =
-    let a = e .begins ∙ sym (f .begins) in
-    let b = e .long ∙ sym (f .long) in
-    λ i. record { offset = a i; length = b i }
-
--- ---- T40: numbers of classes and kinds
+-- ---- numbers of classes and kinds
 
 abbrev classBack : ℕ → book.Class
 classBack n =

@@ -1,9 +1,8 @@
 // The questions on a frame's events, samples and counts.
 ghost use mathlib.Core.Path.{_≡_};
-ghost use Rattle.format.specs.Questions.{eventAt};
 ghost use Rattle.questions.specs.Views.{viewEvent, viewFilled};
 ghost use Rattle.exports.specs.Flat.{flatDone, flatEvent};
-ghost use Rattle.exports.specs.Promises.{Sampled, Counted};
+ghost use Rattle.exports.specs.Promises.{EventTold, Sampled, Counted};
 use crate::answers::PlaneDone;
 use crate::answers::PlaneEvent;
 use questions::answers::EventFound;
@@ -40,7 +39,7 @@ fn flat_event(found: EventFound) -> PlaneEvent
 // Event e of a frame, from 0: `questions::event`.
 #[no_mangle]
 pub extern "C" fn plane_event(frame: &[u8], e: usize) -> PlaneEvent
-    ensures { λ r. ⌜ r ≡ flatEvent (eventAt (now (frame .entry)) e) ⌝ }
+    ensures { λ r. ⌜ EventTold (now (frame .entry)) e r ⌝ }
 {
     flat_event(event(frame, e))
 }

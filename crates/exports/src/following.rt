@@ -1,9 +1,9 @@
 // The follower of sequence numbers.
 ghost use mathlib.Core.Path.{_≡_};
-ghost use Rattle.follower.specs.Follow.{follow};
 ghost use Rattle.follower.specs.Paper.{stateOf, view};
 ghost use Rattle.exports.specs.Flat.{flatFollower, flatFollowed};
 ghost use Rattle.exports.specs.Given.{followerOf};
+ghost use Rattle.exports.specs.Promises.{FollowTold};
 use crate::answers::PlaneFollowed;
 use crate::answers::PlaneFollower;
 use follower::Followed;
@@ -59,7 +59,7 @@ fn flat_followed(given: PlaneFollower, followed: Followed) -> PlaneFollowed
 // Feeds the follower the sequence word of a frame: `Follower::follow`.
 #[no_mangle]
 pub extern "C" fn plane_follow(follower: PlaneFollower, word: u16) -> PlaneFollowed
-    ensures { λ r. ⌜ r ≡ flatFollowed follower (follow (followerOf follower) word) ⌝ }
+    ensures { λ r. ⌜ FollowTold follower word r ⌝ }
 {
     let state = follower_of(follower);
     flat_followed(follower, state.follow(word))

@@ -1,12 +1,9 @@
 // The class of a word, and the questions on a frame and its items.
 ghost use mathlib.Core.Path.{_≡_};
-ghost use Rattle.format.specs.Book.{classOf};
-ghost use Rattle.format.specs.Steps.{readOf};
-ghost use Rattle.format.specs.Questions.{shownAt};
 ghost use Rattle.book.specs.Views.{view, viewItem};
 ghost use Rattle.frame.specs.Views.{viewKind, viewReading, viewFound};
 ghost use Rattle.exports.specs.Flat.{classNumber, kindNumber, row, blank, flatItem, flatFrame, flatFound};
-ghost use Rattle.exports.specs.Promises.{TextPart};
+ghost use Rattle.exports.specs.Promises.{ClassNumbered, FrameTold, ItemTold, TextPart};
 use crate::answers::PlaneFound;
 use crate::answers::PlaneFrame;
 use crate::answers::PlaneItem;
@@ -46,7 +43,7 @@ fn class_number(class: Class) -> u32
 // The class of a word.
 #[no_mangle]
 pub extern "C" fn plane_classify(word: u16) -> u32
-    ensures { λ r. ⌜ r ≡ classNumber (classOf word) ⌝ }
+    ensures { λ r. ⌜ ClassNumbered word r ⌝ }
 {
     class_number(classify(word))
 }
@@ -90,7 +87,7 @@ fn flat_frame(reading: Reading) -> PlaneFrame
 // Whether the bytes are a frame, and of what kind, card, sequence word and number of items: `frame::read`.
 #[no_mangle]
 pub extern "C" fn plane_read(frame: &[u8]) -> PlaneFrame
-    ensures { λ r. ⌜ r ≡ flatFrame (readOf (now (frame .entry))) ⌝ }
+    ensures { λ r. ⌜ FrameTold (now (frame .entry)) r ⌝ }
 {
     flat_frame(read(frame))
 }
@@ -205,7 +202,7 @@ fn flat_found(found: Found) -> PlaneFound
 // Item n of a frame, from 0: `frame::item`.
 #[no_mangle]
 pub extern "C" fn plane_item(frame: &[u8], n: usize) -> PlaneFound
-    ensures { λ r. ⌜ r ≡ flatFound (shownAt (now (frame .entry)) n) ⌝ }
+    ensures { λ r. ⌜ ItemTold (now (frame .entry)) n r ⌝ }
 {
     flat_found(item(frame, n))
 }

@@ -1,13 +1,10 @@
 // The calls on a record.
 ghost use mathlib.Core.Path.{_≡_};
-ghost use Rattle.ledger.specs.Calls.{recordAnswer, entryAnswer};
-ghost use Rattle.ledger.specs.First.{first};
-ghost use Rattle.ledger.specs.House.{house};
 ghost use Rattle.plane.specs.Views.{viewRecord, viewEntry};
 ghost use Rattle.editor.specs.Views.{viewDone};
 ghost use Rattle.exports.specs.Flat.{flatDone, flatRecord, flatEntry};
 ghost use Rattle.exports.specs.Given.{asked};
-ghost use Rattle.exports.specs.Promises.{Opened, Edited, Restored};
+ghost use Rattle.exports.specs.Promises.{RecordTold, EntryTold, Opened, Edited, Restored};
 use crate::answers::PlaneCorrection;
 use crate::answers::PlaneDone;
 use crate::answers::PlaneEntry;
@@ -46,7 +43,7 @@ fn flat_record(found: RecordFound) -> PlaneRecord
 // Whether a buffer begins with a record, and of what lengths and entry count: `plane::record`.
 #[no_mangle]
 pub extern "C" fn plane_record(buffer: &[u8]) -> PlaneRecord
-    ensures { λ r. ⌜ r ≡ flatRecord (recordAnswer house first (now (buffer .entry))) ⌝ }
+    ensures { λ r. ⌜ RecordTold (now (buffer .entry)) r ⌝ }
 {
     flat_record(record(buffer))
 }
@@ -81,7 +78,7 @@ fn flat_entry(found: EntryFound) -> PlaneEntry
 // Entry n of a record, 1 the oldest: `plane::entry`.
 #[no_mangle]
 pub extern "C" fn plane_entry(buffer: &[u8], n: usize) -> PlaneEntry
-    ensures { λ r. ⌜ r ≡ flatEntry (entryAnswer house first (now (buffer .entry)) n) ⌝ }
+    ensures { λ r. ⌜ EntryTold (now (buffer .entry)) n r ⌝ }
 {
     flat_entry(entry(buffer, n))
 }

@@ -1,12 +1,11 @@
 // The writer's calls on a partial frame in a lent buffer.
 ghost use mathlib.Core.Path.{_≡_};
-ghost use Rattle.format.specs.Items as items;
-ghost use Rattle.format.specs.Items.{whole, flawed};
-ghost use Rattle.format.specs.Writing.{addAnswer, addLeft, closeAnswer, closeLeft};
+ghost use Rattle.format.specs.Items.{flawed};
+ghost use Rattle.format.specs.Writing.{addAnswer};
 ghost use Rattle.writer.specs.Views.{viewWritten};
 ghost use Rattle.exports.specs.Flat.{flatWritten};
-ghost use Rattle.exports.specs.Given.{kindOf, begun, begunLeft, viewGiven, tokenOf};
-ghost use Rattle.exports.specs.Promises.{Leaves};
+ghost use Rattle.exports.specs.Given.{viewGiven, tokenOf};
+ghost use Rattle.exports.specs.Promises.{Begun, Added, AddedText, Closed};
 use crate::answers::PlaneItem;
 use crate::answers::PlaneWritten;
 use book::items::Bin;
@@ -55,7 +54,7 @@ pub extern "C" fn plane_begin(
     card: u16,
     sequence: u16,
 ) -> PlaneWritten
-    ensures { λ r. ⌜ Leaves (flatWritten (begun (kindOf kind) (now (buffer .entry)) card sequence)) (begunLeft (kindOf kind) (now (buffer .entry)) card sequence) r (now (buffer .exit)) ⌝ }
+    ensures { λ r. ⌜ Begun (now (buffer .entry)) kind card sequence r (now (buffer .exit)) ⌝ }
 {
     match kind {
         1 => flat_written(begin(buffer, Kind::Data, card, sequence)),
@@ -143,7 +142,7 @@ fn refuse_item(buffer: &[u8], length: usize, number: u32) -> PlaneWritten
 // Adds an item to the partial frame in the first `length` bytes: `writer::add`.
 #[no_mangle]
 pub extern "C" fn plane_add(buffer: &mut [u8], length: usize, item: PlaneItem) -> PlaneWritten
-    ensures { λ r. ⌜ Leaves (flatWritten (addAnswer (now (buffer .entry)) length (tokenOf item))) (addLeft (now (buffer .entry)) length (tokenOf item)) r (now (buffer .exit)) ⌝ }
+    ensures { λ r. ⌜ Added (now (buffer .entry)) length item r (now (buffer .exit)) ⌝ }
 {
     let said = item_given(item);
     match said {
@@ -155,7 +154,7 @@ pub extern "C" fn plane_add(buffer: &mut [u8], length: usize, item: PlaneItem) -
 // Adds a text, which comes without its final zero: `writer::add_text`.
 #[no_mangle]
 pub extern "C" fn plane_add_text(buffer: &mut [u8], length: usize, text: &[u8]) -> PlaneWritten
-    ensures { λ r. ⌜ Leaves (flatWritten (addAnswer (now (buffer .entry)) length (whole (items.Text (now (text .entry)))))) (addLeft (now (buffer .entry)) length (whole (items.Text (now (text .entry))))) r (now (buffer .exit)) ⌝ }
+    ensures { λ r. ⌜ AddedText (now (buffer .entry)) length (now (text .entry)) r (now (buffer .exit)) ⌝ }
 {
     flat_written(add_text(buffer, length, text))
 }
@@ -163,7 +162,7 @@ pub extern "C" fn plane_add_text(buffer: &mut [u8], length: usize, text: &[u8]) 
 // Closes the partial frame in the first `length` bytes: `writer::close`.
 #[no_mangle]
 pub extern "C" fn plane_close(buffer: &mut [u8], length: usize) -> PlaneWritten
-    ensures { λ r. ⌜ Leaves (flatWritten (closeAnswer (now (buffer .entry)) length)) (closeLeft (now (buffer .entry)) length) r (now (buffer .exit)) ⌝ }
+    ensures { λ r. ⌜ Closed (now (buffer .entry)) length r (now (buffer .exit)) ⌝ }
 {
     flat_written(close(buffer, length))
 }

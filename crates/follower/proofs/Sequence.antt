@@ -9,6 +9,7 @@ use Rattle.follower.specs.declared.Followed.{Followed}
 use Rattle.follower.specs.Follow.{State, idle, expecting, InRange, accepted, refused, after, numbered, follow, Given}
 use Rattle.follower.specs.Sender.{sent, arrivals, account, AllBelow256, answers, losses}
 use Rattle.follower.specs.Paper.{stateOf, view}
+use Rattle.follower.specs.Promises.{Unstarted, FollowedBy}
 use Rattle.follower.proofs.LineLaws as line
 use Rattle.follower.proofs.LossLaws as loss
 use Rattle.follower.proofs.SenderLaws as sender
@@ -104,8 +105,10 @@ states-injective = unique.same-state
 pub answers-injective : (r q : Followed) → view r ≡ view q → r ≡ q
 answers-injective = unique.same-answer
 
-pub new-once : (r q : Follower) → stateOf r ≡ idle → stateOf q ≡ idle → r ≡ q
+-- the promise of `Follower::new`
+pub new-once : (r q : Follower) → Unstarted r → Unstarted q → r ≡ q
 new-once = unique.one stateOf unique.same-state idle
 
-pub follow-once : (self : Follower) (word : ℕ) (r q : Followed) → view r ≡ follow (stateOf self) word → view q ≡ follow (stateOf self) word → r ≡ q
+-- and that of `Follower::follow`
+pub follow-once : (self : Follower) (word : ℕ) (r q : Followed) → FollowedBy self word r → FollowedBy self word q → r ≡ q
 follow-once self word = unique.one view unique.same-answer (follow (stateOf self) word)

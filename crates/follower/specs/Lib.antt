@@ -1,3 +1,4 @@
 pub mod Follow
 pub mod Sender
 pub mod Paper
+pub mod Promises

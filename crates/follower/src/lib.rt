@@ -2,8 +2,9 @@
 // many frames were lost before it.
 ghost use mathlib.Core.Path.{_≡_};
 ghost use Prim.Native.Nat.{_+_, _%_};
-ghost use Rattle.follower.specs.Follow.{idle, expecting, difference, numbered, follow};
-ghost use Rattle.follower.specs.Paper.{stateOf, view};
+ghost use Rattle.follower.specs.Follow.{idle, expecting, difference, numbered};
+ghost use Rattle.follower.specs.Paper.{view};
+ghost use Rattle.follower.specs.Promises.{Unstarted, FollowedBy};
 
 // What the follower knows. It goes in and comes out by value, so on a refusal the caller's own copy stays as it was.
 pub enum Follower {
@@ -36,14 +37,14 @@ impl Follower {
 
     // A follower that has seen nothing.
     pub fn new() -> Self
-        ensures { λ r. ⌜ stateOf r ≡ idle ⌝ }
+        ensures { λ r. ⌜ Unstarted r ⌝ }
     {
         Follower::Idle
     }
 
     // The start word is accepted in any state, a word above it refused by 4; a number is refused by 14 before a start, unless it is 0.
     pub fn follow(self, word: u16) -> Followed
-        ensures { λ r. ⌜ view r ≡ follow (stateOf self) word ⌝ }
+        ensures { λ r. ⌜ FollowedBy self word r ⌝ }
     {
         if word == Follower::START {
             return Followed::Accepted {

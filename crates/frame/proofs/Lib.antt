@@ -9,3 +9,4 @@ pub mod Finding
 pub mod Unique
 pub mod PartialTurns
 pub mod PartialUnique
+pub mod Once

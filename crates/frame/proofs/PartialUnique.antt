@@ -1,12 +1,11 @@
--- T39, T40 of `partial`: its answer on paper fixes the answer.
+-- T40 of `partial`: its answer on paper fixes the answer.
 -- Assumes nothing.
 use Prim.Native.Nat.{ℕ}
 use mathlib.Core.Path.{_≡_, sym, ap}
-use mathlib.Core.List.{List}
 use native.Mathlib.Omega.{arith}
 use Rattle.format.specs.Answers.{accepted, refused}
-use Rattle.format.specs.PartialSteps.{PartialOverview, partialReadOf}
-use Rattle.book.proofs.Unique.{one, same-refusal}
+use Rattle.format.specs.PartialSteps.{PartialOverview}
+use Rattle.book.proofs.Unique.{same-refusal}
 use Rattle.frame.specs.declared.begun.PartialFrame.{PartialFrame}
 use Rattle.frame.specs.declared.begun.Partial.{Partial}
 use Rattle.frame.specs.declared.begun.Partial.the-variants as partial
@@ -32,6 +31,3 @@ same-partial (partial.Accepted f) (partial.Accepted g) e = ap partial.Accepted (
 same-partial (partial.Accepted f) (partial.Refused n) e = neither _ _ _ e
 same-partial (partial.Refused n) (partial.Accepted f) e = neither _ _ _ (sym e)
 same-partial (partial.Refused n) (partial.Refused m) e = ap partial.Refused (same-refusal n m e)
-
-pub partial-once : (buf : List ℕ) (n : ℕ) (r q : Partial) → viewPartial r ≡ partialReadOf buf n → viewPartial q ≡ partialReadOf buf n → r ≡ q
-partial-once buf n = one viewPartial same-partial (partialReadOf buf n)

@@ -2,13 +2,15 @@
 -- Assumes nothing.
 use Prim.Native.Nat.{ℕ, _+_, _-_, _*_, _%_, _≤_, _<_}
 use mathlib.Core.Path.{_≡_, refl, sym, ap, _∙_}
-use mathlib.Core.List.{List, []}
+use mathlib.Core.List.{List, [], _∷_}
 use mathlib.Core.Bool.{Bool, true, false}
 use mathlib.Core.Option.{none, some}
 use native.Mathlib.Omega.{arith}
 use lib.Dec.{eqb}
 use lib.ListN.{length, take, drop}
 use borrow.Author.Tests.{eqb-true, eqb-false}
+use denote.Enum.Declared.{tagOf}
+use types.Run.{OneOf, miss}
 use Rattle.format.specs.Words.{pick, words, bytes, wordAt, longAt, timeAt}
 use Rattle.format.specs.Book.{Class, channel, histogram, hitCount, sample, bin, lastCell, timeBin, dataFrame, monitorFrame, commandFrame, text, startEvent, endEvent, frameEnd, unassigned, classOf, after, assigned}
 use Rattle.format.specs.Items.{Item, Channel, Histogram, HitCount, Sample, Bin, LastCell, TimeBin, Text, StartEvent, EndEvent, closed, decode, whole, broken, flawed, tokenFor}
@@ -21,6 +23,10 @@ use Rattle.format.proofs.StepLaws.{next-at}
 use Rattle.format.proofs.TurnLaws.{Stands, alone, no-class, bin-there, start-there, end-there, end-broken}
 use Rattle.format.proofs.TextPlaced.{texted}
 use Rattle.book.specs.Fields.{channelOf, histogramOf, hitsOf, cellOf, channelItem, histogramItem, hitsItem, cellItem}
+use Rattle.book.specs.Views.{view}
+use Rattle.book.specs.declared.class.Class as declared
+use Rattle.book.specs.declared.class.Class.the-variants as variants
+use Rattle.book.proofs.class.Class.{the-type}
 use Rattle.book.specs.declared.items.Channel as ch
 use Rattle.book.specs.declared.items.Histogram as hi
 use Rattle.book.specs.declared.items.HitCount as hc
@@ -108,23 +114,23 @@ module _ (s : List ℕ) (at w : ℕ) (h : at < lastOf s) (e : w ≡ wordAt s at)
   nothing : {A : Type 0} (c : Class) → c ≡ classOf w → assigned c ≡ true → after c (wordAt s at) ≡ 0 → tokenFor c (decode c (wordAt s at) []) ≡ broken c → A
   nothing c k a z d = not-broken c x (sym (alone s (lastOf s) at c (broken c) (k ∙ ap classOf e) a z d .token) ∙ t)
 
-  pub data-shown : {A : Type 0} → dataFrame ≡ classOf w → A
+  data-shown : {A : Type 0} → dataFrame ≡ classOf w → A
   unfolding decode
   data-shown k = nothing dataFrame k refl refl refl
 
-  pub monitor-shown : {A : Type 0} → monitorFrame ≡ classOf w → A
+  monitor-shown : {A : Type 0} → monitorFrame ≡ classOf w → A
   unfolding decode
   monitor-shown k = nothing monitorFrame k refl refl refl
 
-  pub command-shown : {A : Type 0} → commandFrame ≡ classOf w → A
+  command-shown : {A : Type 0} → commandFrame ≡ classOf w → A
   unfolding decode
   command-shown k = nothing commandFrame k refl refl refl
 
-  pub frame-end-shown : {A : Type 0} → frameEnd ≡ classOf w → A
+  frame-end-shown : {A : Type 0} → frameEnd ≡ classOf w → A
   unfolding decode
   frame-end-shown k = nothing frameEnd k refl refl refl
 
-  pub unassigned-shown : {A : Type 0} → unassigned ≡ classOf w → A
+  unassigned-shown : {A : Type 0} → unassigned ≡ classOf w → A
   unassigned-shown k = not-flawed 6 x (sym (no-class s (lastOf s) at (k ∙ ap classOf e)) ∙ t)
 
   -- ---- a text: its word holds its n
@@ -141,9 +147,27 @@ module _ (s : List ℕ) (at w : ℕ) (h : at < lastOf s) (e : w ≡ wordAt s at)
       go true b d = (b, sym (some-is _ _ d))
       go false b d = no-some x d
 
-  pub text-shown : (n : ℕ) → text ≡ classOf w → n ≡ w % 256 → Text n ≡ shown x
+  text-shown : (n : ℕ) → text ≡ classOf w → n ≡ w % 256 → Text n ≡ shown x
   text-shown n k f =
       let (b, i) = text-item k in
       let r = texted s (lastOf s) at room h b (t ∙ ap whole i) .counted in
       let q : n ≡ length b + 1 = f ∙ ap (λ (v : ℕ). v % 256) e ∙ r in
       ap (λ (n : ℕ). Text n) q ∙ ap shown (sym i)
+
+  -- ---- the classes that are none of the nine above: a text, or none of an item
+  pub other-shown : (k : declared.Class) → OneOf (10 ∷ 7 ∷ 8 ∷ 9 ∷ 13 ∷ 14 ∷ []) (tagOf the-type k) → view k ≡ classOf w → (n : ℕ) → n ≡ w % 256 → Text n ≡ shown x
+  other-shown variants.Channel o k n f = absurd (miss (10 ∷ 7 ∷ 8 ∷ 9 ∷ 13 ∷ 14 ∷ []) 0 tt o)
+  other-shown variants.Histogram o k n f = absurd (miss (10 ∷ 7 ∷ 8 ∷ 9 ∷ 13 ∷ 14 ∷ []) 1 tt o)
+  other-shown variants.HitCount o k n f = absurd (miss (10 ∷ 7 ∷ 8 ∷ 9 ∷ 13 ∷ 14 ∷ []) 2 tt o)
+  other-shown variants.Sample o k n f = absurd (miss (10 ∷ 7 ∷ 8 ∷ 9 ∷ 13 ∷ 14 ∷ []) 3 tt o)
+  other-shown variants.Bin o k n f = absurd (miss (10 ∷ 7 ∷ 8 ∷ 9 ∷ 13 ∷ 14 ∷ []) 4 tt o)
+  other-shown variants.LastCell o k n f = absurd (miss (10 ∷ 7 ∷ 8 ∷ 9 ∷ 13 ∷ 14 ∷ []) 5 tt o)
+  other-shown variants.TimeBin o k n f = absurd (miss (10 ∷ 7 ∷ 8 ∷ 9 ∷ 13 ∷ 14 ∷ []) 6 tt o)
+  other-shown variants.DataFrame o k n f = data-shown k
+  other-shown variants.MonitorFrame o k n f = monitor-shown k
+  other-shown variants.CommandFrame o k n f = command-shown k
+  other-shown variants.Text o k n f = text-shown n k f
+  other-shown variants.StartEvent o k n f = absurd (miss (10 ∷ 7 ∷ 8 ∷ 9 ∷ 13 ∷ 14 ∷ []) 11 tt o)
+  other-shown variants.EndEvent o k n f = absurd (miss (10 ∷ 7 ∷ 8 ∷ 9 ∷ 13 ∷ 14 ∷ []) 12 tt o)
+  other-shown variants.FrameEnd o k n f = frame-end-shown k
+  other-shown variants.Unassigned o k n f = unassigned-shown k

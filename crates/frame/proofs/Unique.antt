@@ -1,17 +1,14 @@
--- T39, T40. What an answer says on paper fixes the answer: each view is injective, so each promise of this crate has one answer.
+-- T40: what an answer says on paper fixes the answer, since each view is injective. So each promise has one answer (Once.antt).
 -- Assumes nothing.
 use Prim.Native.Nat.{ℕ}
-use mathlib.Core.Path.{_≡_, refl, sym, ap, ap₂, _∙_}
-use mathlib.Core.List.{List}
+use mathlib.Core.Path.{_≡_, refl, sym, ap, ap₂}
 use native.Mathlib.Omega.{arith}
-use denote.Ref.{RefT, now, ptr}
-use denote.Slice.{slice-vals}
 use Rattle.format.specs.Answers.{accepted, refused}
 use Rattle.format.specs.Rules as rules
 use Rattle.format.specs.Steps as steps
-use Rattle.format.specs.Steps.{St, Stepped, moved, stopped, Summary, Overview, start, readOf}
-use Rattle.format.specs.Questions.{Shown, shownAt, textAt}
-use Rattle.book.proofs.Unique.{one, undone, same-item, same-refusal}
+use Rattle.format.specs.Steps.{St, Stepped, moved, stopped, Summary, Overview}
+use Rattle.format.specs.Questions.{Shown}
+use Rattle.book.proofs.Unique.{undone, same-item, same-refusal}
 use Rattle.frame.specs.declared.state.Kind.{Kind}
 use Rattle.frame.specs.declared.state.Kind.the-variants as kind
 use Rattle.frame.specs.declared.state.Mode.{Mode}
@@ -31,9 +28,6 @@ use Rattle.frame.specs.declared.items.FoundItem.{FoundItem}
 use Rattle.frame.specs.declared.items.Found.{Found}
 use Rattle.frame.specs.declared.items.Found.the-variants as found
 use Rattle.frame.specs.Views.{viewKind, viewMode, viewState, viewStep, viewSummary, viewWalk, viewFrame, viewReading, viewIndexed, viewFoundItem, viewFound}
-use Rattle.frame.specs.Parts.{textFrom, within}
-
--- ---- T40
 
 abbrev kindBack : rules.Kind → Kind
 kindBack rules.dataKind = kind.Data
@@ -145,32 +139,3 @@ same-found (found.Item x) (found.Item y) e = ap found.Item (same-found-item x y 
 same-found (found.Item x) (found.Refused n) e = neither _ _ _ e
 same-found (found.Refused n) (found.Item x) e = neither _ _ _ (sym e)
 same-found (found.Refused n) (found.Refused m) e = ap found.Refused (same-refusal n m e)
-
--- ---- T39, no second result, function by function
-
-pub read-once : (s : List ℕ) (r q : Reading) → viewReading r ≡ readOf s → viewReading q ≡ readOf s → r ≡ q
-read-once s = one viewReading same-reading (readOf s)
-
-pub item-once : (s : List ℕ) (n : ℕ) (r q : Found) → viewFound r ≡ shownAt s n → viewFound q ≡ shownAt s n → r ≡ q
-item-once s n = one viewFound same-found (shownAt s n)
-
--- A reference has a place, the elements that stand there, and a name by which the logic tracks them, of which no program can tell: what is
--- fixed is the place and the elements, and so the one machine value of the part, a pointer and a count.
-pub text-once : (s : RefT (List ℕ)) (n : ℕ) (r q : RefT (List ℕ))
-    → (now r ≡ textAt (now s) n) × (ptr r ≡ within (ptr s) (textFrom (now s) n))
-    → (now q ≡ textAt (now s) n) × (ptr q ≡ within (ptr s) (textFrom (now s) n))
-    → (now r ≡ now q) × (ptr r ≡ ptr q) × (slice-vals r ≡ slice-vals q)
-text-once s n r q e f =
-    let a : now r ≡ now q = e .0 ∙ sym (f .0) in
-    let b : ptr r ≡ ptr q = e .1 ∙ sym (f .1) in
-    (a, b, (rw (a, b)))
-
-pub start-once : (k : Kind) (r q : State) → viewState r ≡ start (viewKind k) → viewState q ≡ start (viewKind k) → r ≡ q
-start-once k = one viewState same-state (start (viewKind k))
-
--- channel, histogram, hit_count, last_cell, time_bin, sample, bin, start_event, end_event and text of src/rules.rt
-pub step-once : (b : Stepped) (r q : Step) → viewStep r ≡ b → viewStep q ≡ b → r ≡ q
-step-once = one viewStep same-step
-
--- The promises of may_end, may_start, may_stand_inside, may_time, may_sample, may_histogram, may_bin, may_text, paused and no_zero are
--- equations of the answer itself: `equal-once` of the crate `book`.

@@ -1,15 +1,14 @@
 // The questions on one item: what stands at an ordinal, and a text's bytes.
 ghost use mathlib.Core.Path.{_≡_};
 ghost use Prim.Native.Nat.{_<_};
-ghost use denote.Ref.{ptr};
 ghost use Rattle.format.specs.Items as items;
 ghost use Rattle.format.specs.Items.{whole};
 ghost use Rattle.format.specs.Frames.{lastOf};
 ghost use Rattle.format.specs.Steps.{tokenAt};
-ghost use Rattle.format.specs.Questions.{shown, shownAt, textAt};
+ghost use Rattle.format.specs.Questions.{shown};
 ghost use Rattle.book.specs.Views.{viewItem};
-ghost use Rattle.frame.specs.Views.{viewFound};
-ghost use Rattle.frame.specs.Parts.{textCount, textFrom, within};
+ghost use Rattle.frame.specs.Parts.{textCount};
+ghost use Rattle.frame.specs.Promises.{ItemAnswered, TextAnswered};
 use crate::reading::Indexed;
 use crate::reading::judge;
 use book::class::Class;
@@ -42,7 +41,7 @@ pub enum Found {
     Refused(Refusal),
 }
 
-// The item at word `at`, where one stands whole. The words of the last five classes begin none.
+// The item at word `at`, where one stands whole. The words of the last five classes begin none, so that a text it is where none of the others is.
 fn show(s: &[u8], at: usize) -> Item
     requires { ⌜ at < lastOf (now s) ⌝ }
     ensures { λ r. ⌜ ((x : items.Item) → tokenAt (now (s .entry)) (lastOf (now (s .entry))) at ≡ whole x → viewItem r ≡ shown x) ⌝ }
@@ -60,7 +59,6 @@ fn show(s: &[u8], at: usize) -> Item
         }),
         Class::LastCell => Item::LastCell(LastCell::of_word(w)),
         Class::TimeBin => Item::TimeBin(TimeBin::of_word(w)),
-        Class::Text => Item::Text(Text::of_word(w)),
         Class::StartEvent => Item::StartEvent(StartEvent {
             kind: StartEvent::of_word(w),
             timestamp: time(s, at + 1),
@@ -69,17 +67,18 @@ fn show(s: &[u8], at: usize) -> Item
         Class::EndEvent => Item::EndEvent(EndEvent {
             size: long(s, at + 1),
         }),
-        Class::DataFrame => Item::Text(Text { length: 0 }),
-        Class::MonitorFrame => Item::Text(Text { length: 0 }),
-        Class::CommandFrame => Item::Text(Text { length: 0 }),
-        Class::FrameEnd => Item::Text(Text { length: 0 }),
-        Class::Unassigned => Item::Text(Text { length: 0 }),
+        Class::Text
+        | Class::DataFrame
+        | Class::MonitorFrame
+        | Class::CommandFrame
+        | Class::FrameEnd
+        | Class::Unassigned => Item::Text(Text::of_word(w)),
     }
 }
 
 // Item n of a frame, from 0, and the index of the next item or of the end word. Refuses as `read` does, then 13 where there is no such item.
 pub fn item(s: &[u8], n: usize) -> Found
-    ensures { λ r. ⌜ viewFound r ≡ shownAt (now (s .entry)) n ⌝ }
+    ensures { λ r. ⌜ ItemAnswered (now (s .entry)) n r ⌝ }
 {
     let judged = judge(s, n);
     match judged {
@@ -120,7 +119,7 @@ fn text_count(item: Item) -> usize
 // The bytes of the text that is item n, without the final zero: a part of the frame itself, which begins right after the text's word. On any
 // refusal or another class it is empty; the item question tells this from an empty text.
 pub fn text(s: &[u8], n: usize) -> &[u8]
-    ensures { λ r. ⌜ (now r ≡ textAt (now (s .entry)) n) × (ptr r ≡ within (ptr (s .entry)) (textFrom (now (s .entry)) n)) ⌝ }
+    ensures { λ r. ⌜ TextAnswered (s .entry) n r ⌝ }
 {
     let found = item(s, n);
     match found {

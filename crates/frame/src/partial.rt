@@ -4,8 +4,7 @@ ghost use mathlib.Core.Bool.{_&&_};
 ghost use Prim.Native.Nat.{_%_};
 ghost use lib.Dec.{leb, eqb};
 ghost use Rattle.format.specs.Writing.{partialFault};
-ghost use Rattle.format.specs.PartialSteps.{partialReadOf};
-ghost use Rattle.frame.specs.PartialViews.{viewPartial};
+ghost use Rattle.frame.specs.Promises.{PartialRead};
 use crate::begun::Partial;
 use crate::begun::PartialFrame;
 use crate::head::LAST_SEQUENCE;
@@ -50,7 +49,7 @@ fn partial_fault(buf: &[u8], n: usize) -> u32
 // Whether the first n bytes are a partial frame, and of what kind, card and sequence word; what stands behind them is not looked at. It refuses
 // by 1 to 4 in order at place 0, then by the first faulty item's first of 6 to 10 at its word.
 pub fn partial(buf: &[u8], n: usize) -> Partial
-    ensures { λ r. ⌜ viewPartial r ≡ partialReadOf (now (buf .entry)) n ⌝ }
+    ensures { λ r. ⌜ PartialRead (now (buf .entry)) n r ⌝ }
 {
     let fault = partial_fault(buf, n);
     if fault != 0 {

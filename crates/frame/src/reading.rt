@@ -1,7 +1,8 @@
 // The verdict on a frame, and the item at an ordinal.
 ghost use mathlib.Core.Path.{_≡_};
-ghost use Rattle.format.specs.Steps.{readOf, indexOf};
-ghost use Rattle.frame.specs.Views.{viewKind, viewSummary, viewReading, viewIndexed, endingOf};
+ghost use Rattle.format.specs.Steps.{indexOf};
+ghost use Rattle.frame.specs.Views.{viewKind, viewSummary, viewIndexed, endingOf};
+ghost use Rattle.frame.specs.Promises.{ReadAs};
 use crate::head::head_fault;
 use crate::head::kind_of;
 use crate::state::Kind;
@@ -80,7 +81,7 @@ pub(crate) fn judge(s: &[u8], n: usize) -> Indexed
 // Whether the bytes are a frame, and of what kind, card, sequence word and number of items. Refuses 1 to 5 in order at 0, then the first
 // faulty item by its first of 6 to 10 at its word index, then 11 at the last word.
 pub fn read(s: &[u8]) -> Reading
-    ensures { λ r. ⌜ viewReading r ≡ readOf (now (s .entry)) ⌝ }
+    ensures { λ r. ⌜ ReadAs (now (s .entry)) r ⌝ }
 {
     let judged = judge(s, 0);
     match judged {

@@ -1,13 +1,11 @@
 // The rules of place, value and order at one item, by the state alone. The reader and the writer both go by these.
 ghost use mathlib.Core.Path.{_≡_};
-ghost use mathlib.Core.Bool.{Bool};
-ghost use Prim.Native.Nat.{_+_, _*_, _-_, _≤_};
+ghost use Prim.Native.Nat.{_+_, _*_, _-_, _≤_, _<_};
 ghost use lib.Dec.{eqb};
 ghost use Rattle.format.specs.Items as items;
-ghost use Rattle.format.specs.Items.{whole};
-ghost use Rattle.format.specs.Steps.{marked, checkBy};
-ghost use Rattle.book.specs.Fields.{channelItem, histogramItem, hitsItem, sampleItem, binItem, cellItem, timeItem, startItem};
-ghost use Rattle.frame.specs.Views.{viewState, viewStep, tested, endTested, textTested};
+ghost use Rattle.format.specs.Steps.{marked};
+ghost use Rattle.frame.specs.Views.{viewState, viewStep, tested};
+ghost use Rattle.frame.specs.Promises.{ChannelStep, HistogramStep, HitCountStep, LastCellStep, TimeBinStep, SampleStep, BinStep, StartEventStep, EndEventStep, TextStep};
 use crate::state::Mode;
 use crate::state::State;
 use crate::state::may_bin;
@@ -59,7 +57,7 @@ fn key(card: u16, chip: u16, channel: u16) -> u32
 }
 
 pub fn channel(card: u16, st: State, x: Channel, next: usize) -> Step
-    ensures { λ r. ⌜ viewStep r ≡ marked next (checkBy card 0 (viewState st) (whole (channelItem x))) ⌝ }
+    ensures { λ r. ⌜ ChannelStep card st x next r ⌝ }
 {
     let mode = st.mode;
     let k = key(x.card, x.chip, x.channel);
@@ -79,7 +77,7 @@ pub fn channel(card: u16, st: State, x: Channel, next: usize) -> Step
 }
 
 pub fn histogram(card: u16, st: State, x: Histogram, next: usize) -> Step
-    ensures { λ r. ⌜ viewStep r ≡ marked next (checkBy card 0 (viewState st) (whole (histogramItem x))) ⌝ }
+    ensures { λ r. ⌜ HistogramStep card st x next r ⌝ }
 {
     let mode = st.mode;
     let k = key(x.card, x.chip, x.channel);
@@ -93,7 +91,7 @@ pub fn histogram(card: u16, st: State, x: Histogram, next: usize) -> Step
 }
 
 pub fn hit_count(card: u16, st: State, x: HitCount, next: usize) -> Step
-    ensures { λ r. ⌜ viewStep r ≡ marked next (checkBy card 0 (viewState st) (whole (hitsItem x))) ⌝ }
+    ensures { λ r. ⌜ HitCountStep card st x next r ⌝ }
 {
     let mode = st.mode;
     let after = State {
@@ -106,7 +104,7 @@ pub fn hit_count(card: u16, st: State, x: HitCount, next: usize) -> Step
 }
 
 pub fn last_cell(st: State, x: LastCell, next: usize) -> Step
-    ensures { λ r. ⌜ viewStep r ≡ marked next (checkBy 0 0 (viewState st) (whole (cellItem x))) ⌝ }
+    ensures { λ r. ⌜ LastCellStep st x next r ⌝ }
 {
     let mode = st.mode;
     let after = State {
@@ -119,7 +117,7 @@ pub fn last_cell(st: State, x: LastCell, next: usize) -> Step
 }
 
 pub fn time_bin(st: State, x: TimeBin, next: usize) -> Step
-    ensures { λ r. ⌜ viewStep r ≡ marked next (checkBy 0 0 (viewState st) (whole (timeItem x))) ⌝ }
+    ensures { λ r. ⌜ TimeBinStep st x next r ⌝ }
 {
     let mode = st.mode;
     let time = x.time as u32;
@@ -138,9 +136,9 @@ pub fn time_bin(st: State, x: TimeBin, next: usize) -> Step
     )
 }
 
-// The time after this one, where this one is not past the last.
+// The time after this one; 0 where this one is past the last, which the order rule refuses.
 fn later(time: u32) -> u32
-    ensures { λ r. ⌜ (time ≤ 511 → r ≡ time + 1) ⌝ }
+    ensures { λ r. ⌜ (time ≤ 511 → r ≡ time + 1) × (511 < time → r ≡ 0) ⌝ }
 {
     if time <= TimeBin::LAST as u32 {
         return time + 1;
@@ -149,7 +147,7 @@ fn later(time: u32) -> u32
 }
 
 pub fn sample(st: State, x: Sample, next: usize) -> Step
-    ensures { λ r. ⌜ viewStep r ≡ marked next (checkBy 0 0 (viewState st) (whole (sampleItem x))) ⌝ }
+    ensures { λ r. ⌜ SampleStep st x next r ⌝ }
 {
     let mode = st.mode;
     let after = State {
@@ -168,7 +166,7 @@ pub fn sample(st: State, x: Sample, next: usize) -> Step
 }
 
 pub fn bin(st: State, x: Bin, next: usize) -> Step
-    ensures { λ r. ⌜ viewStep r ≡ marked next (checkBy 0 0 (viewState st) (whole (binItem x))) ⌝ }
+    ensures { λ r. ⌜ BinStep st x next r ⌝ }
 {
     let mode = st.mode;
     let number = x.bin as u32;
@@ -182,7 +180,7 @@ pub fn bin(st: State, x: Bin, next: usize) -> Step
 }
 
 pub fn start_event(at: usize, st: State, x: StartEvent, next: usize) -> Step
-    ensures { λ r. ⌜ viewStep r ≡ marked next (checkBy 0 at (viewState st) (whole (startItem x))) ⌝ }
+    ensures { λ r. ⌜ StartEventStep at st x next r ⌝ }
 {
     let mode = st.mode;
     let after = State {
@@ -213,7 +211,7 @@ fn sized(at: usize, opener: usize, size: u32) -> bool
 
 // The low bits of the item's first word are a value rule of their own.
 pub fn end_event(at: usize, st: State, x: EndEvent, low: u16, next: usize) -> Step
-    ensures { λ r. ⌜ viewStep r ≡ marked next (endTested at (viewState st) (x .size) low) ⌝ }
+    ensures { λ r. ⌜ EndEventStep at st x low next r ⌝ }
 {
     let mode = st.mode;
     let after = State {
@@ -228,7 +226,7 @@ pub fn end_event(at: usize, st: State, x: EndEvent, low: u16, next: usize) -> St
 
 // A text whose bytes passed their test, or did not.
 pub fn text(st: State, closed: bool, next: usize) -> Step
-    ensures { λ r. ⌜ viewStep r ≡ marked next (textTested (viewState st) closed) ⌝ }
+    ensures { λ r. ⌜ TextStep st closed next r ⌝ }
 {
     let mode = st.mode;
     let after = State {

@@ -1,7 +1,7 @@
 // Runs: items of one manner, one behind the other. Most words of a frame stand in them, so the walk takes a run at once, behind an item that
 // leaves the frame where the run's items stand. Each item of a run is one that `step` would take, and the run ends before any other.
 ghost use mathlib.Core.Path.{_≡_};
-ghost use Prim.Native.Nat.{ℕ, _+_, _-_, _*_, _/_, _%_, _≤_, _<_, max};
+ghost use Prim.Native.Nat.{ℕ, _+_, _-_, _*_, _/_, _%_, _≤_, _<_, max, min};
 ghost use lib.ListN.{length};
 ghost use lib.Dec.{eqb};
 ghost use mathlib.Core.Bool.{false, _&&_};
@@ -23,7 +23,7 @@ const TIMES: u32 = TimeBin::LAST as u32 + 1;
 // The words of a Bin.
 const BIN_WORDS: usize = 3;
 
-// The most items of a run, where none is asked for.
+// The most items of a run, where none is asked for: a frame has no more words.
 const MANY: usize = 4096;
 
 // A run: the index behind it, how many items it has, and the state's `next` behind it; nothing else of the state is changed by a run.
@@ -35,7 +35,7 @@ pub(crate) struct Run {
 
 // How many items may be passed before item n, with `count` behind us: that one is to be noted.
 pub(crate) fn ahead(count: usize, n: usize) -> usize
-    ensures { λ r. ⌜ ((i : ℕ) → i < r → eqb (count + i) n ≡ false) ⌝ }
+    ensures { λ r. ⌜ ((i : ℕ) → i < r → eqb (count + i) n ≡ false) × (count ≤ n → r ≡ n - count) × (n < count → r ≡ 4096) ⌝ }
 {
     if count <= n {
         return n - count;
@@ -44,7 +44,7 @@ pub(crate) fn ahead(count: usize, n: usize) -> usize
 }
 
 fn least(a: usize, b: usize) -> usize
-    ensures { λ r. ⌜ (r ≤ a) × (r ≤ b) ⌝ }
+    ensures { λ r. ⌜ r ≡ min a b ⌝ }
 {
     if a <= b {
         return a;

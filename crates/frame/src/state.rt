@@ -1,10 +1,5 @@
 // What a reader has to remember of the items behind it; a state goes in by value and comes back.
-ghost use mathlib.Core.Path.{_≡_};
-ghost use mathlib.Core.Bool.{Bool};
-ghost use Rattle.format.specs.Book.{channel, histogram, sample, bin, timeBin, text, startEvent};
-ghost use Rattle.format.specs.Rules.{allowed, among};
-ghost use Rattle.format.specs.Steps as steps;
-ghost use Rattle.frame.specs.Views.{viewKind, viewMode, viewState};
+ghost use Rattle.frame.specs.Promises.{Started, MayEnd, MayStart, MayStandInside, MayTime, MaySample, MayHistogram, MayBin, MayText, PausedFrom};
 
 pub enum Kind {
     Data,
@@ -38,7 +33,7 @@ pub struct State {
 impl State {
     // The state before any item.
     pub fn start(kind: Kind) -> State
-        ensures { λ r. ⌜ viewState r ≡ steps.start (viewKind kind) ⌝ }
+        ensures { λ r. ⌜ Started kind r ⌝ }
     {
         match kind {
             Kind::Data => State {
@@ -65,7 +60,7 @@ impl State {
 
 // The items may end here: no event is open.
 pub fn may_end(mode: Mode) -> bool
-    ensures { λ r. ⌜ r ≡ steps.endedBy (viewMode mode) ⌝ }
+    ensures { λ r. ⌜ MayEnd mode r ⌝ }
 {
     match mode {
         Mode::Outside => true,
@@ -80,7 +75,7 @@ pub fn may_end(mode: Mode) -> bool
 }
 
 pub fn may_start(mode: Mode) -> bool
-    ensures { λ r. ⌜ r ≡ among startEvent (allowed (viewMode mode)) ⌝ }
+    ensures { λ r. ⌜ MayStart mode r ⌝ }
 {
     match mode {
         Mode::Outside => true,
@@ -96,7 +91,7 @@ pub fn may_start(mode: Mode) -> bool
 
 // Hit count, Last cell, Channel and End event stand in the same places.
 pub fn may_stand_inside(mode: Mode) -> bool
-    ensures { λ r. ⌜ r ≡ among channel (allowed (viewMode mode)) ⌝ }
+    ensures { λ r. ⌜ MayStandInside mode r ⌝ }
 {
     match mode {
         Mode::Outside => false,
@@ -111,7 +106,7 @@ pub fn may_stand_inside(mode: Mode) -> bool
 }
 
 pub fn may_time(mode: Mode) -> bool
-    ensures { λ r. ⌜ r ≡ among timeBin (allowed (viewMode mode)) ⌝ }
+    ensures { λ r. ⌜ MayTime mode r ⌝ }
 {
     match mode {
         Mode::Outside => false,
@@ -126,7 +121,7 @@ pub fn may_time(mode: Mode) -> bool
 }
 
 pub fn may_sample(mode: Mode) -> bool
-    ensures { λ r. ⌜ r ≡ among sample (allowed (viewMode mode)) ⌝ }
+    ensures { λ r. ⌜ MaySample mode r ⌝ }
 {
     match mode {
         Mode::Outside => false,
@@ -141,7 +136,7 @@ pub fn may_sample(mode: Mode) -> bool
 }
 
 pub fn may_histogram(mode: Mode) -> bool
-    ensures { λ r. ⌜ r ≡ among histogram (allowed (viewMode mode)) ⌝ }
+    ensures { λ r. ⌜ MayHistogram mode r ⌝ }
 {
     match mode {
         Mode::Outside => false,
@@ -156,7 +151,7 @@ pub fn may_histogram(mode: Mode) -> bool
 }
 
 pub fn may_bin(mode: Mode) -> bool
-    ensures { λ r. ⌜ r ≡ among bin (allowed (viewMode mode)) ⌝ }
+    ensures { λ r. ⌜ MayBin mode r ⌝ }
 {
     match mode {
         Mode::Outside => false,
@@ -171,7 +166,7 @@ pub fn may_bin(mode: Mode) -> bool
 }
 
 pub fn may_text(mode: Mode) -> bool
-    ensures { λ r. ⌜ r ≡ among text (allowed (viewMode mode)) ⌝ }
+    ensures { λ r. ⌜ MayText mode r ⌝ }
 {
     match mode {
         Mode::Outside => false,
@@ -187,7 +182,7 @@ pub fn may_text(mode: Mode) -> bool
 
 // A Time bin right after a Sample leaves a pause: it is later than the next sample would be.
 pub fn paused(mode: Mode, next: u32, time: u32) -> bool
-    ensures { λ r. ⌜ r ≡ steps.paused (viewMode mode) next time ⌝ }
+    ensures { λ r. ⌜ PausedFrom mode next time r ⌝ }
 {
     match mode {
         Mode::Outside => true,

@@ -2,12 +2,13 @@
 ghost use mathlib.Core.Path.{_≡_};
 ghost use Prim.Native.Nat.{_+_, _-_, _≤_};
 ghost use lib.ListN.{length, drop};
-ghost use Rattle.format.specs.Words.{nonZero, allZero};
+ghost use Rattle.format.specs.Words.{allZero};
 ghost use Rattle.format.specs.Items.{closed};
+ghost use Rattle.frame.specs.Promises.{ZeroFree};
 
 // No byte is zero. There is no early exit, so that the compiler takes many bytes at once.
 pub fn no_zero(s: &[u8]) -> bool
-    ensures { λ r. ⌜ r ≡ nonZero (now (s .entry)) ⌝ }
+    ensures { λ r. ⌜ ZeroFree (now (s .entry)) r ⌝ }
 {
     let mut good = true;
     let mut i: usize = 0;

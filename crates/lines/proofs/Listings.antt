@@ -23,7 +23,8 @@ use Rattle.ledger.proofs.Judging.{verdict-parts}
 use Rattle.ledger.proofs.FirstLaws.{first-lawful}
 use Rattle.plane.proofs.RecordLaws.{judge-refused, frame-part, room, told}
 use Rattle.lines.specs.Listing.{frameLine, changeText, signerText, entryLine, endLine, refusedLine, entryLines, frameOf, listingOf, listing, listingAnswer, listingExit}
-use Rattle.lines.specs.Writes.{Put, Known, Listed}
+use Rattle.lines.specs.Writes.{Put, Known}
+use Rattle.lines.specs.Promises.{Listed}
 use Rattle.lines.proofs.Putting.{joined}
 
 -- ---- entries

@@ -8,7 +8,7 @@ use Rattle.book.proofs.Unique.{one, undone}
 use Rattle.lines.specs.declared.answers.Listing.{Listing}
 use Rattle.lines.specs.declared.answers.Listing.the-variants as listings
 use Rattle.lines.specs.Listing.{listingAnswer}
-use Rattle.lines.specs.Writes.{Listed}
+use Rattle.lines.specs.Promises.{Listed}
 use Rattle.lines.specs.Views.{viewListing}
 
 abbrev listingBack : Outcome ℕ → Listing

@@ -3,3 +3,4 @@ pub mod Text
 pub mod Listing
 pub mod Writes
 pub mod Views
+pub mod Promises

@@ -5,11 +5,10 @@ use mathlib.Core.Path.{_≡_}
 use mathlib.Core.List.{List}
 use lib.ListN.{length}
 use lib.Seq.{sets}
-use Rattle.format.specs.Answers.{Outcome, accepted}
+use Rattle.format.specs.Answers.{accepted}
 use Rattle.ledger.specs.Records.{lengthIn, countIn, recordVerdict}
 use Rattle.ledger.specs.First.{first}
 use Rattle.ledger.specs.House.{house}
-use Rattle.lines.specs.Listing.{listingAnswer, listingExit}
 
 -- a text of at most so many bytes was put at byte `at`; the byte behind it is `next`
 pub record Put (most : ℕ) (found : List ℕ) (at : ℕ) (text left : List ℕ) (next : ℕ) : Type 0 where
@@ -22,8 +21,3 @@ pub record Known (b : List ℕ) (size count : ℕ) : Type 0 where
   pub judged : recordVerdict house first b ≡ accepted tt
   pub length : size ≡ lengthIn b
   pub entries : count ≡ countIn b
-
--- the listing of b, into a second buffer
-pub record Listed (b found : List ℕ) (answer : Outcome ℕ) (exit : List ℕ) : Type 0 where
-  pub answered : answer ≡ listingAnswer b found
-  pub left : exit ≡ listingExit b found

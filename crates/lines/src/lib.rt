@@ -3,7 +3,8 @@ ghost use mathlib.Core.Path.{_≡_};
 ghost use Prim.Native.Nat.{_≤_};
 ghost use lib.ListN.{length};
 ghost use Rattle.lines.specs.Listing as listings;
-ghost use Rattle.lines.specs.Writes.{Put, Known, Listed};
+ghost use Rattle.lines.specs.Writes.{Put, Known};
+ghost use Rattle.lines.specs.Promises.{Listed};
 ghost use Rattle.lines.specs.Views.{viewListing};
 
 pub mod answers;

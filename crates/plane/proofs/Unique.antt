@@ -2,14 +2,17 @@
 -- Assumes nothing.
 use Prim.Native.Nat.{ℕ}
 use mathlib.Core.Path.{_≡_, refl}
+use mathlib.Core.Bool.{Bool}
 use mathlib.Core.List.{List, [], _∷_}
 use lib.Seq.{sets}
 use Rattle.format.specs.Words.{bytes}
 use mathlib.Core.Option.{Option, none, some}
 use Rattle.format.specs.Answers.{Outcome, accepted, refused}
 use Rattle.format.specs.Spots as spots
+use Rattle.format.specs.Spots.{legalValue}
 use Rattle.book.proofs.Unique.{one, undone, equal-once}
 use Rattle.ledger.specs.Formats as formats
+use Rattle.ledger.specs.Records as ledger
 use Rattle.ledger.specs.Records.{entryOf}
 use Rattle.ledger.specs.Calls.{Summary, recordAnswer, entryAnswer}
 use Rattle.ledger.specs.Judged as judged
@@ -27,7 +30,8 @@ use Rattle.plane.specs.declared.answers.Entry.{Entry}
 use Rattle.plane.specs.declared.answers.EntryFound.{EntryFound}
 use Rattle.plane.specs.declared.answers.EntryFound.the-variants as entries
 use Rattle.plane.specs.Views.{viewSpot, viewRecord, viewJudged, asEntry, viewEntry}
-use Rattle.plane.specs.Stored.{stored}
+use Rattle.plane.specs.Stored.{stored, storedOld}
+use Rattle.plane.specs.Promises.{SpotTold, Recorded, JudgedTo, EntryTold, EntryRead, SignedBy, Undone, UndoneFrom, MayHold, WordPut, ValuePut}
 
 -- T40: the way back from each answer on paper
 
@@ -86,27 +90,39 @@ plainBack e = record { word = e .word; kind = e .kind; old = e .old; new = e .ne
 pub same-plain : (r q : Entry) → asEntry r ≡ asEntry q → r ≡ q
 same-plain = undone asEntry plainBack (λ e. refl)
 
--- T39: no second result, function by function. Those of record, judge, entry and spot lend no memory to write
+-- T39: no second result, function by function; each is over the promise that the function's contract names (specs/Promises.antt). `spot`,
+-- `record`, `judge` and `entry` lend no memory to write
 
-pub spot-once : (f : List ℕ) (w : ℕ) (r q : SpotFound) → viewSpot r ≡ spots.spot f w → viewSpot q ≡ spots.spot f w → r ≡ q
+pub spot-once : (f : List ℕ) (w : ℕ) (r q : SpotFound) → SpotTold f w r → SpotTold f w q → r ≡ q
 spot-once f w = one viewSpot same-spot (spots.spot f w)
 
-pub record-once : (b : List ℕ) (r q : RecordFound) → viewRecord r ≡ recordAnswer house first b → viewRecord q ≡ recordAnswer house first b → r ≡ q
+pub record-once : (b : List ℕ) (r q : RecordFound) → Recorded b r → Recorded b q → r ≡ q
 record-once b = one viewRecord same-record (recordAnswer house first b)
 
-pub judge-once : (b : List ℕ) (w : ℕ) (r q : Judged) → viewJudged r ≡ judged.judgedAt house first b w → viewJudged q ≡ judged.judgedAt house first b w → r ≡ q
+pub judge-once : (b : List ℕ) (w : ℕ) (r q : Judged) → JudgedTo b w r → JudgedTo b w q → r ≡ q
 judge-once b w = one viewJudged same-judged (judged.judgedAt house first b w)
 
-pub entry-once : (b : List ℕ) (j : ℕ) (r q : EntryFound) → viewEntry r ≡ entryAnswer house first b j → viewEntry q ≡ entryAnswer house first b j → r ≡ q
+pub entry-once : (b : List ℕ) (j : ℕ) (r q : EntryFound) → EntryTold b j r → EntryTold b j q → r ≡ q
 entry-once b j = one viewEntry same-entry (entryAnswer house first b j)
 
-pub entry-of-once : (s : List ℕ) (r q : Entry) → asEntry r ≡ entryOf first s → asEntry q ≡ entryOf first s → r ≡ q
+pub entry-of-once : (s : List ℕ) (r q : Entry) → EntryRead s r → EntryRead s q → r ≡ q
 entry-of-once s = one asEntry same-plain (entryOf first s)
 
--- The promises of `legal` and `signed` are equations of the answer, those of `put_word`, `put_value`, `undo` and `undo_from` of the list that they
--- leave, whole
-pub put-word-once : (f : List ℕ) (at w : ℕ) (r q : List ℕ) → r ≡ sets f at (bytes (w ∷ [])) → q ≡ sets f at (bytes (w ∷ [])) → r ≡ q
+pub signed-once : (operator reason : ℕ) (r q : Bool) → SignedBy operator reason r → SignedBy operator reason q → r ≡ q
+signed-once operator reason = equal-once (ledger.signed operator reason)
+
+-- of the functions that answer nothing, the list that they leave, whole
+pub undo-once : (f : List ℕ) (e : Entry) (r q : List ℕ) → Undone f e r → Undone f e q → r ≡ q
+undo-once f e = equal-once (stored f (e .kind) (e .word) (e .old))
+
+pub undo-from-once : (f s r q : List ℕ) → UndoneFrom f s r → UndoneFrom f s q → r ≡ q
+undo-from-once f s = equal-once (storedOld f (entryOf first s))
+
+pub legal-once : (kind value : ℕ) (r q : Bool) → MayHold kind value r → MayHold kind value q → r ≡ q
+legal-once kind value = equal-once (legalValue kind value)
+
+pub put-word-once : (f : List ℕ) (at w : ℕ) (r q : List ℕ) → WordPut f at w r → WordPut f at w q → r ≡ q
 put-word-once f at w = equal-once (sets f at (bytes (w ∷ [])))
 
-pub put-value-once : (f : List ℕ) (kind w v : ℕ) (r q : List ℕ) → r ≡ stored f kind w v → q ≡ stored f kind w v → r ≡ q
+pub put-value-once : (f : List ℕ) (kind w v : ℕ) (r q : List ℕ) → ValuePut f kind w v r → ValuePut f kind w v q → r ≡ q
 put-value-once f kind w v = equal-once (stored f kind w v)

@@ -1,3 +1,4 @@
 pub mod Views
 pub mod Stored
 pub mod Undoing
+pub mod Promises

@@ -3,14 +3,13 @@ ghost use mathlib.Core.Path.{_≡_};
 ghost use Prim.Native.Nat.{ℕ, _+_, _*_, _≤_};
 ghost use lib.ListN.{length, getD};
 ghost use Rattle.ledger.specs.Frames.{Accepted};
-ghost use Rattle.ledger.specs.Records as records;
 ghost use Rattle.ledger.specs.Records.{lengthIn, entryOf, entriesTo, fits, historyVerdict};
 ghost use Rattle.ledger.specs.First.{first};
 ghost use Rattle.ledger.specs.House.{house};
 ghost use Rattle.ledger.specs.Judged.{heldOf};
 ghost use Rattle.plane.specs.Views.{viewHeld, asEntry, unfit};
-ghost use Rattle.plane.specs.Stored.{stored, storedOld};
 ghost use Rattle.plane.specs.Undoing.{Kinds, Undoing};
+ghost use Rattle.plane.specs.Promises.{EntryRead, SignedBy, Undone, UndoneFrom};
 use crate::answers::Entry;
 use crate::answers::Held;
 use crate::answers::HeldFound;
@@ -44,7 +43,7 @@ fn entry_in(s: &[u8]) -> Entry
 
 // The entry that a slice begins with; what is past its end is 0.
 pub fn entry_of(s: &[u8]) -> Entry
-    ensures { λ r. ⌜ asEntry r ≡ entryOf first (now (s .entry)) ⌝ }
+    ensures { λ r. ⌜ EntryRead (now (s .entry)) r ⌝ }
 {
     if Entry::SIZE <= s.len() {
         return entry_in(s);
@@ -71,7 +70,7 @@ fn kind_at(map: &[u8], w: usize) -> u8
 
 // Operator 1 to 65,535, reason 1 to 5.
 pub fn signed(operator: u32, reason: u32) -> bool
-    ensures { λ r. ⌜ r ≡ records.signed operator reason ⌝ }
+    ensures { λ r. ⌜ SignedBy operator reason r ⌝ }
 {
     (1 <= operator)
         & (operator <= Entry::LAST_OPERATOR)
@@ -114,14 +113,14 @@ pub(crate) fn held_at(f: &[u8], map: &[u8], w: usize) -> HeldFound
 
 // Takes the old value of an entry as standing: an entry that fits says by its own kind where the value is, so the frame is not walked.
 pub fn undo(f: &mut [u8], e: Entry)
-    ensures { λ _. ⌜ now (f .exit) ≡ stored (now (f .entry)) (e .kind) (e .word) (e .old) ⌝ }
+    ensures { λ _. ⌜ Undone (now (f .entry)) e (now (f .exit)) ⌝ }
 {
     put_value(f, e.kind, e.word as usize, e.old);
 }
 
 // Undoes the entry that a slice begins with; of one that is whole no more is read than that takes.
 pub fn undo_from(f: &mut [u8], s: &[u8])
-    ensures { λ _. ⌜ now (f .exit) ≡ storedOld (now (f .entry)) (entryOf first (now (s .entry))) ⌝ }
+    ensures { λ _. ⌜ UndoneFrom (now (f .entry)) (now (s .entry)) (now (f .exit)) ⌝ }
 {
     if s.len() < Entry::SIZE {
         undo(f, entry_of(s));

@@ -2,14 +2,11 @@
 ghost use mathlib.Core.Path.{_≡_};
 ghost use Prim.Native.Nat.{ℕ, _+_, _*_, _≤_};
 ghost use lib.ListN.{length, getD};
-ghost use Rattle.format.specs.Spots as spots;
 ghost use Rattle.ledger.specs.Frames.{Accepted};
 ghost use Rattle.ledger.specs.Records.{lengthIn};
-ghost use Rattle.ledger.specs.Calls.{recordAnswer, entryAnswer};
-ghost use Rattle.ledger.specs.Judged.{judgedAt};
-ghost use Rattle.ledger.specs.First.{first};
 ghost use Rattle.ledger.specs.House.{house};
-ghost use Rattle.plane.specs.Views.{viewSpot, viewRecord, viewJudged, viewEntry, summaryOf, toldBy};
+ghost use Rattle.plane.specs.Views.{viewJudged, summaryOf, toldBy};
+ghost use Rattle.plane.specs.Promises.{SpotTold, JudgedTo, Recorded, EntryTold};
 
 pub mod answers;
 pub mod header;
@@ -36,7 +33,7 @@ use scan::spot_in;
 // The Sample or Bin that begins at word w of a frame, with its kind, value and order key; nothing where another item or none begins there, and
 // where the bytes are no frame.
 pub fn spot(f: &[u8], w: usize) -> SpotFound
-    ensures { λ r. ⌜ viewSpot r ≡ spots.spot (now (f .entry)) w ⌝ }
+    ensures { λ r. ⌜ SpotTold (now (f .entry)) w r ⌝ }
 {
     let reading = read(f);
     match reading {
@@ -78,7 +75,7 @@ fn told(frame: &[u8], b: &[u8], x: Record, w: usize) -> Judged
 
 // Whether a buffer begins with a record, as `record` answers, and what stands at word w of its frame.
 pub fn judge(buf: &[u8], w: usize) -> Judged
-    ensures { λ r. ⌜ viewJudged r ≡ judgedAt house first (now (buf .entry)) w ⌝ }
+    ensures { λ r. ⌜ JudgedTo (now (buf .entry)) w r ⌝ }
 {
     if header_right(buf) {
         let length = word(buf, Record::LENGTH_WORD) as usize;
@@ -110,7 +107,7 @@ pub fn judge(buf: &[u8], w: usize) -> Judged
 // Whether a buffer begins with a record, and of what frame length, entry count and total length. Refuses by 20, then as the frame is refused,
 // then by 21 with the number of the newest entry that does not fit.
 pub fn record(buf: &[u8]) -> RecordFound
-    ensures { λ r. ⌜ viewRecord r ≡ recordAnswer house first (now (buf .entry)) ⌝ }
+    ensures { λ r. ⌜ Recorded (now (buf .entry)) r ⌝ }
 {
     let judged = judge(buf, 0);
     match judged {
@@ -121,7 +118,7 @@ pub fn record(buf: &[u8]) -> RecordFound
 
 // Entry j of a record, from 1 as the oldest. Refuses as `record` does, then by 26 where j is 0 or above the entry count.
 pub fn entry(buf: &[u8], j: usize) -> EntryFound
-    ensures { λ r. ⌜ viewEntry r ≡ entryAnswer house first (now (buf .entry)) j ⌝ }
+    ensures { λ r. ⌜ EntryTold (now (buf .entry)) j r ⌝ }
 {
     let found = record(buf);
     match found {

@@ -8,13 +8,14 @@ ghost use lib.Seq.{sets};
 ghost use Rattle.format.specs.Words.{bytes};
 ghost use Rattle.format.specs.Spots.{legalValue};
 ghost use Rattle.plane.specs.Stored.{stored, Inside};
+ghost use Rattle.plane.specs.Promises.{MayHold, WordPut, ValuePut};
 use crate::answers::Spot;
 use book::items::Bin;
 use book::items::Sample;
 
 // An item of the kind may hold the value: a sample of at most 4,095, a bin's count of at least 1.
 pub fn legal(kind: u16, value: u32) -> bool
-    ensures { λ r. ⌜ r ≡ legalValue kind value ⌝ }
+    ensures { λ r. ⌜ MayHold kind value r ⌝ }
 {
     if kind == Spot::SAMPLE as u16 {
         return value <= Sample::LAST as u32;
@@ -33,7 +34,7 @@ fn word_put(buf: &mut [u8], at: usize, w: u16)
 
 // The same, as far as there is room.
 pub fn put_word(buf: &mut [u8], at: usize, w: u16)
-    ensures { λ _. ⌜ now (buf .exit) ≡ sets (now (buf .entry)) at (bytes (w ∷ [])) ⌝ }
+    ensures { λ _. ⌜ WordPut (now (buf .entry)) at w (now (buf .exit)) ⌝ }
 {
     if buf.len() <= at {
         return;
@@ -79,7 +80,7 @@ pub(crate) fn put_in(f: &mut [u8], kind: u16, w: usize, value: u32)
 
 // Puts a value in the item of the kind whose first word is word w; leaves the bytes where an item of that kind may not hold it.
 pub fn put_value(f: &mut [u8], kind: u16, w: usize, value: u32)
-    ensures { λ _. ⌜ now (f .exit) ≡ stored (now (f .entry)) kind w value ⌝ }
+    ensures { λ _. ⌜ ValuePut (now (f .entry)) kind w value (now (f .exit)) ⌝ }
 {
     if f.len() / 2 < w {
         return;

@@ -7,7 +7,7 @@ use mathlib.Core.List.{List}
 use native.Mathlib.Omega.{arith}
 use Rattle.format.specs.Answers.{accepted}
 use Rattle.format.specs.Questions as questions
-use Rattle.format.specs.Questions.{eventAt, Sampled, Counted}
+use Rattle.format.specs.Questions.{eventAt}
 use Rattle.book.proofs.Unique.{one, same-refusal}
 use Rattle.questions.specs.declared.answers.Event.{Event}
 use Rattle.questions.specs.declared.answers.EventFound.{EventFound}
@@ -15,6 +15,7 @@ use Rattle.questions.specs.declared.answers.EventFound.the-variants as f
 use Rattle.questions.specs.declared.answers.Filled.{Filled}
 use Rattle.questions.specs.declared.answers.Filled.the-variants as filled
 use Rattle.questions.specs.Views.{eventOf, viewEvent, viewFilled}
+use Rattle.questions.specs.Promises.{EventAnswered, SamplesAnswered, CountsAnswered}
 
 -- ---- T40
 
@@ -36,15 +37,15 @@ same-filled filled.Done (filled.Refused r) e = let z : _≡_ {A = ℕ} 0 1 = cc 
 same-filled (filled.Refused r) filled.Done e = let z : _≡_ {A = ℕ} 0 1 = cc in absurd (omega arith)
 same-filled (filled.Refused r) (filled.Refused q) e = ap filled.Refused (same-refusal r q e)
 
--- ---- T39, function by function
+-- ---- T39, function by function: each is over the promise that the function's contract names
 
-pub event-once : (s : List ℕ) (e : ℕ) (r q : EventFound) → viewEvent r ≡ eventAt s e → viewEvent q ≡ eventAt s e → r ≡ q
+pub event-once : (s : List ℕ) (e : ℕ) (r q : EventFound) → EventAnswered s e r → EventAnswered s e q → r ≡ q
 event-once s e = one viewEvent same-found (eventAt s e)
 
 pub samples-once : (s : List ℕ) (e chip c : ℕ) (l : List ℕ) (r q : Filled) (l₁ l₂ : List ℕ)
-    → Sampled s e chip c l (viewFilled r) l₁ → Sampled s e chip c l (viewFilled q) l₂ → (r ≡ q) × (l₁ ≡ l₂)
+    → SamplesAnswered s e chip c l r l₁ → SamplesAnswered s e chip c l q l₂ → (r ≡ q) × (l₁ ≡ l₂)
 samples-once s e chip c l r q l₁ l₂ a b = (same-filled r q (a .answered ∙ sym (b .answered)), a .filled ∙ sym (b .filled))
 
 pub counts-once : (s : List ℕ) (chip c : ℕ) (l : List ℕ) (r q : Filled) (l₁ l₂ : List ℕ)
-    → Counted s chip c l (viewFilled r) l₁ → Counted s chip c l (viewFilled q) l₂ → (r ≡ q) × (l₁ ≡ l₂)
+    → CountsAnswered s chip c l r l₁ → CountsAnswered s chip c l q l₂ → (r ≡ q) × (l₁ ≡ l₂)
 counts-once s chip c l r q l₁ l₂ a b = (same-filled r q (a .answered ∙ sym (b .answered)), a .filled ∙ sym (b .filled))

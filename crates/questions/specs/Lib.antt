@@ -1,2 +1,3 @@
 pub mod Views
 pub mod Standing
+pub mod Promises

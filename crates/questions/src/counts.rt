@@ -1,11 +1,11 @@
 // The counts question.
-ghost use mathlib.Core.Path.{_≡_};
 ghost use Prim.Native.Nat.{_≤_};
 ghost use lib.ListN.{length};
-ghost use Rattle.format.specs.Questions.{present, past, isHistogram, countsLeft, Counted};
+ghost use Rattle.format.specs.Questions.{present, past, isHistogram, countsLeft};
 ghost use Rattle.frame.specs.Views.{viewKind};
 ghost use Rattle.questions.specs.Views.{viewFilled};
 ghost use Rattle.questions.specs.Standing.{itemsFrom, Standing, HistogramSought, Filling};
+ghost use Rattle.questions.specs.Promises.{CountsAnswered};
 use crate::answers::Filled;
 use crate::answers::Place;
 use crate::fill::COUNTS;
@@ -61,7 +61,7 @@ fn counts_in(s: &[u8], kind: Kind, card: u16, chip: u16, channel: u16, out: &mut
 // The counts of the histogram of a chip and a channel: into the first 4,096 words lent, each at its bin's number, 0 where no bin stands.
 // Refuses as `read` does, then 12 where fewer words are lent, then 13 where there is no such histogram; a refusal leaves all of them as found.
 pub fn counts(s: &[u8], chip: u16, channel: u16, out: &mut [u32]) -> Filled
-    ensures { λ r. ⌜ Counted (now (s .entry)) chip channel (now (out .entry)) (viewFilled r) (now (out .exit)) ⌝ }
+    ensures { λ r. ⌜ CountsAnswered (now (s .entry)) chip channel (now (out .entry)) r (now (out .exit)) ⌝ }
 {
     let reading = read(s);
     match reading {

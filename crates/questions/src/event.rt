@@ -3,10 +3,10 @@ ghost use mathlib.Core.Path.{_≡_};
 ghost use Prim.Native.Nat.{ℕ, _+_, _<_};
 ghost use lib.ListN.{length};
 ghost use Rattle.format.specs.Rules.{dataKind};
-ghost use Rattle.format.specs.Questions.{eventAt};
 ghost use Rattle.frame.specs.Views.{viewKind};
 ghost use Rattle.questions.specs.Views.{eventOf, viewEvent};
 ghost use Rattle.questions.specs.Standing.{itemsFrom, Standing, Stands, openedAt, EventSought, eventIn};
+ghost use Rattle.questions.specs.Promises.{EventAnswered};
 use crate::answers::Event;
 use crate::answers::EventFound;
 use crate::answers::Place;
@@ -71,7 +71,7 @@ fn event_in(s: &[u8], kind: Kind, e: usize) -> EventFound
 // Event e, from 0, of a frame: its type, timestamp, number, size and the index of its Start event word. Refuses as `read` does, then 13 where
 // there is no such event.
 pub fn event(s: &[u8], e: usize) -> EventFound
-    ensures { λ r. ⌜ viewEvent r ≡ eventAt (now (s .entry)) e ⌝ }
+    ensures { λ r. ⌜ EventAnswered (now (s .entry)) e r ⌝ }
 {
     let reading = read(s);
     match reading {

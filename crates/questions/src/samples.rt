@@ -1,11 +1,11 @@
 // The samples question.
-ghost use mathlib.Core.Path.{_≡_};
 ghost use Prim.Native.Nat.{_≤_};
 ghost use lib.ListN.{length};
-ghost use Rattle.format.specs.Questions.{channelIn, samplesLeft, Sampled};
+ghost use Rattle.format.specs.Questions.{channelIn, samplesLeft};
 ghost use Rattle.frame.specs.Views.{viewKind};
 ghost use Rattle.questions.specs.Views.{viewFilled};
 ghost use Rattle.questions.specs.Standing.{itemsFrom, Standing, SamplesSought, Filling};
+ghost use Rattle.questions.specs.Promises.{SamplesAnswered};
 use crate::answers::Filled;
 use crate::answers::Place;
 use crate::event::find_event;
@@ -72,7 +72,7 @@ fn samples_in(
 // Refuses as `read` does, then 12 where fewer words are lent, then 13 where there is no such event or channel in it; a refusal leaves all of
 // them as found.
 pub fn samples(s: &[u8], e: usize, chip: u16, channel: u16, out: &mut [u16]) -> Filled
-    ensures { λ r. ⌜ Sampled (now (s .entry)) e chip channel (now (out .entry)) (viewFilled r) (now (out .exit)) ⌝ }
+    ensures { λ r. ⌜ SamplesAnswered (now (s .entry)) e chip channel (now (out .entry)) r (now (out .exit)) ⌝ }
 {
     let reading = read(s);
     match reading {

@@ -6,19 +6,20 @@ use mathlib.Core.Path.{_≡_, sym, ap, ap₂, _∙_}
 use mathlib.Core.List.{List}
 use native.Mathlib.Omega.{arith}
 use Rattle.format.specs.Answers.{Outcome, accepted, refused}
-use Rattle.format.specs.Items.{ItemOf, Text, whole}
-use Rattle.format.specs.Rules.{Kind}
-use Rattle.format.specs.Steps.{St}
-use Rattle.format.specs.Writing.{beginAnswer, beginLeft, given, addAnswer, addLeft, closeAnswer, closeLeft, Wrote}
+use Rattle.format.specs.Writing.{Wrote}
 use Rattle.format.specs.PartialSteps as steps
-use Rattle.format.specs.PartialSteps.{putAnswer, putLeft, PutWrote}
+use Rattle.format.specs.PartialSteps.{PutWrote}
+use Rattle.book.specs.declared.items.Item.{Item}
 use Rattle.book.proofs.Unique.{one, same-refusal}
+use Rattle.frame.specs.declared.state.Kind.{Kind}
+use Rattle.frame.specs.declared.state.State.{State}
 use Rattle.frame.proofs.Unique.{same-state}
 use Rattle.writer.specs.declared.answers.Written.{Written}
 use Rattle.writer.specs.declared.answers.Written.the-variants as written
 use Rattle.writer.specs.declared.answers.Put.{Put}
 use Rattle.writer.specs.declared.answers.Put.the-variants as put
 use Rattle.writer.specs.Views.{viewWritten, viewPut}
+use Rattle.writer.specs.Promises.{Begun, Added, AddedText, Closed, PutDone, PutTextDone}
 
 -- ---- T40
 
@@ -51,27 +52,23 @@ wrote-once answer left r q b d e f = (one viewWritten same-written answer r q (e
 put-wrote-once : (answer : Outcome steps.Put) (left : List ℕ) (r q : Put) (b d : List ℕ) → PutWrote answer left (viewPut r) b → PutWrote answer left (viewPut q) d → (r ≡ q) × (b ≡ d)
 put-wrote-once answer left r q b d e f = (one viewPut same-put answer r q (e .answered) (f .answered), e .written ∙ sym (f .written))
 
+-- each is over the promise that the function's contract names (specs/Promises.antt)
 module _ (buf : List ℕ) (n : ℕ) (r q : Written) (b d : List ℕ) where
-  pub begin-once : (kind : Kind) (card sequence : ℕ) → Wrote (beginAnswer buf card sequence) (beginLeft buf kind card sequence) (viewWritten r) b
-      → Wrote (beginAnswer buf card sequence) (beginLeft buf kind card sequence) (viewWritten q) d → (r ≡ q) × (b ≡ d)
+  pub begin-once : (kind : Kind) (card sequence : ℕ) → Begun buf kind card sequence r b → Begun buf kind card sequence q d → (r ≡ q) × (b ≡ d)
   begin-once kind card sequence = wrote-once _ _ r q b d
 
-  pub add-once : (x : ItemOf ℕ) → Wrote (addAnswer buf n (given x)) (addLeft buf n (given x)) (viewWritten r) b
-      → Wrote (addAnswer buf n (given x)) (addLeft buf n (given x)) (viewWritten q) d → (r ≡ q) × (b ≡ d)
+  pub add-once : (x : Item) → Added buf n x r b → Added buf n x q d → (r ≡ q) × (b ≡ d)
   add-once x = wrote-once _ _ r q b d
 
-  pub add-text-once : (s : List ℕ) → Wrote (addAnswer buf n (whole (Text s))) (addLeft buf n (whole (Text s))) (viewWritten r) b
-      → Wrote (addAnswer buf n (whole (Text s))) (addLeft buf n (whole (Text s))) (viewWritten q) d → (r ≡ q) × (b ≡ d)
+  pub add-text-once : (s : List ℕ) → AddedText buf n s r b → AddedText buf n s q d → (r ≡ q) × (b ≡ d)
   add-text-once s = wrote-once _ _ r q b d
 
-  pub close-once : Wrote (closeAnswer buf n) (closeLeft buf n) (viewWritten r) b → Wrote (closeAnswer buf n) (closeLeft buf n) (viewWritten q) d → (r ≡ q) × (b ≡ d)
+  pub close-once : Closed buf n r b → Closed buf n q d → (r ≡ q) × (b ≡ d)
   close-once = wrote-once _ _ r q b d
 
-module _ (buf : List ℕ) (n card : ℕ) (st : St) (r q : Put) (b d : List ℕ) where
-  pub put-once : (x : ItemOf ℕ) → PutWrote (putAnswer buf n card st (given x)) (putLeft buf n card st (given x)) (viewPut r) b
-      → PutWrote (putAnswer buf n card st (given x)) (putLeft buf n card st (given x)) (viewPut q) d → (r ≡ q) × (b ≡ d)
+module _ (buf : List ℕ) (n card : ℕ) (st : State) (r q : Put) (b d : List ℕ) where
+  pub put-once : (x : Item) → PutDone buf n card st x r b → PutDone buf n card st x q d → (r ≡ q) × (b ≡ d)
   put-once x = put-wrote-once _ _ r q b d
 
-  pub put-text-once : (s : List ℕ) → PutWrote (putAnswer buf n 0 st (whole (Text s))) (putLeft buf n 0 st (whole (Text s))) (viewPut r) b
-      → PutWrote (putAnswer buf n 0 st (whole (Text s))) (putLeft buf n 0 st (whole (Text s))) (viewPut q) d → (r ≡ q) × (b ≡ d)
+  pub put-text-once : (s : List ℕ) → PutTextDone buf n st s r b → PutTextDone buf n st s q d → (r ≡ q) × (b ≡ d)
   put-text-once s = put-wrote-once _ _ r q b d

@@ -1,12 +1,11 @@
 // The writer's calls on a partial frame in a lent buffer.
 ghost use mathlib.Core.Path.{_≡_};
 ghost use Prim.Native.Nat.{_%_};
-ghost use Rattle.format.specs.Items.{Text, whole};
 ghost use Rattle.format.specs.Frames.{startWord};
-ghost use Rattle.format.specs.Writing.{beginAnswer, beginLeft, given, addAnswer, addLeft, closeAnswer, closeLeft, Wrote};
-ghost use Rattle.book.specs.Views.{viewItem};
+ghost use Rattle.format.specs.Writing.{beginAnswer, closeAnswer};
 ghost use Rattle.frame.specs.Views.{viewKind};
 ghost use Rattle.writer.specs.Views.{viewWritten, viewPut, lengthOf, refuse};
+ghost use Rattle.writer.specs.Promises.{Begun, Added, AddedText, Closed};
 use crate::answers::Put;
 use crate::answers::Written;
 use crate::steps::put;
@@ -60,7 +59,7 @@ fn may_begin(buf: &[u8], card: u16, sequence: u16) -> Written
 // Begins a partial frame: writes bytes 0 to 5 and answers the length 6. It refuses a card over 31 by 9, a sequence word over 0x0100 by 4, a
 // buffer under 8 bytes by 12, in that order, each at place 0.
 pub fn begin(buf: &mut [u8], kind: Kind, card: u16, sequence: u16) -> Written
-    ensures { λ r. ⌜ Wrote (beginAnswer (now (buf .entry)) card sequence) (beginLeft (now (buf .entry)) (viewKind kind) card sequence) (viewWritten r) (now (buf .exit)) ⌝ }
+    ensures { λ r. ⌜ Begun (now (buf .entry)) kind card sequence r (now (buf .exit)) ⌝ }
 {
     let answer = may_begin(buf, card, sequence);
     match answer {
@@ -88,7 +87,7 @@ fn reached(answer: Put) -> Written
 // wrong with the partial frame (1 to 4, then 6 to 10); then by 8, 9 or 10 for the item, at word `length`/2, a content too wide for its field being
 // 9; then by 12 at place 0 where the item and an end word would pass the buffer or 8,192 bytes. A text is added by `add_text`; here it is 8 or 9.
 pub fn add(buf: &mut [u8], length: usize, item: Item) -> Written
-    ensures { λ r. ⌜ Wrote (addAnswer (now (buf .entry)) length (given (viewItem item))) (addLeft (now (buf .entry)) length (given (viewItem item))) (viewWritten r) (now (buf .exit)) ⌝ }
+    ensures { λ r. ⌜ Added (now (buf .entry)) length item r (now (buf .exit)) ⌝ }
 {
     let judged = partial(buf, length);
     match judged {
@@ -102,7 +101,7 @@ pub fn add(buf: &mut [u8], length: usize, item: Item) -> Written
 
 // Adds a text, which comes without its final zero. As `add`; a text over 254 bytes or holding a zero is 9.
 pub fn add_text(buf: &mut [u8], length: usize, text: &[u8]) -> Written
-    ensures { λ r. ⌜ Wrote (addAnswer (now (buf .entry)) length (whole (Text (now (text .entry))))) (addLeft (now (buf .entry)) length (whole (Text (now (text .entry))))) (viewWritten r) (now (buf .exit)) ⌝ }
+    ensures { λ r. ⌜ AddedText (now (buf .entry)) length (now (text .entry)) r (now (buf .exit)) ⌝ }
 {
     let judged = partial(buf, length);
     match judged {
@@ -137,7 +136,7 @@ fn may_close(buf: &[u8], length: usize) -> Written
 // Closes the partial frame in the first `length` bytes: writes the size and end words and answers the frame's length. It refuses by what is
 // wrong with the partial frame, then by 11 at the word where the end word would stand, then by 12 at place 0 where the end word doesn't fit.
 pub fn close(buf: &mut [u8], length: usize) -> Written
-    ensures { λ r. ⌜ Wrote (closeAnswer (now (buf .entry)) length) (closeLeft (now (buf .entry)) length) (viewWritten r) (now (buf .exit)) ⌝ }
+    ensures { λ r. ⌜ Closed (now (buf .entry)) length r (now (buf .exit)) ⌝ }
 {
     let answer = may_close(buf, length);
     match answer {

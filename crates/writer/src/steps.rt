@@ -1,15 +1,15 @@
 // One item put behind the bytes that a state stands for: by the state alone, so that code which carries the state writes a frame in one pass.
 ghost use mathlib.Core.Path.{_≡_};
 ghost use Prim.Native.Nat.{_≤_};
-ghost use Rattle.format.specs.Items as items;
 ghost use Rattle.format.specs.Items.{whole};
 ghost use Rattle.format.specs.Steps.{marked, checkBy};
 ghost use Rattle.format.specs.Writing.{given};
-ghost use Rattle.format.specs.PartialSteps.{putAnswer, putLeft, PutWrote};
+ghost use Rattle.format.specs.PartialSteps.{PutWrote};
 ghost use Rattle.book.specs.Fields.{endItem};
 ghost use Rattle.book.specs.Views.{viewItem};
 ghost use Rattle.frame.specs.Views.{viewState, viewStep};
 ghost use Rattle.writer.specs.Views.{viewPut, roomIn, answeredBy, pieceBytes, itemBytes, placed, placedLeft, lettered, Short};
+ghost use Rattle.writer.specs.Promises.{PutDone, PutTextDone};
 use crate::answers::Put;
 use crate::stores::Piece;
 use crate::stores::piece_size;
@@ -129,7 +129,7 @@ fn turn_of(at: usize, card: u16, st: State, item: Item) -> Step
 // and the state behind it. It refuses by 8, 9 or 10 at word `length`/2, then by 12 at place 0 where the item and an end word don't fit. A text's
 // bytes are not in the item: it answers 8 or 9, and `put_text` puts it. (The rules' index of a next item is not asked for here.)
 pub fn put(buf: &mut [u8], length: usize, card: u16, st: State, item: Item) -> Put
-    ensures { λ r. ⌜ PutWrote (putAnswer (now (buf .entry)) length card (viewState st) (given (viewItem item))) (putLeft (now (buf .entry)) length card (viewState st) (given (viewItem item))) (viewPut r) (now (buf .exit)) ⌝ }
+    ensures { λ r. ⌜ PutDone (now (buf .entry)) length card st item r (now (buf .exit)) ⌝ }
 {
     let turn = turn_of(length / 2, card, st, item);
     put_words(buf, length, turn, piece_of(item))
@@ -158,7 +158,7 @@ fn text_words(buf: &mut [u8], length: usize, turn: Step, letters: &[u8]) -> Put
 // Puts a text behind `length` bytes, where `st` is the state behind them; the text comes without its final zero. As `put`: it refuses by 8, by 9
 // for a text over 254 bytes or holding a zero, then by 12 at place 0.
 pub fn put_text(buf: &mut [u8], length: usize, st: State, letters: &[u8]) -> Put
-    ensures { λ r. ⌜ PutWrote (putAnswer (now (buf .entry)) length 0 (viewState st) (whole (items.Text (now (letters .entry))))) (putLeft (now (buf .entry)) length 0 (viewState st) (whole (items.Text (now (letters .entry))))) (viewPut r) (now (buf .exit)) ⌝ }
+    ensures { λ r. ⌜ PutTextDone (now (buf .entry)) length st (now (letters .entry)) r (now (buf .exit)) ⌝ }
 {
     if Text::MOST < letters.len() {
         return answered(buf.len(), length, text(st, false, 0), 0);

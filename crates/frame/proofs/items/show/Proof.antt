@@ -5,7 +5,7 @@ use denote.Ref.{now}
 use Rattle.format.specs.Book.{classOf}
 use Rattle.book.specs.Views.{view}
 use Rattle.book.specs.declared.class.Class.{Class}
-use Rattle.frame.proofs.Shows.{channel-shown, histogram-shown, hit-shown, sample-shown, bin-shown, cell-shown, time-shown, text-shown, start-shown, end-shown, data-shown, monitor-shown, command-shown, frame-end-shown, unassigned-shown}
+use Rattle.frame.proofs.Shows.{channel-shown, histogram-shown, hit-shown, sample-shown, bin-shown, cell-shown, time-shown, start-shown, end-shown, other-shown}
 use borrow.Author.Needs.{needs}
 use Rattle.frame.proofs.items.show.Statement.{statement}
 use Rattle.frame.proofs.items.show.Tie as tie
@@ -74,12 +74,6 @@ enum-told-8 c = search needs
 of-word-requires-8 : tie.Need-of-word-requires-8
 of-word-requires-8 c κs = search needs
 
-enum-told-9 : tie.Need-enum-told-9
-enum-told-9 c = search needs
-
-of-word-requires-9 : tie.Need-of-word-requires-9
-of-word-requires-9 c κs = search needs
-
 add-time : tie.Need-add-time
 add-time c = search needs
 
@@ -92,8 +86,8 @@ add-long-2 c = search needs
 long-requires-2 : tie.Need-long-requires-2
 long-requires-2 c κs = search needs
 
-enum-told-10 : tie.Need-enum-told-10
-enum-told-10 c = search needs
+enum-told-9 : tie.Need-enum-told-9
+enum-told-9 c = search needs
 
 add-long-3 : tie.Need-add-long-3
 add-long-3 c = search needs
@@ -101,20 +95,8 @@ add-long-3 c = search needs
 long-requires-3 : tie.Need-long-requires-3
 long-requires-3 c κs = search needs
 
-enum-told-11 : tie.Need-enum-told-11
-enum-told-11 c = search needs
-
-enum-told-12 : tie.Need-enum-told-12
-enum-told-12 c = search needs
-
-enum-told-13 : tie.Need-enum-told-13
-enum-told-13 c = search needs
-
-enum-told-14 : tie.Need-enum-told-14
-enum-told-14 c = search needs
-
-enum-told-15 : tie.Need-enum-told-15
-enum-told-15 c = search needs
+of-word-requires-9 : tie.Need-of-word-requires-9
+of-word-requires-9 c κs = search needs
 
 returns : tie.Need-returns
 returns c =
@@ -153,43 +135,18 @@ returns-7 c =
 
 returns-8 : tie.Need-returns-8
 returns-8 c =
-    let k = c .before .before .before in
-    λ x t. text-shown _ _ _ (k .before .before .before .pre) (k .before .word .ensures) x t _ (told k _ (c .before .enum-told8 .given .1)) (c .of-word8 .ensures)
+    let k = c .before .before .before .before .before in
+    λ x t. start-shown _ _ _ (k .before .before .before .pre) (k .before .word .ensures) x t _ _ _ (told k _ (c .before .before .before .enum-told8 .given .1)) (c .before .before .of-word8 .ensures) (c .before .time .ensures) (c .long2 .ensures)
 
 returns-9 : tie.Need-returns-9
 returns-9 c =
-    let k = c .before .before .before .before .before in
-    λ x t. start-shown _ _ _ (k .before .before .before .pre) (k .before .word .ensures) x t _ _ _ (told k _ (c .before .before .before .enum-told9 .given .1)) (c .before .before .of-word9 .ensures) (c .before .time .ensures) (c .long2 .ensures)
+    let k = c .before .before .before in
+    λ x t. end-shown _ _ _ (k .before .before .before .pre) (k .before .word .ensures) x t _ (told k _ (c .before .enum-told9 .given .1)) (c .long3 .ensures)
 
 returns-10 : tie.Need-returns-10
 returns-10 c =
-    let k = c .before .before .before in
-    λ x t. end-shown _ _ _ (k .before .before .before .pre) (k .before .word .ensures) x t _ (told k _ (c .before .enum-told10 .given .1)) (c .long3 .ensures)
-
-returns-11 : tie.Need-returns-11
-returns-11 c =
     let k = c .before .before in
-    λ x t. data-shown _ _ _ (k .before .before .before .pre) (k .before .word .ensures) x t (told k _ (c .enum-told11 .given .1))
-
-returns-12 : tie.Need-returns-12
-returns-12 c =
-    let k = c .before .before in
-    λ x t. monitor-shown _ _ _ (k .before .before .before .pre) (k .before .word .ensures) x t (told k _ (c .enum-told12 .given .1))
-
-returns-13 : tie.Need-returns-13
-returns-13 c =
-    let k = c .before .before in
-    λ x t. command-shown _ _ _ (k .before .before .before .pre) (k .before .word .ensures) x t (told k _ (c .enum-told13 .given .1))
-
-returns-14 : tie.Need-returns-14
-returns-14 c =
-    let k = c .before .before in
-    λ x t. frame-end-shown _ _ _ (k .before .before .before .pre) (k .before .word .ensures) x t (told k _ (c .enum-told14 .given .1))
-
-returns-15 : tie.Need-returns-15
-returns-15 c =
-    let k = c .before .before in
-    λ x t. unassigned-shown _ _ _ (k .before .before .before .pre) (k .before .word .ensures) x t (told k _ (c .enum-told15 .given .1))
+    λ x t. other-shown _ _ _ (k .before .before .before .pre) (k .before .word .ensures) x t (k .classify .result) (c .before .match .keys10) (k .classify .ensures) _ (c .of-word9 .ensures)
 
 pub show-spec : {M : Type 1} → statement M
 show-spec =
@@ -215,20 +172,14 @@ show-spec =
     of-word-requires-7
     enum-told-8
     of-word-requires-8
-    enum-told-9
-    of-word-requires-9
     add-time
     time-requires
     add-long-2
     long-requires-2
-    enum-told-10
+    enum-told-9
     add-long-3
     long-requires-3
-    enum-told-11
-    enum-told-12
-    enum-told-13
-    enum-told-14
-    enum-told-15
+    of-word-requires-9
     returns
     returns-2
     returns-3
@@ -238,9 +189,4 @@ show-spec =
     returns-7
     returns-8
     returns-9
-    returns-10
-    returns-11
-    returns-12
-    returns-13
-    returns-14
-    returns-15)
+    returns-10)

@@ -21,7 +21,7 @@ judged-requires : tie.Need-judged-requires
 judged-requires c κs = search needs
 
 returns : tie.Need-returns
-returns c = sample-turn _ _ _ _ _ (c .before .before .before .before .later .ensures) (c .judged .ensures) (c .before .before .before .may-sample .ensures) (c .before .before .valid .ensures)
+returns c = sample-turn _ _ _ _ _ (c .before .before .before .before .later .ensures .0) (c .judged .ensures) (c .before .before .before .may-sample .ensures) (c .before .before .valid .ensures)
 
 pub sample-spec : {M : Type 1} → statement M
 sample-spec =

@@ -6,10 +6,10 @@ use Rattle.frame.proofs.runs.ahead.Statement.{statement}
 use Rattle.frame.proofs.runs.ahead.Tie as tie
 
 returns : tie.Need-returns
-returns c = λ i h. before _ _ i (omega arith) h
+returns c = ((λ i h. before _ _ i (omega arith) h), (λ h. omega arith), (λ h. omega arith))
 
 returns-2 : tie.Need-returns-2
-returns-2 c = λ i h. behind _ _ i (omega arith)
+returns-2 c = ((λ i h. behind _ _ i (omega arith)), (λ h. omega arith), (λ h. omega arith))
 
 pub ahead-spec : {M : Type 1} → statement M
 ahead-spec = tie.close (tie.spec returns returns-2)

@@ -51,7 +51,7 @@ add-count-2 c =
     let d = q .before .before in
     let m = live-moved _ _ _ _ _ _ _ _ _ (d .before .before .before .before .before .before .loop .inv .1) (d .before .before .before .before .before .loop-test .taken) _ (d .before .before .before .step .ensures) _ _ _ (ap viewStep (d .before .turn .given .1)) (d .before .before .before .before .noted .ensures) in
     let e = q .run-at .ensures in
-    let l = live-run _ _ _ _ _ _ _ _ _ (m .2) _ (λ i h. q .before .ahead .ensures i (omega (arith, e .few))) _ _ (e .turns) in
+    let l = live-run _ _ _ _ _ _ _ _ _ (m .2) _ (λ i h. q .before .ahead .ensures .0 i (omega (arith, e .few))) _ _ (e .turns) in
     omega (arith, live-few _ _ _ _ _ _ _ _ _ l .0)
 
 loop-less : tie.Need-loop-less Inv-loop μ-loop
@@ -67,7 +67,7 @@ loop-again c =
     let d = q .before .before in
     let m = live-moved _ _ _ _ _ _ _ _ _ (d .before .before .before .before .before .before .loop .inv .1) (d .before .before .before .before .before .loop-test .taken) _ (d .before .before .before .step .ensures) _ _ _ (ap viewStep (d .before .turn .given .1)) (d .before .before .before .before .noted .ensures) in
     let e = q .run-at .ensures in
-    (d .before .before .before .before .before .before .loop .inv .0, live-run _ _ _ _ _ _ _ _ _ (m .2) _ (λ i h. q .before .ahead .ensures i (omega (arith, e .few))) _ _ (e .turns))
+    (d .before .before .before .before .before .before .loop .inv .0, live-run _ _ _ _ _ _ _ _ _ (m .2) _ (λ i h. q .before .ahead .ensures .0 i (omega (arith, e .few))) _ _ (e .turns))
 
 enum-known-turn-2 : tie.Need-enum-known-turn-2 Inv-loop μ-loop
 enum-known-turn-2 c = search needs
