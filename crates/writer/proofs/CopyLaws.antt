@@ -44,10 +44,11 @@ use Rattle.frame.specs.declared.items.Found.{Found}
 use Rattle.frame.specs.declared.items.Found.the-variants as found
 use Rattle.frame.specs.Views.{viewKind, viewFrame, viewReading}
 use Rattle.frame.proofs.Unique.{same-kind, same-reading, same-found}
+use Rattle.frame.specs.Promises.{ReadAs, ItemAnswered, TextAnswered}
 use Rattle.writer.specs.declared.answers.Written.{Written}
 use Rattle.writer.specs.declared.answers.Written.the-variants as written
 use Rattle.writer.specs.Views.{viewWritten}
-use Rattle.writer.specs.Runs.{ReadAs, ItemAnswered, TextAnswered, Argument, anItem, aText, callIn, Run, isText, Copies, no-more, with-item, with-text, argumentFor, typed, allTyped, ReadsBack}
+use Rattle.writer.specs.Runs.{Argument, anItem, aText, callIn, Run, isText, Copies, no-more, with-item, with-text, argumentFor, typed, allTyped, ReadsBack}
 use Rattle.writer.proofs.Unique.{same-written}
 use Rattle.writer.proofs.RunLaws.{run-ran, asked}
 

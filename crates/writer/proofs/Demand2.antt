@@ -26,9 +26,10 @@ use Rattle.frame.specs.declared.items.FoundItem.{FoundItem}
 use Rattle.frame.specs.declared.items.Found.{Found}
 use Rattle.frame.specs.declared.items.Found.the-variants as found
 use Rattle.frame.specs.Views.{viewKind, viewFrame}
+use Rattle.frame.specs.Promises.{ReadAs, ItemAnswered, TextAnswered}
 use Rattle.writer.specs.declared.answers.Written.{Written}
 use Rattle.writer.specs.declared.answers.Written.the-variants as written
-use Rattle.writer.specs.Runs.{ReadAs, ItemAnswered, TextAnswered, Argument, callIn, Run, Copies, argumentFor, allTyped, ReadsBack}
+use Rattle.writer.specs.Runs.{Argument, callIn, Run, Copies, argumentFor, allTyped, ReadsBack}
 use Rattle.writer.proofs.RunLaws as runs
 use Rattle.writer.proofs.CopyLaws as copies
 

@@ -7,14 +7,11 @@ use mathlib.Core.Bool.{Bool, true, false, _&&_}
 use lib.Dec.{ltb}
 use lib.ListN.{length}
 use lib.Pow.{areBytes}
-use denote.Ref.{RefT, now, ptr}
+use denote.Ref.{RefT, now}
 use Rattle.format.specs.Book.{text}
 use Rattle.format.specs.Items as items
-use Rattle.format.specs.Items.{Text, classFor, whole}
+use Rattle.format.specs.Items.{classFor}
 use Rattle.format.specs.Rules.{same}
-use Rattle.format.specs.Questions.{shownAt, textAt}
-use Rattle.format.specs.Steps.{readOf}
-use Rattle.format.specs.Writing.{beginAnswer, beginLeft, given, addAnswer, addLeft, closeAnswer, closeLeft, Wrote}
 use Rattle.format.specs.Handing.{Call, byAdd, byText}
 use Rattle.book.specs.declared.items.Item.{Item}
 use Rattle.book.specs.declared.items.Item.the-variants as item
@@ -25,38 +22,11 @@ use Rattle.frame.specs.declared.reading.Frame.{Frame}
 use Rattle.frame.specs.declared.reading.Reading.{Reading}
 use Rattle.frame.specs.declared.reading.Reading.the-variants as reading
 use Rattle.frame.specs.declared.items.FoundItem.{FoundItem}
-use Rattle.frame.specs.declared.items.Found.{Found}
 use Rattle.frame.specs.declared.items.Found.the-variants as found
-use Rattle.frame.specs.Views.{viewKind, viewReading, viewFound}
-use Rattle.frame.specs.Parts.{textFrom, within}
+use Rattle.frame.specs.Promises.{ItemAnswered, TextAnswered}
 use Rattle.writer.specs.declared.answers.Written.{Written}
 use Rattle.writer.specs.declared.answers.Written.the-variants as written
-use Rattle.writer.specs.Views.{viewWritten}
-
--- ---- the promises of the calls, each as its function's contract has it
-
--- `read`, `item` and `text` of the crate `frame`, asked of the frame s
-abbrev pub ReadAs : List ℕ → Reading → Type 0
-ReadAs s r = viewReading r ≡ readOf s
-
-abbrev pub ItemAnswered : List ℕ → ℕ → Found → Type 0
-ItemAnswered s n r = viewFound r ≡ shownAt s n
-
-abbrev pub TextAnswered : RefT (List ℕ) → ℕ → RefT (List ℕ) → Type 0
-TextAnswered s n r = (now r ≡ textAt (now s) n) × (ptr r ≡ within (ptr s) (textFrom (now s) n))
-
--- `begin`, `add`, `add_text` and `close`: on the buffer b, what is answered and the buffer that is left
-abbrev pub Begun : List ℕ → Kind → ℕ → ℕ → Written → List ℕ → Type 0
-Begun b kind card sequence r left = Wrote (beginAnswer b card sequence) (beginLeft b (viewKind kind) card sequence) (viewWritten r) left
-
-abbrev pub Added : List ℕ → ℕ → Item → Written → List ℕ → Type 0
-Added b n x r left = Wrote (addAnswer b n (given (viewItem x))) (addLeft b n (given (viewItem x))) (viewWritten r) left
-
-abbrev pub AddedText : List ℕ → ℕ → List ℕ → Written → List ℕ → Type 0
-AddedText b n s r left = Wrote (addAnswer b n (whole (Text s))) (addLeft b n (whole (Text s))) (viewWritten r) left
-
-abbrev pub Closed : List ℕ → ℕ → Written → List ℕ → Type 0
-Closed b n r left = Wrote (closeAnswer b n) (closeLeft b n) (viewWritten r) left
+use Rattle.writer.specs.Promises.{Begun, Added, AddedText, Closed}
 
 -- ---- runs
 
