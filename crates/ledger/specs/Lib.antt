@@ -8,4 +8,5 @@ pub mod Histories
 pub mod First
 pub mod House
 pub mod Judged
+pub mod Reasons
 pub mod HouseTable
