@@ -28,14 +28,15 @@ use Rattle.ledger.specs.Calls.{newValue, entryFor, openAnswer, editTests
 use Rattle.ledger.specs.Chains.{Header, Chain}
 use Rattle.ledger.specs.First.{first, nothing}
 use Rattle.ledger.specs.House.{told, toldOf, house, house-judge}
-use Rattle.ledger.specs.Reasons.{totalLength, frameOf, entryFrom, Back, NewestUnfit, RecordRefused, ofHeader, ofFrame, ofEntry, OpenBroken, OpenRefused, EditBroken, target, illegal, present, signer, full, EditRefused, RestoreBroken, RestoreRefused, EntryBroken, EntryRefused}
+use Rattle.ledger.specs.Reasons.{HeaderBroken, totalLength, frameOf, entryFrom, Back, NewestUnfit, RecordRefused, ofHeader, ofFrame, ofEntry, OpenBroken, OpenRefused, EditBroken, target, illegal, present, signer, full, EditRefused, RestoreBroken, RestoreRefused, EntryBroken, EntryRefused}
 use Rattle.ledger.specs.Reasons as reasons
 use Rattle.ledger.proofs.Answering.{not-both}
 use Rattle.ledger.proofs.Codecs.{bytes-part}
 use Rattle.ledger.proofs.Due.{same-refusal, Agrees, no-more, asked-first, tested, none-due, behind}
 use Rattle.ledger.proofs.Headers.{header-words, header-right}
-use Rattle.ledger.proofs.Judging.{entry-place, parts-verdict, header-refused, frame-refused, entry-refused}
+use Rattle.ledger.proofs.Judging.{entry-place, chain-unique, parts-verdict, record-chain, header-refused, frame-refused, entry-refused}
 use Rattle.ledger.proofs.FirstLaws.{full-limit}
+use Rattle.ledger.proofs.House.{judged}
 use Rattle.ledger.proofs.EntryReasons.{spot-kind, illegal-value, value-illegal, unsigned, signed-not, broken-header, header-broken, whole-header, unfit-not, fit-or-unfit}
 
 -- ---- frames
@@ -80,6 +81,22 @@ module _ (b : List ℕ) where
     λ C. record { standing = C .standing; fit = λ m l h. unfit-not (f (suc m)) (entryFrom b (suc m)) (C .fit m l h); old = C .back },
     λ r. record { standing = r .standing; fit = λ m l h. ⊎-elim (λ t. t) (λ u. absurd (r .fit m l h u)) (fit-or-unfit (f (suc m)) (entryFrom b (suc m))); back = r .old },
   )
+
+  -- accepted: a header that is not broken, an accepted frame, and frames back to the first
+  pub record-stands : (recordVerdict house first b ≡ accepted tt)
+      ↔ ((HeaderBroken b → ⊥) × ((g : Frame) × (verdict (frameOf b) ≡ accepted g)) × ((f : ℕ → List ℕ) × Back b 0 f))
+  unfolding lengthIn
+  record-stands =
+      let x = record-chain house first b in (
+        λ e.
+            let w = x .0 e in
+            (header-broken b (w .0), judged (verdict (frameOf b)) (sym (house-judge (frameOf b)) ∙ w .1), (w .2 .0, chain-back 0 (w .2 .0) .0 (w .2 .1))),
+        λ w. x .1 (whole-header b (w .0), house-judge (frameOf b) ∙ ap (λ (o : Outcome Frame). done o) (w .1 .1), (w .2 .0, chain-back 0 (w .2 .0) .1 (w .2 .1))),
+      )
+
+  pub back-unique : (j : ℕ) (f g : ℕ → List ℕ) → Back b j f → Back b j g → (m : ℕ) → j ≤ m → m ≤ wordAt b 5 → f m ≡ g m
+  unfolding countIn
+  back-unique j f g r q = chain-unique house first b j f g (chain-back j f .1 r) (chain-back j g .1 q)
 
   module _ (y : Bytes b) where
     frame-bytes : Bytes (frameIn b)
@@ -127,6 +144,10 @@ module _ (b : List ℕ) where
     -- a record: 20, then the frame's refusals, then 21 at the newest entry that does not fit
     pub record-refused : (n p : ℕ) → (recordVerdict house first b ≡ refused n p) ↔ RecordRefused b n p
     record-refused n p = (due n p, given n p)
+
+    -- of an accepted frame under a header of which nothing is broken: 21 at j exactly where entry j is the newest that does not fit
+    pub newest-unfit : (j : ℕ) → (HeaderBroken b → ⊥) → ((n p : ℕ) → Refused (frameOf b) n p → ⊥) → (recordVerdict house first b ≡ refused 21 j) ↔ NewestUnfit b j
+    newest-unfit j h r = entry-due j (whole-header b h) (none-due _ _ frame-due .1 r)
 
     pub record-accepted : (recordVerdict house first b ≡ accepted tt) ↔ ((n p : ℕ) → RecordRefused b n p → ⊥)
     record-accepted = none-due (recordVerdict house first b) (RecordRefused b) record-refused
