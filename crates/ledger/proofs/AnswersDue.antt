@@ -28,7 +28,8 @@ use Rattle.ledger.specs.Calls.{newValue, entryFor, openAnswer, editTests
 use Rattle.ledger.specs.Chains.{Header, Chain}
 use Rattle.ledger.specs.First.{first, nothing}
 use Rattle.ledger.specs.House.{told, toldOf, house, house-judge}
-use Rattle.ledger.specs.Reasons.{HeaderBroken, totalLength, frameOf, entryFrom, Back, NewestUnfit, RecordRefused, ofHeader, ofFrame, ofEntry, OpenBroken, OpenRefused, EditBroken, target, illegal, present, signer, full, EditRefused, RestoreBroken, RestoreRefused, EntryBroken, EntryRefused}
+use Rattle.ledger.specs.Layout.{totalLength, frameOf, entryFrom}
+use Rattle.ledger.specs.Reasons.{HeaderBroken, Back, NewestUnfit, RecordRefused, ofHeader, ofFrame, ofEntry, OpenBroken, OpenRefused, EditBroken, target, illegal, present, signer, full, EditRefused, RestoreBroken, RestoreRefused, EntryBroken, EntryRefused}
 use Rattle.ledger.specs.Reasons as reasons
 use Rattle.ledger.proofs.Answering.{not-both}
 use Rattle.ledger.proofs.Codecs.{bytes-part}

@@ -19,12 +19,13 @@ use Rattle.format.specs.Questions.{done}
 use Rattle.format.specs.Spots.{Spot, spot, put, revalued, withValue, SpotIs, withItems}
 use Rattle.ledger.specs.Tests.{Plain}
 use Rattle.ledger.specs.Formats.{Entry, Correction}
-use Rattle.ledger.specs.Records.{header, lengthIn, countIn, totalIn, frameIn, entryBytes, entriesIn, recordVerdict}
+use Rattle.ledger.specs.Records.{countIn, frameIn, entriesIn, recordVerdict}
 use Rattle.ledger.specs.Calls.{entryFor, entryAnswer, openAnswer, openExit, editAnswer, editExit, restored, restoreAnswer, restoreExit}
-use Rattle.ledger.specs.Histories.{oldestFirst, bytesOf, correctionOf, frameAfter, entriesOf, run, recordAfter, acceptedEdits, Point, Sequence}
+use Rattle.ledger.specs.Histories.{oldestFirst, correctionOf, frameAfter, entriesOf, run, recordAfter, acceptedEdits, Point, Sequence}
 use Rattle.ledger.specs.First.{first}
 use Rattle.ledger.specs.House.{house, house-judge, Free}
-use Rattle.ledger.specs.Reasons.{frameOf, HeaderBroken, Back, NewestUnfit, RecordRefused, ofHeader, ofFrame, OpenRefused, EditRefused, RestoreRefused, EntryRefused}
+use Rattle.ledger.specs.Layout.{totalLength, frameOf, headerFor, entryWritten, historyWritten}
+use Rattle.ledger.specs.Reasons.{HeaderBroken, Back, NewestUnfit, RecordRefused, ofHeader, ofFrame, OpenRefused, EditRefused, RestoreRefused, EntryRefused}
 use Rattle.ledger.proofs.AnswersDue as due
 use Rattle.ledger.proofs.Demand3 as demand3
 use Rattle.ledger.proofs.House.{house-first}
@@ -36,8 +37,8 @@ judged f g v = house-judge f ∙ ap (λ (o : Outcome Frame). done o) v
 
 -- > "Put an accepted frame into a record with no history,"
 pub put-into-a-record : (f buf : List ℕ) → openAnswer house first f buf ≡ accepted tt
-    → openExit house first f buf ≡ header first (length f) 0 ++ (f ++ drop (16 + length f) buf)
-put-into-a-record = demand3.put-into-a-record house first house-first
+    → openExit house first f buf ≡ headerFor (length f) 0 ++ (f ++ drop (16 + length f) buf)
+put-into-a-record = edits.open-laid
 
 -- > "then make any sequence of edit calls on it, some refused, with nothing else writing to it."
 pub accepted-after : (f buf : List ℕ) → Bytes f → openAnswer house first f buf ≡ accepted tt → (cs : List Correction)
@@ -49,8 +50,8 @@ refused-edit = demand3.refused-edit house first house-first
 
 -- the bytes beyond the record are the caller's own
 pub own-beyond : (f buf : List ℕ) → Bytes f → openAnswer house first f buf ≡ accepted tt → (cs : List Correction)
-    → drop (totalIn first (recordAfter house first f buf cs)) (recordAfter house first f buf cs) ≡ drop (totalIn first (recordAfter house first f buf cs)) buf
-own-beyond = demand3.own-beyond house first house-first
+    → drop (totalLength (recordAfter house first f buf cs)) (recordAfter house first f buf cs) ≡ drop (totalLength (recordAfter house first f buf cs)) buf
+own-beyond = edits.beyond-laid
 
 -- > "An accepted frame is refused a record only where the buffer is too short,"
 pub opened-exactly : (f buf : List ℕ) (g : Frame) → verdict f ≡ accepted g → (openAnswer house first f buf ≡ accepted tt) ↔ (16 + length f ≤ length buf)
@@ -104,9 +105,9 @@ nowhere-else = edits.edit-elsewhere
 -- every byte: header, the frame with the value put, the entries that stood, the new one, and the buffer's own beyond
 pub edited-bytes : (b : List ℕ) (c : Correction) → Bytes b → editAnswer house first b c ≡ accepted tt
     → editExit house first b c
-    ≡ header first (lengthIn b) (suc (countIn b))
-    ++ (put (frameIn b) (c .word) (c .value)
-    ++ (take (16 * countIn b) (drop (16 + lengthIn b) b) ++ (entryBytes first (entryFor house (frameIn b) c) ++ drop (totalIn first b + 16) b)))
+    ≡ headerFor (wordAt b 3) (suc (wordAt b 5))
+    ++ (put (frameOf b) (c .word) (c .value)
+    ++ (take (16 * wordAt b 5) (drop (16 + wordAt b 3) b) ++ (entryWritten (entryFor house (frameOf b) c) ++ drop (totalLength b + 16) b)))
 edited-bytes = edits.edit-bytes
 
 -- > "For every number k from 0 to the count of accepted edits, restoring to k, into a buffer with room, gives the exact frame that stood after
@@ -161,9 +162,9 @@ history-in-order = demand3.history-in-order house first house-first
 -- every byte of the buffer: header, the frame after the accepted edits, their entries in order, and the caller's own beyond
 pub whole-record : (f buf : List ℕ) → Bytes f → openAnswer house first f buf ≡ accepted tt → (cs : List Correction)
     → recordAfter house first f buf cs
-    ≡ header first (length f) (length (acceptedEdits house first f buf cs))
+    ≡ headerFor (length f) (length (acceptedEdits house first f buf cs))
     ++ (frameAfter house f (acceptedEdits house first f buf cs)
-    ++ (bytesOf first (entriesOf house f (acceptedEdits house first f buf cs)) ++ drop (16 + length f + 16 * length (acceptedEdits house first f buf cs)) buf))
+    ++ (historyWritten (entriesOf house f (acceptedEdits house first f buf cs)) ++ drop (16 + length f + 16 * length (acceptedEdits house first f buf cs)) buf))
 whole-record = edits.record-whole
 
 -- and the entry question tells them by their numbers, from 1; it refuses by the record's refusals and by 26

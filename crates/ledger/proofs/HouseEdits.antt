@@ -8,7 +8,7 @@ use mathlib.Core.List.{List, [], _∷_, _++_}
 use mathlib.Core.Option.{Option, some}
 use native.Mathlib.Omega.{arith}
 use lib.ListN.{length, take, drop}
-use Rattle.format.specs.Words.{Bytes}
+use Rattle.format.specs.Words.{Bytes, wordAt, bytes}
 use Rattle.format.specs.Answers.{accepted, refused}
 use Rattle.format.specs.Frames.{Frame, verdict}
 use Rattle.format.specs.Spots.{SpotIs, legalValue, withValue, withItems}
@@ -17,19 +17,21 @@ use Rattle.format.proofs.ItemQuestions.{some-is}
 use Rattle.format.proofs.PutLaws.{stands, spot-is}
 use Rattle.format.proofs.Stability as stability
 use Rattle.ledger.specs.Frames.{Spot}
-use Rattle.ledger.specs.Formats.{Correction}
-use Rattle.ledger.specs.Records.{header, lengthIn, countIn, totalIn, frameIn, entryBytes, recordVerdict}
-use Rattle.ledger.specs.Calls.{entryFor, openAnswer, editAnswer, editExit}
+use Rattle.ledger.specs.Formats.{Entry, Correction}
+use Rattle.ledger.specs.Records.{header, lengthIn, countIn, frameIn, entryBytes, recordVerdict}
+use Rattle.ledger.specs.Calls.{entryFor, openAnswer, openExit, editAnswer, editExit}
 use Rattle.ledger.specs.Chains.{Allowed}
 use Rattle.ledger.specs.Histories.{bytesOf, frameAfter, entriesOf, recordAfter, acceptedEdits}
 use Rattle.ledger.specs.Tests.{Plain}
 use Rattle.ledger.specs.First.{first}
 use Rattle.ledger.specs.House.{told, toldOf, house, Free}
+use Rattle.ledger.specs.Layout.{totalLength, frameOf, headerFor, entryWritten, historyWritten}
 use Rattle.ledger.proofs.Codecs.{bytes-part}
 use Rattle.ledger.proofs.FirstLaws.{full-limit}
+use Rattle.ledger.proofs.Opening.{open-whole}
 use Rattle.ledger.proofs.Editing.{edit-exactly}
 use Rattle.ledger.proofs.Refusals.{edit-refusals}
-use Rattle.ledger.proofs.Forward.{forward-whole}
+use Rattle.ledger.proofs.Forward.{forward-rest, forward-whole}
 use Rattle.ledger.proofs.Changing as changing
 use Rattle.ledger.proofs.House.{own, stands-there, same-told, house-first}
 
@@ -39,7 +41,7 @@ asks-nothing x n p e = let z : _≡_ {A = ℕ} 0 1 = cc in absurd (omega arith)
 
 module _ (b : List ℕ) (c : Correction) where
   free-of : Allowed house first b c → Free b c
-  unfolding house first
+  unfolding house first lengthIn countIn
   free-of a =
       record {
         spot = own (a .spot);
@@ -55,6 +57,7 @@ module _ (b : List ℕ) (c : Correction) where
 
   -- a spot's kind is 1 or 2, so these two cases are all
   free-legal : Bytes b → (h : Free b c) → legalValue (h .spot .kind) (c .value) ≡ true
+  unfolding lengthIn
   free-legal y h =
       ⊎-elim
       (λ k. ap (λ (i : ℕ). legalValue i (c .value)) k ∙ stability.legal-sample (c .value) .1 (h .sample k))
@@ -62,7 +65,7 @@ module _ (b : List ℕ) (c : Correction) where
       (stability.legal-kind (h .spot .kind) (h .spot .value) (stability.standing (frameIn b) (bytes-part b 16 (lengthIn b) y) (c .word) (h .spot) (h .stands)))
 
   free-allowed : Bytes b → c .extra ≡ [] → Free b c → Allowed house first b c
-  unfolding house first
+  unfolding house first lengthIn countIn
   free-allowed y x h =
       record {
         asked = refl;
@@ -115,10 +118,10 @@ module _ (b : List ℕ) (c : Correction) where
 
   pub edit-bytes : Bytes b → editAnswer house first b c ≡ accepted tt
       → editExit house first b c
-      ≡ header first (lengthIn b) (suc (countIn b))
-      ++ (spots.put (frameIn b) (c .word) (c .value)
-      ++ (take (16 * countIn b) (drop (16 + lengthIn b) b) ++ (entryBytes first (entryFor house (frameIn b) c) ++ drop (totalIn first b + 16) b)))
-  unfolding house first
+      ≡ headerFor (wordAt b 3) (suc (wordAt b 5))
+      ++ (spots.put (frameOf b) (c .word) (c .value)
+      ++ (take (16 * wordAt b 5) (drop (16 + wordAt b 3) b) ++ (entryWritten (entryFor house (frameOf b) c) ++ drop (totalLength b + 16) b)))
+  unfolding house first header entryBytes bytes lengthIn countIn
   edit-bytes y e = changing.edit-whole house first house-first b c y e
 
   -- this format asks nothing before 22
@@ -129,11 +132,31 @@ module _ (b : List ℕ) (c : Correction) where
       asks : first .asked (c .extra) ≡ refused n p → Plain 22 n p ⊎ (Plain 23 n p ⊎ (Plain 24 n p ⊎ (Plain 25 n p ⊎ Plain 12 n p)))
       asks q = asks-nothing (c .extra) n p q
 
--- a record after any calls, with an entry's 16 bytes
+-- ---- a record as document 01 lays it out
+pub open-laid : (f buf : List ℕ) → openAnswer house first f buf ≡ accepted tt → openExit house first f buf ≡ headerFor (length f) 0 ++ (f ++ drop (16 + length f) buf)
+unfolding header first bytes
+open-laid f buf e = open-whole house first f buf e
+
+pub beyond-laid : (f buf : List ℕ) → Bytes f → openAnswer house first f buf ≡ accepted tt → (cs : List Correction)
+    → drop (totalLength (recordAfter house first f buf cs)) (recordAfter house first f buf cs) ≡ drop (totalLength (recordAfter house first f buf cs)) buf
+unfolding first lengthIn countIn
+beyond-laid f buf y e cs = forward-rest house first house-first f buf y e cs
+
+history-laid : (es : List Entry) → bytesOf first es ≡ historyWritten es
+unfolding bytesOf historyWritten entryBytes first bytes
+history-laid [] = refl
+history-laid (e ∷ es) = ap (λ (l : List ℕ). entryWritten e ++ l) (history-laid es)
+
 pub record-whole : (f buf : List ℕ) → Bytes f → openAnswer house first f buf ≡ accepted tt → (cs : List Correction)
     → recordAfter house first f buf cs
-    ≡ header first (length f) (length (acceptedEdits house first f buf cs))
+    ≡ headerFor (length f) (length (acceptedEdits house first f buf cs))
     ++ (frameAfter house f (acceptedEdits house first f buf cs)
-    ++ (bytesOf first (entriesOf house f (acceptedEdits house first f buf cs)) ++ drop (16 + length f + 16 * length (acceptedEdits house first f buf cs)) buf))
-unfolding first
-record-whole f buf y e cs = forward-whole house first house-first f buf y e cs
+    ++ (historyWritten (entriesOf house f (acceptedEdits house first f buf cs)) ++ drop (16 + length f + 16 * length (acceptedEdits house first f buf cs)) buf))
+unfolding first header bytes
+record-whole f buf y e cs =
+    forward-whole house first house-first f buf y e cs
+    ∙ ap
+    (λ (h : List ℕ).
+    headerFor (length f) (length (acceptedEdits house first f buf cs))
+    ++ (frameAfter house f (acceptedEdits house first f buf cs) ++ (h ++ drop (16 + length f + 16 * length (acceptedEdits house first f buf cs)) buf)))
+    (history-laid (entriesOf house f (acceptedEdits house first f buf cs)))

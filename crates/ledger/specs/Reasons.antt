@@ -1,15 +1,16 @@
 -- When each refusal of a call on a record is due and at what place, in document 01's words ("The plane record", "Numbered refusals") and with
 -- numerals and orders of its own: no word of the tests that an answer is computed by.
 -- Assumes nothing.
-use Prim.Native.Nat.{ℕ, suc, _+_, _-_, _*_, _≤_, _<_}
+use Prim.Native.Nat.{ℕ, suc, _+_, _≤_, _<_}
 use mathlib.Core.Path.{_≡_}
 use mathlib.Core.List.{List, [], _∷_}
 use mathlib.Core.Option.{some}
-use lib.ListN.{length, take, drop}
+use lib.ListN.{length}
 use Rattle.format.specs.Words.{wordAt, longAt}
 use Rattle.format.specs.Faults.{Refused}
 use Rattle.format.specs.Spots.{Spot, spot, put}
 use Rattle.ledger.specs.Formats.{Correction}
+use Rattle.ledger.specs.Layout.{totalLength, frameOf, entryFrom}
 
 -- ---- orders
 
@@ -22,17 +23,6 @@ pub data FirstIn (Broken : ℕ → Type 0) : List ℕ → ℕ → Type 0 where
 pub data Behind (Earlier : ℕ → ℕ → Type 0) (Broken : ℕ → Type 0) (order : List ℕ) : ℕ → ℕ → Type 0 where
   earlier : {n p : ℕ} → Earlier n p → Behind Earlier Broken order n p
   own : {n : ℕ} → ((m q : ℕ) → Earlier m q → ⊥) → FirstIn Broken order n → Behind Earlier Broken order n 0
-
--- ---- the parts of a record: frame length in header word 3, entry count in word 5, the frame from byte 16, then entries of 16 bytes
-abbrev pub totalLength : List ℕ → ℕ
-totalLength b = 16 + wordAt b 3 + 16 * wordAt b 5
-
-abbrev pub frameOf : List ℕ → List ℕ
-frameOf b = take (wordAt b 3) (drop 16 b)
-
--- the bytes from entry j on, from 1 as the oldest: "word index (2), kind (2), old value (4), new value (4), operator (2), reason (2)"
-abbrev pub entryFrom : List ℕ → ℕ → List ℕ
-entryFrom b j = drop (16 + wordAt b 3 + 16 * (j - 1)) b
 
 -- ---- values and signers
 
