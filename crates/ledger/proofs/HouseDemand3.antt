@@ -20,7 +20,7 @@ use Rattle.format.specs.Spots.{Spot, spot, put, revalued, withValue, SpotIs, wi
 use Rattle.ledger.specs.Tests.{Plain}
 use Rattle.ledger.specs.Formats.{Entry, Correction}
 use Rattle.ledger.specs.Records.{countIn, frameIn, entriesIn, recordVerdict}
-use Rattle.ledger.specs.Calls.{entryFor, entryAnswer, openAnswer, openExit, editAnswer, editExit, restored, restoreAnswer, restoreExit}
+use Rattle.ledger.specs.Calls.{entryFor, recordAnswer, entryAnswer, openAnswer, openExit, editAnswer, editExit, restored, restoreAnswer, restoreExit}
 use Rattle.ledger.specs.Histories.{oldestFirst, correctionOf, frameAfter, entriesOf, run, recordAfter, acceptedEdits, Point, Sequence}
 use Rattle.ledger.specs.First.{first}
 use Rattle.ledger.specs.House.{house, house-judge, Free}
@@ -171,6 +171,23 @@ whole-record = edits.record-whole
 pub entry-told : (b : List ℕ) (j : ℕ) (d : Entry) → recordVerdict house first b ≡ accepted tt → j < countIn b
     → entryAnswer house first b (suc j) ≡ accepted (getD (oldestFirst (entriesIn first b)) j d)
 entry-told = demand3.entry-told house first house-first
+
+-- of a record after any calls: its lengths and the count, and the j-th accepted edit as it was asked, with the kind and the value that stood
+-- there before it
+pub record-told : (f buf : List ℕ) → Bytes f → openAnswer house first f buf ≡ accepted tt → (cs : List Correction)
+    → recordAnswer house first (recordAfter house first f buf cs)
+    ≡ accepted (record {
+      length = length f;
+      count = length (acceptedEdits house first f buf cs);
+      total = 16 + length f + 16 * length (acceptedEdits house first f buf cs);
+    })
+record-told = edits.record-tells
+
+pub entry-asked : (f buf : List ℕ) → Bytes f → openAnswer house first f buf ≡ accepted tt → (cs : List Correction) (j : ℕ) (d : Correction)
+    → j < length (acceptedEdits house first f buf cs)
+    → entryAnswer house first (recordAfter house first f buf cs) (suc j)
+    ≡ accepted (entryFor house (frameAfter house f (take j (acceptedEdits house first f buf cs))) (getD (acceptedEdits house first f buf cs) j d))
+entry-asked = demand3.entry-asked house first house-first
 
 pub entry-refused : (b : List ℕ) → Bytes b → (j n p : ℕ) → (entryAnswer house first b j ≡ refused n p) ↔ EntryRefused b j n p
 entry-refused = due.entry-refused-by

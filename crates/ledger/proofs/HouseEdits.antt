@@ -19,7 +19,7 @@ use Rattle.format.proofs.Stability as stability
 use Rattle.ledger.specs.Frames.{Spot}
 use Rattle.ledger.specs.Formats.{Entry, Correction}
 use Rattle.ledger.specs.Records.{header, lengthIn, countIn, frameIn, entryBytes, recordVerdict}
-use Rattle.ledger.specs.Calls.{entryFor, openAnswer, openExit, editAnswer, editExit}
+use Rattle.ledger.specs.Calls.{entryFor, recordAnswer, openAnswer, openExit, editAnswer, editExit}
 use Rattle.ledger.specs.Chains.{Allowed}
 use Rattle.ledger.specs.Histories.{bytesOf, frameAfter, entriesOf, recordAfter, acceptedEdits}
 use Rattle.ledger.specs.Tests.{Plain}
@@ -32,6 +32,7 @@ use Rattle.ledger.proofs.Opening.{open-whole}
 use Rattle.ledger.proofs.Editing.{edit-exactly}
 use Rattle.ledger.proofs.Refusals.{edit-refusals}
 use Rattle.ledger.proofs.Forward.{forward-rest, forward-whole}
+use Rattle.ledger.proofs.Telling as telling
 use Rattle.ledger.proofs.Changing as changing
 use Rattle.ledger.proofs.House.{own, stands-there, same-told, house-first}
 
@@ -141,6 +142,16 @@ pub beyond-laid : (f buf : List ℕ) → Bytes f → openAnswer house first f bu
     → drop (totalLength (recordAfter house first f buf cs)) (recordAfter house first f buf cs) ≡ drop (totalLength (recordAfter house first f buf cs)) buf
 unfolding first lengthIn countIn
 beyond-laid f buf y e cs = forward-rest house first house-first f buf y e cs
+
+pub record-tells : (f buf : List ℕ) → Bytes f → openAnswer house first f buf ≡ accepted tt → (cs : List Correction)
+    → recordAnswer house first (recordAfter house first f buf cs)
+    ≡ accepted (record {
+      length = length f;
+      count = length (acceptedEdits house first f buf cs);
+      total = 16 + length f + 16 * length (acceptedEdits house first f buf cs);
+    })
+unfolding first
+record-tells f buf y e cs = telling.record-tells house first house-first f buf y e cs
 
 history-laid : (es : List Entry) → bytesOf first es ≡ historyWritten es
 unfolding bytesOf historyWritten entryBytes first bytes

@@ -17,6 +17,7 @@ pub mod Forward
 pub mod Backward
 pub mod Changing
 pub mod Restoring
+pub mod Telling
 pub mod Writes
 pub mod Refusals
 pub mod Earlier
