@@ -6,7 +6,7 @@
 use Prim.Native.Nat.{ℕ, suc, _+_, _*_, _≤_, _<_}
 use mathlib.Core.Path.{_≡_, refl, sym, ap, ap₂, subst, _∙_}
 use mathlib.Core.Logic.{_↔_}
-use mathlib.Core.List.{List, _∷_, _++_, map, map-append}
+use mathlib.Core.List.{List, [], _∷_, _++_, map, map-append}
 use mathlib.Core.Option.{some}
 use native.Mathlib.Omega.{arith}
 use lib.ListN.{length, getD, take, drop}
@@ -16,7 +16,7 @@ use Rattle.format.specs.Frames.{Frame, verdict}
 use Rattle.format.specs.Spots.{Spot, spot, put, revalued, withValue, SpotIs, withItems}
 use Rattle.ledger.specs.Formats as formats
 use Rattle.ledger.specs.Records.{lengthIn, entriesIn}
-use Rattle.ledger.specs.Calls.{kindOf, valueOf, entryFor, recordAnswer, entryAnswer, restoreAnswer, restoreExit}
+use Rattle.ledger.specs.Calls.{entryFor, recordAnswer, entryAnswer, restoreAnswer, restoreExit}
 use Rattle.ledger.specs.Histories.{oldestFirst, frameAfter, entriesOf, recordAfter, acceptedEdits}
 use Rattle.ledger.specs.First.{first}
 use Rattle.ledger.specs.House.{house, Free}
@@ -110,6 +110,13 @@ module _ (b : List ℕ) (y : Bytes b) (c : Correction) (e : List ℕ) (o : Edite
       ++ (take (16 * wordAt b 5) (drop (16 + wordAt b 3) b) ++ (entryWritten (entryFor house (frameOf b) (asked c)) ++ drop (totalLength b + 16) b)))
   edited-bytes = o .left ∙ house3.edited-bytes b (asked c) y (sym (o .answered))
 
+-- the entry that a correction makes, by the item that stands there
+entry-at : (g : List ℕ) (c : Correction) (p : Spot) → spot g (c .word) ≡ some p
+    → entryFor house g (asked c)
+    ≡ record { word = c .word; kind = p .kind; old = p .value; new = c .value; operator = c .operator; reason = c .reason; extra = [] }
+unfolding house
+entry-at g c p h = rw h
+
 -- > "Put an accepted frame into a record with no history, then make any sequence of edit calls on it, some refused, with nothing else writing to it."
 -- the frame f opened in the buffer buf, which left b; then the corrections cs asked for, which were answered rs, and left e
 module _ (f buf : List ℕ) (y : Bytes f) (b : List ℕ) (o : Opened f buf (viewDone answer.Accepted) b) (cs : List Correction) (rs : List Done) (e : List ℕ) (k : Calls b cs rs e) where
@@ -200,22 +207,31 @@ module _ (f buf : List ℕ) (y : Bytes f) (b : List ℕ) (o : Opened f buf (view
       ∙ ap (entriesOf house f) edits
 
   pub entry-asked : (j : ℕ) → j < length (madeBy cs rs) → (d : Correction) (r : EntryFound) → EntryTold e (suc j) r
-      → r
+      → (p : Spot)
+      × (spot (corrected f (take j (madeBy cs rs))) (getD (madeBy cs rs) j d .word) ≡ some p)
+      × (r
       ≡ entries.Entry (record {
         word = getD (madeBy cs rs) j d .word;
-        kind = kindOf (house .spot (corrected f (take j (madeBy cs rs))) (getD (madeBy cs rs) j d .word));
-        old = valueOf (house .spot (corrected f (take j (madeBy cs rs))) (getD (madeBy cs rs) j d .word));
+        kind = p .kind;
+        old = p .value;
         new = getD (madeBy cs rs) j d .value;
         operator = getD (madeBy cs rs) j d .operator;
         reason = getD (madeBy cs rs) j d .reason;
-      })
+      }))
   entry-asked j h d r t =
-      same-entry r _
-      (t ∙ ap (λ (x : List ℕ). entryAnswer house first x (suc j)) after
-      ∙ house3.entry-asked f buf y (sym (o .answered)) (map asked cs) j (asked d) (subst (λ (m : ℕ). j < m) (sym as-many) h)
-      ∙ ap₂ (λ (m : List formats.Correction) (c : formats.Correction). accepted (entryFor house (frameAfter house f m) c))
-      (ap (take j) edits ∙ asked-take j (madeBy cs rs))
-      (ap (λ (m : List formats.Correction). getD m j (asked d)) edits ∙ asked-nth (madeBy cs rs) j d))
+      let l = subst (λ (m : ℕ). j < m) (sym as-many) h in
+      let m = ap (take j) edits ∙ asked-take j (madeBy cs rs) in
+      let c = ap (λ (m : List formats.Correction). getD m j (asked d)) edits ∙ asked-nth (madeBy cs rs) j d in
+      let s = house3.item-stood f buf y (sym (o .answered)) (map asked cs) j (asked d) l in
+      let q = ap₂ (λ (g : List formats.Correction) (x : formats.Correction). spot (frameAfter house f g) (x .word)) (sym m) (sym c) ∙ s .1 in (
+        s .0,
+        q,
+        same-entry r _
+            (t ∙ ap (λ (x : List ℕ). entryAnswer house first x (suc j)) after
+            ∙ house3.entry-asked f buf y (sym (o .answered)) (map asked cs) j (asked d) l
+            ∙ ap₂ (λ (g : List formats.Correction) (x : formats.Correction). accepted (entryFor house (frameAfter house f g) x)) m c
+            ∙ ap accepted (entry-at (corrected f (take j (madeBy cs rs))) (getD (madeBy cs rs) j d) (s .0) q)),
+      )
 
   pub no-other-entry : (j : ℕ) → length (madeBy cs rs) < j → (r : EntryFound) → EntryTold e j r → r ≡ entries.Refused (record { number = 26; place = 0 })
   no-other-entry j h r t =

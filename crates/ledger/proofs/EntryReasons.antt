@@ -23,7 +23,7 @@ use Rattle.ledger.specs.Records.{lengthIn, countIn, entryOf, entriesTo, 
 use Rattle.ledger.specs.Chains.{Header, Fits}
 use Rattle.ledger.specs.First.{first}
 use Rattle.ledger.specs.House.{told, toldOf, house}
-use Rattle.ledger.specs.Reasons.{Illegal, over, nought, wide, Unsigned, noOperator, highOperator, noReason, highReason, HeaderBroken, short, version, frames, offset, history, count, total, zero, cut, Unfit, noItem, otherKind, otherValue, oldIllegal, unchanged, signer}
+use Rattle.ledger.specs.Reasons.{Illegal, over, nought, wide, NotSigned, noOperator, highOperator, noReason, highReason, HeaderBroken, short, version, frames, offset, history, count, total, zero, cut, Unfit, noItem, otherKind, otherValue, oldIllegal, unchanged, signer}
 use Rattle.ledger.proofs.Due.{caught}
 use Rattle.ledger.proofs.Headers.{header-words}
 use Rattle.ledger.proofs.Judging.{signed-right, right-signed, fits-right}
@@ -63,16 +63,16 @@ value-illegal k v e (nought q h) = let l = stability.legal-bin v .0 (ap (λ (i :
 value-illegal k v e (wide q h) = let l = stability.legal-bin v .0 (ap (λ (i : ℕ). legalValue i v) (sym q) ∙ e) in omega arith
 
 -- ---- signers
-pub unsigned : (o r : ℕ) → signed o r ≡ false → Unsigned o r
+pub unsigned : (o r : ℕ) → signed o r ≡ false → NotSigned o r
 unfolding signed
 unsigned o r e =
-    caught (Unsigned o r) _ e
+    caught (NotSigned o r) _ e
     (λ h. noOperator (let l = leb-false 1 o h in omega arith))
     (λ h. highOperator (leb-false o 65535 h))
     (λ h. noReason (let l = leb-false 1 r h in omega arith))
     (λ h. highReason (leb-false r 5 h))
 
-pub signed-not : (o r : ℕ) → signed o r ≡ true → Unsigned o r → ⊥
+pub signed-not : (o r : ℕ) → signed o r ≡ true → NotSigned o r → ⊥
 signed-not o r e (noOperator h) = let s = signed-right o r e .0 in omega arith
 signed-not o r e (highOperator h) = let s = signed-right o r e .0 in omega arith
 signed-not o r e (noReason h) = let s = signed-right o r e .1 in omega arith

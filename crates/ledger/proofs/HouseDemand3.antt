@@ -189,6 +189,12 @@ pub entry-asked : (f buf : List ℕ) → Bytes f → openAnswer house first f bu
     ≡ accepted (entryFor house (frameAfter house f (take j (acceptedEdits house first f buf cs))) (getD (acceptedEdits house first f buf cs) j d))
 entry-asked = demand3.entry-asked house first house-first
 
+-- where a Sample or Bin stood
+pub item-stood : (f buf : List ℕ) → Bytes f → openAnswer house first f buf ≡ accepted tt → (cs : List Correction) (j : ℕ) (d : Correction)
+    → j < length (acceptedEdits house first f buf cs)
+    → (p : Spot) × (spot (frameAfter house f (take j (acceptedEdits house first f buf cs))) (getD (acceptedEdits house first f buf cs) j d .word) ≡ some p)
+item-stood = edits.item-stood
+
 pub entry-refused : (b : List ℕ) → Bytes b → (j n p : ℕ) → (entryAnswer house first b j ≡ refused n p) ↔ EntryRefused b j n p
 entry-refused = due.entry-refused-by
 

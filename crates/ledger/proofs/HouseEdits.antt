@@ -1,13 +1,13 @@
 -- Edits of records over document 01's frames: what allows one in document 01's words, and the items that one leaves.
 -- Assumes nothing.
-use Prim.Native.Nat.{ℕ, suc, _+_, _*_}
+use Prim.Native.Nat.{ℕ, suc, _+_, _*_, _<_}
 use mathlib.Core.Path.{_≡_, refl, sym, ap, _∙_}
 use mathlib.Core.Logic.{_↔_, _⊎_, ⊎-elim, inl, inr}
 use mathlib.Core.Bool.{true}
 use mathlib.Core.List.{List, [], _∷_, _++_}
-use mathlib.Core.Option.{Option, some}
+use mathlib.Core.Option.{Option, none, some}
 use native.Mathlib.Omega.{arith}
-use lib.ListN.{length, take, drop}
+use lib.ListN.{length, getD, take, drop}
 use Rattle.format.specs.Words.{Bytes, wordAt, bytes}
 use Rattle.format.specs.Answers.{accepted, refused}
 use Rattle.format.specs.Frames.{Frame, verdict}
@@ -18,8 +18,8 @@ use Rattle.format.proofs.PutLaws.{stands, spot-is}
 use Rattle.format.proofs.Stability as stability
 use Rattle.ledger.specs.Frames.{Spot}
 use Rattle.ledger.specs.Formats.{Entry, Correction}
-use Rattle.ledger.specs.Records.{header, lengthIn, countIn, frameIn, entryBytes, recordVerdict}
-use Rattle.ledger.specs.Calls.{entryFor, recordAnswer, openAnswer, openExit, editAnswer, editExit}
+use Rattle.ledger.specs.Records.{numbered, header, lengthIn, countIn, frameIn, entryBytes, recordVerdict}
+use Rattle.ledger.specs.Calls.{kindOf, entryFor, recordAnswer, openAnswer, openExit, editAnswer, editExit}
 use Rattle.ledger.specs.Chains.{Allowed}
 use Rattle.ledger.specs.Histories.{bytesOf, frameAfter, entriesOf, recordAfter, acceptedEdits}
 use Rattle.ledger.specs.Tests.{Plain}
@@ -31,7 +31,10 @@ use Rattle.ledger.proofs.FirstLaws.{full-limit}
 use Rattle.ledger.proofs.Opening.{open-whole}
 use Rattle.ledger.proofs.Editing.{edit-exactly}
 use Rattle.ledger.proofs.Refusals.{edit-refusals}
-use Rattle.ledger.proofs.Forward.{forward-rest, forward-whole}
+use Rattle.ledger.proofs.Forward.{forward-accepted, forward-count, forward-rest, forward-whole}
+use Rattle.ledger.proofs.Judging.{record-chain}
+use Rattle.ledger.proofs.Restoring.{entry-answers}
+use Rattle.ledger.proofs.EntryReasons.{spot-kind}
 use Rattle.ledger.proofs.Telling as telling
 use Rattle.ledger.proofs.Changing as changing
 use Rattle.ledger.proofs.House.{own, stands-there, same-told, house-first}
@@ -171,3 +174,36 @@ record-whole f buf y e cs =
     headerFor (length f) (length (acceptedEdits house first f buf cs))
     ++ (frameAfter house f (acceptedEdits house first f buf cs) ++ (h ++ drop (16 + length f + 16 * length (acceptedEdits house first f buf cs)) buf)))
     (history-laid (entriesOf house f (acceptedEdits house first f buf cs)))
+
+-- ---- the item that an accepted edit was asked for, in the frame that stood before it
+one-accepted : (d e : Entry) → accepted d ≡ accepted e → d ≡ e
+one-accepted d e q = cc
+
+module _ (f buf : List ℕ) (y : Bytes f) (e : openAnswer house first f buf ≡ accepted tt) (cs : List Correction) (j : ℕ) (d : Correction) (h : j < length (acceptedEdits house first f buf cs)) where
+  -- the frame before the edit and the edit, the j-th of the accepted from 0
+  stood : List ℕ
+  stood = frameAfter house f (take j (acceptedEdits house first f buf cs))
+
+  made : Correction
+  made = getD (acceptedEdits house first f buf cs) j d
+
+  told-kind : (k : ℕ) × ((k ≡ 1) ⊎ (k ≡ 2)) × (k ≡ kindOf (toldOf (spots.spot stood (made .word))))
+  unfolding stood made house
+  told-kind =
+      let b = recordAfter house first f buf cs in
+      let v = forward-accepted house first house-first f buf y e cs in
+      let n : j < countIn b = (let c = forward-count house first house-first f buf y e cs in omega arith) in
+      let t = record-chain house first b .0 v .2 .1 .fit j (omega arith) n in
+      let q = one-accepted (numbered first b (suc j)) (entryFor house stood made) (sym (entry-answers house first b (suc j) v (omega arith) n) ∙ telling.entry-asked house first house-first f buf y e cs j d h) in
+      (t .spot .kind, spot-kind _ _ (own (t .spot)) (stands-there _ _ (t .spot) (t .stands)), t .kind ∙ ap (λ (x : Entry). x .kind) q)
+
+  pub item-stood : (p : spots.Spot) × (spots.spot (frameAfter house f (take j (acceptedEdits house first f buf cs))) (getD (acceptedEdits house first f buf cs) j d .word) ≡ some p)
+  unfolding stood made
+  item-stood = go (spots.spot stood (made .word)) refl
+    where
+      go : (o : Option spots.Spot) → spots.spot stood (made .word) ≡ o → (p : spots.Spot) × (spots.spot stood (made .word) ≡ some p)
+      go (some p) q = (p, q)
+      go none q =
+          let k = told-kind in
+          let z : k .0 ≡ 0 = k .2 ∙ ap (λ (i : Option spots.Spot). kindOf (toldOf i)) q in
+          absurd (⊎-elim (λ i. omega arith) (λ i. omega arith) (k .1))

@@ -11,7 +11,7 @@ use native.Mathlib.Omega.{arith}
 use lib.ListN.{length, getD, take}
 use lib.Dec.{eqb}
 use borrow.Author.Tests.{leb-true, eqb-true, eqb-false, le-leb, eq-eqb, ne-eqb, not-true}
-use Rattle.format.specs.Answers.{accepted, refused, Done, andThen, need, firstOf}
+use Rattle.format.specs.Answers.{accepted, refused, Done, andThen, firstOf}
 use Rattle.ledger.specs.Tests.{all}
 use Rattle.ledger.specs.Frames.{Spot, FrameBook}
 use Rattle.ledger.specs.Formats.{Entry, Format}

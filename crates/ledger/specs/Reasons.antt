@@ -33,11 +33,11 @@ pub data Illegal (kind value : ℕ) : Type 0 where
   wide : kind ≡ 2 → 4294967296 ≤ value → Illegal kind value
 
 -- "operator not 1 to 65,535, or reason not 1 to 5"
-pub data Unsigned (operator reason : ℕ) : Type 0 where
-  noOperator : operator ≡ 0 → Unsigned operator reason
-  highOperator : 65535 < operator → Unsigned operator reason
-  noReason : reason ≡ 0 → Unsigned operator reason
-  highReason : 5 < reason → Unsigned operator reason
+pub data NotSigned (operator reason : ℕ) : Type 0 where
+  noOperator : operator ≡ 0 → NotSigned operator reason
+  highOperator : 65535 < operator → NotSigned operator reason
+  noReason : reason ≡ 0 → NotSigned operator reason
+  highReason : 5 < reason → NotSigned operator reason
 
 -- ---- a record: "20, frame refusals, then entries from the newest back"
 
@@ -61,7 +61,7 @@ pub data Unfit (f e : List ℕ) : Type 0 where
   otherValue : (p : Spot) → spot f (wordAt e 0) ≡ some p → (p .value ≡ longAt e 4 → ⊥) → Unfit f e
   oldIllegal : Illegal (wordAt e 1) (longAt e 2) → Unfit f e
   unchanged : longAt e 2 ≡ longAt e 4 → Unfit f e
-  signer : Unsigned (wordAt e 6) (wordAt e 7) → Unfit f e
+  signer : NotSigned (wordAt e 6) (wordAt e 7) → Unfit f e
 
 -- frames back from the one that stands, down to the one after entry j: each entry above j fits its frame, and "the old value is then taken as
 -- standing"
@@ -97,7 +97,7 @@ pub data EditBroken (b : List ℕ) (c : Correction) : ℕ → Type 0 where
   -- "sample over 4,095, bin 0, or the present value"
   illegal : (p : Spot) → spot (frameOf b) (c .word) ≡ some p → Illegal (p .kind) (c .value) → EditBroken b c 23
   present : (p : Spot) → spot (frameOf b) (c .word) ≡ some p → p .value ≡ c .value → EditBroken b c 23
-  signer : Unsigned (c .operator) (c .reason) → EditBroken b c 24
+  signer : NotSigned (c .operator) (c .reason) → EditBroken b c 24
   -- "512 entries stand"
   full : 512 ≤ wordAt b 5 → EditBroken b c 25
   room : length b < totalLength b + 16 → EditBroken b c 12
