@@ -35,7 +35,7 @@ use Rattle.editor.specs.declared.answers.Done.the-variants as answer
 use Rattle.editor.specs.declared.editing.Correction.{Correction}
 use Rattle.editor.specs.Views.{viewDone, asked}
 use Rattle.editor.specs.Promises.{Opened, Edited, Restored}
-use Rattle.editor.specs.Sequences.{Recorded, EntryTold, Calls, madeBy, corrected, entriesFor, correctionFor, Moment, Sequence}
+use Rattle.editor.specs.Sequences.{Recorded, EntryTold, Calls, madeBy, corrected, entriesFor, correctionFor, Moment, AllGiven, Sequence}
 use Rattle.editor.proofs.CallLaws.{says-accepted, says-refused, after-calls, edits-of-calls, count-of-calls, asked-take, asked-nth, moment}
 use Rattle.editor.proofs.SequenceLaws as sequences
 use Rattle.editor.proofs.Effects as effects
@@ -261,6 +261,11 @@ accepted-exactly b y r t = (
 -- more than that: opened in that very buffer, it leaves every byte of it
 pub made-again : (b : List ℕ) → Bytes b → (x : Record) → Recorded b (records.Record x) → (S : Sequence b) × (S .buffer ≡ b) × (S .left ≡ b)
 made-again b y x t = let v = sequences.recorded b x t in (sequences.has-sequence b y v, sequences.own-buffer b y v, sequences.own-left b y v)
+
+-- so calls on any accepted record follow such a sequence, and every sentence above holds of them too
+pub continued : (b : List ℕ) → Bytes b → (x : Record) → Recorded b (records.Record x) → (cs : List Correction) (rs : List Done) (e : List ℕ) → Calls b cs rs e → AllGiven cs
+    → Sequence e
+continued b y x t cs rs e k g = sequences.followed b y (sequences.recorded b x t) k g
 
 -- and no other frame and no other accepted corrections make it: these are the ones that its entries tell of
 pub the-only-ones : (b : List ℕ) (S T : Sequence b)

@@ -29,10 +29,11 @@ use Rattle.plane.specs.declared.answers.RecordFound.{RecordFound}
 use Rattle.plane.specs.declared.answers.RecordFound.the-variants as records
 use Rattle.plane.specs.Views.{summaryOf}
 use Rattle.plane.proofs.Unique.{same-record}
+use Rattle.editor.specs.declared.answers.Done as code
 use Rattle.editor.specs.declared.editing.Correction.{Correction}
 use Rattle.editor.specs.Views.{asked}
-use Rattle.editor.specs.Sequences.{Recorded, madeBy, correctionFor, Given, AllGiven, none, more, Sequence}
-use Rattle.editor.proofs.CallLaws.{calls-run, calls-made, called}
+use Rattle.editor.specs.Sequences.{Recorded, Calls, done, then, madeBy, correctionFor, Given, AllGiven, none, more, Sequence}
+use Rattle.editor.proofs.CallLaws.{calls-run, calls-made, after-calls, called}
 
 -- ---- what `record` answers
 module _ (b : List ℕ) where
@@ -84,14 +85,14 @@ given-for b y j =
       reason = omega (arith, s 14, s 15);
     }
 
-given-more : {cs : List Correction} {c : Correction} → AllGiven cs → Given c → AllGiven (cs ++ (c ∷ []))
-given-more none h = more h none
-given-more (more g r) h = more g (given-more r h)
+given-both : {cs ds : List Correction} → AllGiven cs → AllGiven ds → AllGiven (cs ++ ds)
+given-both none h = h
+given-both (more g r) h = more g (given-both r h)
 
 all-given : (b : List ℕ) → Bytes b → (n : ℕ) → AllGiven (map correctionFor (oldestFirst (entriesTo first b n)))
 unfolding entriesTo oldestFirst
 all-given b y zero = none
-all-given b y (suc n) = rw (map-append correctionFor (oldestFirst (entriesTo first b n)) (numbered first b (suc n) ∷ [])) (given-more (all-given b y n) (given-for b y (suc n)))
+all-given b y (suc n) = rw (map-append correctionFor (oldestFirst (entriesTo first b n)) (numbered first b (suc n) ∷ [])) (given-both (all-given b y n) (more (given-for b y (suc n)) none))
 
 -- ---- a sequence of calls is one of ledger's
 module _ (b : List ℕ) (S : Sequence b) where
@@ -136,6 +137,13 @@ module _ (b : List ℕ) (S : Sequence b) where
       both [] = refl
       both (e ∷ es) = ap (λ (l : List Correction). correctionFor e ∷ l) (both es)
 
+fits-inside : (b : List ℕ) → recordVerdict house first b ≡ accepted tt → totalLength b ≤ length b
+fits-inside b v = by-cases (decLt (length b) (totalLength b)) (λ l. absurd (house3.accepted-record b .0 v .0 (cut l))) (λ h. let n : length b < totalLength b → ⊥ = h in omega arith)
+
+joined : {b m e : List ℕ} {cs ds : List Correction} {rs qs : List code.Done} → Calls b cs rs m → Calls m ds qs e → Calls b (cs ++ ds) (rs ++ qs) e
+joined done k = k
+joined (then o j) k = then o (joined j k)
+
 -- ---- and an accepted record has one: the frame that it restores to, opened in that very buffer, and its own entries as calls
 module _ (b : List ℕ) (y : Bytes b) (v : recordVerdict house first b ≡ accepted tt) where
   origin : List ℕ
@@ -150,9 +158,6 @@ module _ (b : List ℕ) (y : Bytes b) (v : recordVerdict house first b ≡ accep
   makes : run house first start (map asked own) ≡ b
   unfolding origin start own
   makes = ap (run house first (openExit house first (restored house first b 0) b)) (all-asked b (countIn b)) ∙ house3.made-again b y v .1
-
-  fits-inside : totalLength b ≤ length b
-  fits-inside = by-cases (decLt (length b) (totalLength b)) (λ l. absurd (house3.accepted-record b .0 v .0 (cut l))) (λ h. let n : length b < totalLength b → ⊥ = h in omega arith)
 
   pub has-sequence : Sequence b
   unfolding origin start own
@@ -170,7 +175,7 @@ module _ (b : List ℕ) (y : Bytes b) (v : recordVerdict house first b ≡ accep
         answers = k .0;
         left = k .1 .0;
         calls = k .1 .1;
-        whole = subst (λ (x : List ℕ). totalLength x ≤ length b) (sym l) fits-inside;
+        whole = subst (λ (x : List ℕ). totalLength x ≤ length b) (sym l) (fits-inside b v);
         same = subst (λ (x : List ℕ). take (totalLength x) b ≡ take (totalLength x) x) (sym l) refl;
       }
 
@@ -181,6 +186,29 @@ module _ (b : List ℕ) (y : Bytes b) (v : recordVerdict house first b ≡ accep
   pub own-left : has-sequence .left ≡ b
   unfolding has-sequence
   own-left = calls-run (called start own .1 .1) ∙ makes
+
+  -- calls on an accepted record are calls that follow that sequence
+  pub followed : {cs : List Correction} {rs : List code.Done} {e : List ℕ} → Calls b cs rs e → AllGiven cs → Sequence e
+  followed {cs = cs} {rs = rs} {e = e} k g =
+      let S = has-sequence in
+      let a = joined (S .calls) (subst (λ (m : List ℕ). Calls m cs rs e) (sym own-left) k) in
+      let v : recordVerdict house first e ≡ accepted tt
+      = ap (recordVerdict house first) (after-calls (S .frame) (S .buffer) (S .opened) (S .opening) a)
+      ∙ house3.accepted-after (S .frame) (S .buffer) (S .lent .0) (sym (S .opening .answered)) (map asked (S .corrections ++ cs)) in
+      record {
+        frame = S .frame;
+        buffer = S .buffer;
+        lent = S .lent;
+        opened = S .opened;
+        opening = S .opening;
+        corrections = S .corrections ++ cs;
+        given = given-both (S .given) g;
+        answers = S .answers ++ rs;
+        left = e;
+        calls = a;
+        whole = fits-inside e v;
+        same = refl;
+      }
 
 pub accepted-exactly : (b : List ℕ) → Bytes b → (recordVerdict house first b ≡ accepted tt) ↔ Sequence b
 accepted-exactly b y = (has-sequence b y, λ S. house3.accepted-exactly b y .1 (as-ledgers b S))
