@@ -3,7 +3,7 @@
 -- Assumes nothing.
 use Prim.Native.Nat.{ℕ, _+_, _*_, _-_, _≤_, _<_}
 use mathlib.Core.Path.{_≡_, refl, sym, ap, ap₂, _∙_}
-use mathlib.Core.Bool.{Bool, true, false, not, _&&_, and-true}
+use mathlib.Core.Bool.{Bool, true, false, not, _&&_, and-true, true≢false}
 use mathlib.Core.List.{List, [], _∷_}
 use mathlib.Core.Option.{Option, none, some, Option·some-injective}
 use native.Mathlib.Nat.{add-sub-cancel-left}
@@ -30,7 +30,7 @@ use Rattle.ledger.proofs.House.{house-lawful}
 use Rattle.plane.specs.Stored.{stored}
 use Rattle.plane.proofs.UndoLaws.{stored-put}
 use Rattle.editor.specs.declared.editing.Correction.{Correction}
-use Rattle.editor.specs.Views.{also, asked, itemTests}
+use Rattle.editor.specs.Views.{also, refusing, asked, itemTests}
 use Rattle.editor.specs.Promises.{Edited}
 use Rattle.editor.specs.Writes.{Known, Editable}
 use Rattle.editor.proofs.Orders.{ordered}
@@ -77,13 +77,27 @@ module _ (b : List ℕ) (x : Summary) (k : Known b x) (c : Correction) where
       let (s, i, j) = item-held (house .spot (frameIn b) (c .word)) h e in
       tests-at s i r (q ∙ ap (λ (g : Held). itemTests (asked c) x g (length b)) j)
 
+-- an answer that does not refuse
+pub not-refusing : (r : Done) → refusing r ≡ false → r ≡ accepted tt
+not-refusing (accepted u) e = refl
+not-refusing (refused n p) e = absurd (true≢false e)
+
 -- ---- the promise, kept where an edit is refused and where it is made
 module _ (b : List ℕ) (c : formats.Correction) where
   pub edited-refused : (r : Done) (n p : ℕ) → r ≡ refused n p → editAnswer house first b c ≡ refused n p → Edited b c r b
   edited-refused r n p e a = record { answered = e ∙ sym a; left = sym (exit-found house first b c n p a) }
 
+  -- an answer that refuses leaves the buffer; one that does not is Accepted
+  pub edited-refusing : (r : Done) → refusing r ≡ true → editAnswer house first b c ≡ r → Edited b c r b
+  edited-refusing (accepted u) e a = absurd (true≢false (sym e))
+  edited-refusing (refused n p) e a = edited-refused (refused n p) n p refl a
+
   pub edited-written : (l : List ℕ) → editAnswer house first b c ≡ accepted tt → l ≡ editWritten house first b c → Edited b c (accepted tt) l
   edited-written l a w = record { answered = sym a; left = w ∙ sym (exit-written house first b c a) }
+
+  pub edited-making : (r : Done) (l : List ℕ) → refusing r ≡ false → editAnswer house first b c ≡ r → l ≡ editWritten house first b c → Edited b c r l
+  edited-making (accepted u) l e a w = edited-written l a w
+  edited-making (refused n p) l e a w = absurd (true≢false e)
 
   pub edited-unknown : (n p : ℕ) → recordVerdict house first b ≡ refused n p → Edited b c (refused n p) b
   unfolding editAnswer editTests firstOf

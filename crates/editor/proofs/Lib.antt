@@ -6,4 +6,6 @@ pub mod EditLaws
 pub mod RestoreLaws
 pub mod Unique
 pub mod Effects
+pub mod CallLaws
+pub mod SequenceLaws
 pub mod Demand3

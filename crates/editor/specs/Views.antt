@@ -2,7 +2,7 @@
 -- Assumes nothing.
 use Prim.Native.Nat.{ℕ, _+_}
 use mathlib.Core.List.{[], _∷_}
-use mathlib.Core.Bool.{not, _&&_}
+use mathlib.Core.Bool.{Bool, true, false, not, _&&_}
 use lib.Dec.{leb, ltb, eqb}
 use Rattle.format.specs.Answers as answers
 use Rattle.format.specs.Answers.{accepted, andThen, need, firstOf}
@@ -23,6 +23,10 @@ viewDone (done.Refused r) = refusal r
 -- the first answer where it refuses, else the second
 abbrev pub also : answers.Done → answers.Done → answers.Done
 also a b = andThen a (λ u. b)
+
+abbrev pub refusing : answers.Done → Bool
+refusing (accepted u) = false
+refusing (answers.refused n p) = true
 
 -- what an edit asks; this format has nothing after the reason
 abbrev pub asked : Correction → formats.Correction

@@ -1,7 +1,7 @@
 // What opening, editing and restoring answer, and how the first of some refusals is found.
 ghost use mathlib.Core.Path.{_≡_};
 ghost use Rattle.format.specs.Answers.{need};
-ghost use Rattle.editor.specs.Views.{viewDone, also};
+ghost use Rattle.editor.specs.Views.{viewDone, also, refusing};
 use book::refusal::Refusal;
 
 // Accepted, or refused with a number and a place; accepted, the calls answer only that.
@@ -27,5 +27,15 @@ pub(crate) fn first_of(a: Done, b: Done) -> Done
     match a {
         Done::Accepted => b,
         Done::Refused(r) => Done::Refused(r),
+    }
+}
+
+// Whether an answer refuses.
+pub(crate) fn refuses(a: Done) -> bool
+    ensures { λ r. ⌜ r ≡ refusing (viewDone a) ⌝ }
+{
+    match a {
+        Done::Accepted => false,
+        Done::Refused(_refusal) => true,
     }
 }

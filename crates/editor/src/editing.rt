@@ -12,6 +12,7 @@ ghost use Rattle.editor.specs.Promises.{Edited};
 ghost use Rattle.editor.specs.Writes.{Known, Editable};
 use crate::answers::Done;
 use crate::answers::first_of;
+use crate::answers::refuses;
 use crate::answers::test;
 use crate::stores::put_entry;
 use crate::stores::put_words;
@@ -79,13 +80,11 @@ fn edit_item(buf: &mut [u8], c: Correction, x: Record, s: HeldFound) -> Done
         return test(false, Refusal::TARGET);
     };
     let answer = edit_tests(c, x, held, buf.len());
-    match answer {
-        Done::Refused(r) => Done::Refused(r),
-        Done::Accepted => {
-            write_edit(buf, c, x, held);
-            Done::Accepted
-        }
+    if refuses(answer) {
+        return answer;
     }
+    write_edit(buf, c, x, held);
+    answer
 }
 
 // Edits a record. Refuses as judging the record does, then by 22 where no Sample or Bin begins at the word, by 23 for a value that the item

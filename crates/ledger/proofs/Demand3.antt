@@ -17,7 +17,7 @@ use Rattle.ledger.specs.Tests.{FirstRefusal, Plain}
 use Rattle.ledger.specs.Frames.{Spot, revalued, FrameBook}
 use Rattle.ledger.specs.Formats.{Entry, Correction, Format, Lawful, size}
 use Rattle.ledger.specs.Records.{header, lengthIn, countIn, totalIn, frameIn, entryBytes, numbered, entriesIn, recordVerdict}
-use Rattle.ledger.specs.Calls.{entryFor, entryAnswer, openAnswer, openExit, editTests, editAnswer, editExit, restored, restoreAnswer, restoreExit}
+use Rattle.ledger.specs.Calls.{entryFor, recordAnswer, entryAnswer, openAnswer, openExit, editTests, editAnswer, editExit, restored, restoreAnswer, restoreExit}
 use Rattle.ledger.specs.Chains.{Header, Fits, Chain, Allowed}
 use Rattle.ledger.specs.Histories.{oldestFirst, bytesOf, correctionOf, frameAfter, entriesOf, run, recordAfter, acceptedEdits, Point, Sequence}
 use Rattle.ledger.proofs.Opening as opening
@@ -27,6 +27,7 @@ use Rattle.ledger.proofs.Judging as judging
 use Rattle.ledger.proofs.Forward as forward
 use Rattle.ledger.proofs.Backward as backward
 use Rattle.ledger.proofs.Restoring as restoring
+use Rattle.ledger.proofs.Telling as telling
 use Rattle.ledger.proofs.Writes as writes
 use Rattle.ledger.proofs.Refusals as refusals
 
@@ -150,6 +151,23 @@ module _ (B : FrameBook) (F : Format) (L : Lawful B F) where
   pub entry-told : (b : List ℕ) (j : ℕ) (d : Entry) → recordVerdict B F b ≡ accepted tt → j < countIn b
       → entryAnswer B F b (suc j) ≡ accepted (getD (oldestFirst (entriesIn F b)) j d)
   entry-told b j d v h = restoring.entry-tells B F b j d v h
+
+  -- so of a record after any calls: the record question tells its lengths and the count, and the entry question the j-th accepted edit as it was
+  -- asked, with the kind and the value that stood there before it
+  pub record-told : (f buf : List ℕ) → Bytes f → openAnswer B F f buf ≡ accepted tt → (cs : List Correction)
+      → recordAnswer B F (recordAfter B F f buf cs)
+      ≡ accepted (record {
+        length = length f;
+        count = length (acceptedEdits B F f buf cs);
+        total = 16 + length f + size F * length (acceptedEdits B F f buf cs);
+      })
+  record-told f buf y e cs = telling.record-tells B F L f buf y e cs
+
+  pub entry-asked : (f buf : List ℕ) → Bytes f → openAnswer B F f buf ≡ accepted tt → (cs : List Correction) (j : ℕ) (d : Correction)
+      → j < length (acceptedEdits B F f buf cs)
+      → entryAnswer B F (recordAfter B F f buf cs) (suc j)
+      ≡ accepted (entryFor B (frameAfter B f (take j (acceptedEdits B F f buf cs))) (getD (acceptedEdits B F f buf cs) j d))
+  entry-asked f buf y e cs j d h = telling.entry-asked B F L f buf y e cs j d h
 
   -- > "And a record is accepted exactly when some such sequence makes its bytes."
   pub accepted-exactly : (b : List ℕ) → Bytes b → (recordVerdict B F b ≡ accepted tt) ↔ Sequence B F b

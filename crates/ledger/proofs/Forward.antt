@@ -13,7 +13,7 @@ use Rattle.format.specs.Answers.{accepted, refused, Done, leaves}
 use Rattle.format.proofs.WordLaws.{below-drop}
 use Rattle.ledger.specs.Frames.{FrameBook}
 use Rattle.ledger.specs.Formats.{Correction, Format, Lawful, size}
-use Rattle.ledger.specs.Records.{header, countIn, totalIn, frameIn, entriesIn, recordVerdict}
+use Rattle.ledger.specs.Records.{lengthIn, header, countIn, totalIn, frameIn, entriesIn, recordVerdict}
 use Rattle.ledger.specs.Calls.{openAnswer, openExit, editAnswer, editWritten, editExit, restoreAnswer, restoreExit}
 use Rattle.ledger.specs.Histories.{oldestFirst, keep, frameAfter, entriesOf, run, made, recordAfter, acceptedEdits, bytesOf, Point}
 use Rattle.ledger.proofs.Codecs.{entriesBytes}
@@ -84,6 +84,10 @@ module _ (B : FrameBook) (F : Format) (L : Lawful B F) where
     pub forward-count : countIn (recordAfter B F f buf cs) ≡ length (acceptedEdits B F f buf cs)
     unfolding last
     forward-count = holds-reads B F L f edits last (stands .holds) .count-is ∙ as-many
+
+    pub forward-length : lengthIn (recordAfter B F f buf cs) ≡ length f
+    unfolding last
+    forward-length = holds-reads B F L f edits last (stands .holds) .length-is
 
     pub forward-frame : frameIn (recordAfter B F f buf cs) ≡ frameAfter B f (acceptedEdits B F f buf cs)
     unfolding last

@@ -40,7 +40,7 @@ same-told o none e = go o e
 same-told o (some p) e = owned o (told p) e
 
 -- an accepted frame is the verdict's
-judged : (o : Outcome Frame) → done o ≡ accepted tt → (f : Frame) × (o ≡ accepted f)
+pub judged : (o : Outcome Frame) → done o ≡ accepted tt → (f : Frame) × (o ≡ accepted f)
 judged (accepted f) e = (f, refl)
 judged (refused n p) e = let z : _≡_ {A = ℕ} 0 1 = cc in absurd (omega arith)
 

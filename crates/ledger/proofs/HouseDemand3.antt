@@ -10,19 +10,23 @@ use mathlib.Core.Path.{_≡_, ap, _∙_}
 use mathlib.Core.Logic.{_↔_, _⊎_}
 use mathlib.Core.List.{List, [], _∷_, _++_, map}
 use mathlib.Core.Option.{some}
-use lib.ListN.{length, take, drop}
-use Rattle.format.specs.Words.{Bytes}
+use lib.ListN.{length, getD, take, drop}
+use Rattle.format.specs.Words.{Bytes, wordAt}
 use Rattle.format.specs.Answers.{Outcome, accepted, refused}
+use Rattle.format.specs.Faults.{Refused}
 use Rattle.format.specs.Frames.{Frame, verdict}
 use Rattle.format.specs.Questions.{done}
 use Rattle.format.specs.Spots.{Spot, spot, put, revalued, withValue, SpotIs, withItems}
 use Rattle.ledger.specs.Tests.{Plain}
-use Rattle.ledger.specs.Formats.{Correction}
-use Rattle.ledger.specs.Records.{header, lengthIn, countIn, totalIn, frameIn, entryBytes, entriesIn, recordVerdict}
-use Rattle.ledger.specs.Calls.{entryFor, openAnswer, openExit, editAnswer, editExit, restored, restoreAnswer, restoreExit}
-use Rattle.ledger.specs.Histories.{oldestFirst, bytesOf, correctionOf, frameAfter, entriesOf, recordAfter, acceptedEdits, Point, Sequence}
+use Rattle.ledger.specs.Formats.{Entry, Correction}
+use Rattle.ledger.specs.Records.{countIn, frameIn, entriesIn, recordVerdict}
+use Rattle.ledger.specs.Calls.{entryFor, recordAnswer, entryAnswer, openAnswer, openExit, editAnswer, editExit, restored, restoreAnswer, restoreExit}
+use Rattle.ledger.specs.Histories.{oldestFirst, correctionOf, frameAfter, entriesOf, run, recordAfter, acceptedEdits, Point, Sequence}
 use Rattle.ledger.specs.First.{first}
 use Rattle.ledger.specs.House.{house, house-judge, Free}
+use Rattle.ledger.specs.Layout.{totalLength, frameOf, headerFor, entryWritten, historyWritten}
+use Rattle.ledger.specs.Reasons.{HeaderBroken, Back, NewestUnfit, RecordRefused, ofHeader, ofFrame, OpenRefused, EditRefused, RestoreRefused, EntryRefused}
+use Rattle.ledger.proofs.AnswersDue as due
 use Rattle.ledger.proofs.Demand3 as demand3
 use Rattle.ledger.proofs.House.{house-first}
 use Rattle.ledger.proofs.HouseEdits as edits
@@ -33,8 +37,8 @@ judged f g v = house-judge f ∙ ap (λ (o : Outcome Frame). done o) v
 
 -- > "Put an accepted frame into a record with no history,"
 pub put-into-a-record : (f buf : List ℕ) → openAnswer house first f buf ≡ accepted tt
-    → openExit house first f buf ≡ header first (length f) 0 ++ (f ++ drop (16 + length f) buf)
-put-into-a-record = demand3.put-into-a-record house first house-first
+    → openExit house first f buf ≡ headerFor (length f) 0 ++ (f ++ drop (16 + length f) buf)
+put-into-a-record = edits.open-laid
 
 -- > "then make any sequence of edit calls on it, some refused, with nothing else writing to it."
 pub accepted-after : (f buf : List ℕ) → Bytes f → openAnswer house first f buf ≡ accepted tt → (cs : List Correction)
@@ -46,8 +50,8 @@ refused-edit = demand3.refused-edit house first house-first
 
 -- the bytes beyond the record are the caller's own
 pub own-beyond : (f buf : List ℕ) → Bytes f → openAnswer house first f buf ≡ accepted tt → (cs : List Correction)
-    → drop (totalIn first (recordAfter house first f buf cs)) (recordAfter house first f buf cs) ≡ drop (totalIn first (recordAfter house first f buf cs)) buf
-own-beyond = demand3.own-beyond house first house-first
+    → drop (totalLength (recordAfter house first f buf cs)) (recordAfter house first f buf cs) ≡ drop (totalLength (recordAfter house first f buf cs)) buf
+own-beyond = edits.beyond-laid
 
 -- > "An accepted frame is refused a record only where the buffer is too short,"
 pub opened-exactly : (f buf : List ℕ) (g : Frame) → verdict f ≡ accepted g → (openAnswer house first f buf ≡ accepted tt) ↔ (16 + length f ≤ length buf)
@@ -55,6 +59,10 @@ opened-exactly f buf g v = demand3.opened-exactly house first house-first f buf 
 
 pub too-short : (f buf : List ℕ) (g : Frame) → verdict f ≡ accepted g → length buf < 16 + length f → openAnswer house first f buf ≡ refused 12 0
 too-short f buf g v = demand3.too-short house first house-first f buf (judged f g v)
+
+-- every refusal of an opening, exactly: the frame's own, then 12 (specs/Reasons.antt, `OpenRefused`)
+pub opening-refused : (f buf : List ℕ) → Bytes f → (n p : ℕ) → (openAnswer house first f buf ≡ refused n p) ↔ OpenRefused f buf n p
+opening-refused = due.open-refused-by
 
 pub refused-opening : (f buf : List ℕ) (n p : ℕ) → openAnswer house first f buf ≡ refused n p → openExit house first f buf ≡ buf
 refused-opening = demand3.refused-opening house first house-first
@@ -64,6 +72,10 @@ refused-opening = demand3.refused-opening house first house-first
 pub edited-exactly : (b : List ℕ) (c : Correction) → Bytes b → c .extra ≡ [] → recordVerdict house first b ≡ accepted tt
     → (editAnswer house first b c ≡ accepted tt) ↔ Free b c
 edited-exactly = edits.edit-free
+
+-- else refused by the first that is broken, in document 01's order: record refusals, 22, 23, 24, 25, 12 (specs/Reasons.antt, `EditRefused`)
+pub refused-by-the-first : (b : List ℕ) → Bytes b → (c : Correction) → c .extra ≡ [] → (n p : ℕ) → (editAnswer house first b c ≡ refused n p) ↔ EditRefused b c n p
+refused-by-the-first = due.edit-refused-by
 
 pub listed-reasons : (b : List ℕ) (c : Correction) (n p : ℕ) → editAnswer house first b c ≡ refused n p
     → (recordVerdict house first b ≡ refused n p) ⊎ (Plain 22 n p ⊎ (Plain 23 n p ⊎ (Plain 24 n p ⊎ (Plain 25 n p ⊎ Plain 12 n p))))
@@ -93,9 +105,9 @@ nowhere-else = edits.edit-elsewhere
 -- every byte: header, the frame with the value put, the entries that stood, the new one, and the buffer's own beyond
 pub edited-bytes : (b : List ℕ) (c : Correction) → Bytes b → editAnswer house first b c ≡ accepted tt
     → editExit house first b c
-    ≡ header first (lengthIn b) (suc (countIn b))
-    ++ (put (frameIn b) (c .word) (c .value)
-    ++ (take (16 * countIn b) (drop (16 + lengthIn b) b) ++ (entryBytes first (entryFor house (frameIn b) c) ++ drop (totalIn first b + 16) b)))
+    ≡ headerFor (wordAt b 3) (suc (wordAt b 5))
+    ++ (put (frameOf b) (c .word) (c .value)
+    ++ (take (16 * wordAt b 5) (drop (16 + wordAt b 3) b) ++ (entryWritten (entryFor house (frameOf b) c) ++ drop (totalLength b + 16) b)))
 edited-bytes = edits.edit-bytes
 
 -- > "For every number k from 0 to the count of accepted edits, restoring to k, into a buffer with room, gives the exact frame that stood after
@@ -131,6 +143,10 @@ pub no-room : (f buf : List ℕ) → Bytes f → openAnswer house first f buf �
     → k ≤ length (acceptedEdits house first f buf cs) → length out < length f → restoreAnswer house first (recordAfter house first f buf cs) k out ≡ refused 12 0
 no-room = demand3.no-room house first house-first
 
+-- every refusal of a restore, exactly: record refusals, 26, 12 (specs/Reasons.antt, `RestoreRefused`)
+pub restore-refused : (b : List ℕ) → Bytes b → (k : ℕ) (out : List ℕ) (n p : ℕ) → (restoreAnswer house first b k out ≡ refused n p) ↔ RestoreRefused b k out n p
+restore-refused = due.restore-refused
+
 pub refused-restore : (b : List ℕ) (k : ℕ) (out : List ℕ) (n p : ℕ) → restoreAnswer house first b k out ≡ refused n p → restoreExit house first b k out ≡ out
 refused-restore = demand3.refused-restore house first house-first
 
@@ -146,10 +162,41 @@ history-in-order = demand3.history-in-order house first house-first
 -- every byte of the buffer: header, the frame after the accepted edits, their entries in order, and the caller's own beyond
 pub whole-record : (f buf : List ℕ) → Bytes f → openAnswer house first f buf ≡ accepted tt → (cs : List Correction)
     → recordAfter house first f buf cs
-    ≡ header first (length f) (length (acceptedEdits house first f buf cs))
+    ≡ headerFor (length f) (length (acceptedEdits house first f buf cs))
     ++ (frameAfter house f (acceptedEdits house first f buf cs)
-    ++ (bytesOf first (entriesOf house f (acceptedEdits house first f buf cs)) ++ drop (16 + length f + 16 * length (acceptedEdits house first f buf cs)) buf))
+    ++ (historyWritten (entriesOf house f (acceptedEdits house first f buf cs)) ++ drop (16 + length f + 16 * length (acceptedEdits house first f buf cs)) buf))
 whole-record = edits.record-whole
+
+-- and the entry question tells them by their numbers, from 1; it refuses by the record's refusals and by 26
+pub entry-told : (b : List ℕ) (j : ℕ) (d : Entry) → recordVerdict house first b ≡ accepted tt → j < countIn b
+    → entryAnswer house first b (suc j) ≡ accepted (getD (oldestFirst (entriesIn first b)) j d)
+entry-told = demand3.entry-told house first house-first
+
+-- of a record after any calls: its lengths and the count, and the j-th accepted edit as it was asked, with the kind and the value that stood
+-- there before it
+pub record-told : (f buf : List ℕ) → Bytes f → openAnswer house first f buf ≡ accepted tt → (cs : List Correction)
+    → recordAnswer house first (recordAfter house first f buf cs)
+    ≡ accepted (record {
+      length = length f;
+      count = length (acceptedEdits house first f buf cs);
+      total = 16 + length f + 16 * length (acceptedEdits house first f buf cs);
+    })
+record-told = edits.record-tells
+
+pub entry-asked : (f buf : List ℕ) → Bytes f → openAnswer house first f buf ≡ accepted tt → (cs : List Correction) (j : ℕ) (d : Correction)
+    → j < length (acceptedEdits house first f buf cs)
+    → entryAnswer house first (recordAfter house first f buf cs) (suc j)
+    ≡ accepted (entryFor house (frameAfter house f (take j (acceptedEdits house first f buf cs))) (getD (acceptedEdits house first f buf cs) j d))
+entry-asked = demand3.entry-asked house first house-first
+
+-- where a Sample or Bin stood
+pub item-stood : (f buf : List ℕ) → Bytes f → openAnswer house first f buf ≡ accepted tt → (cs : List Correction) (j : ℕ) (d : Correction)
+    → j < length (acceptedEdits house first f buf cs)
+    → (p : Spot) × (spot (frameAfter house f (take j (acceptedEdits house first f buf cs))) (getD (acceptedEdits house first f buf cs) j d .word) ≡ some p)
+item-stood = edits.item-stood
+
+pub entry-refused : (b : List ℕ) → Bytes b → (j n p : ℕ) → (entryAnswer house first b j ≡ refused n p) ↔ EntryRefused b j n p
+entry-refused = due.entry-refused-by
 
 -- > "And a record is accepted exactly when some such sequence makes its bytes."
 pub accepted-exactly : (b : List ℕ) → Bytes b → (recordVerdict house first b ≡ accepted tt) ↔ Sequence house first b
@@ -162,7 +209,36 @@ pub made-again : (b : List ℕ) → Bytes b → recordVerdict house first b ≡ 
     × (acceptedEdits house first (restored house first b 0) b (map correctionOf (oldestFirst (entriesIn first b))) ≡ map correctionOf (oldestFirst (entriesIn first b)))
 made-again = demand3.made-again house first house-first
 
+-- so calls on any accepted record are calls that follow its own history, and every sentence above holds of them too
+pub continued : (b : List ℕ) → Bytes b → recordVerdict house first b ≡ accepted tt → (cs : List Correction)
+    → run house first b cs ≡ recordAfter house first (restored house first b 0) b (map correctionOf (oldestFirst (entriesIn first b)) ++ cs)
+continued = demand3.continued house first house-first
+
 -- no other frame and no other accepted edits make it
 pub the-only-ones : (b : List ℕ) (S : Sequence house first b)
     → (S .origin ≡ restored house first b 0) × (acceptedEdits house first (S .origin) (S .buffer) (S .calls) ≡ map correctionOf (oldestFirst (entriesIn first b)))
 the-only-ones = demand3.the-only-ones house first house-first
+
+-- ---- what an accepted record is, with no word of calls (document 01, "A record is tested"; specs/Reasons.antt)
+-- a header of which nothing is broken, an accepted frame, and frames from the one that stands back to the first, the only ones
+pub accepted-record : (b : List ℕ)
+    → (recordVerdict house first b ≡ accepted tt)
+    ↔ ((HeaderBroken b → ⊥) × ((g : Frame) × (verdict (frameOf b) ≡ accepted g)) × ((f : ℕ → List ℕ) × Back b 0 f))
+accepted-record = due.record-stands
+
+pub one-chain : (b : List ℕ) (low : ℕ) (f g : ℕ → List ℕ) → Back b low f → Back b low g → (j : ℕ) → low ≤ j → j ≤ wordAt b 5 → f j ≡ g j
+one-chain = due.back-unique
+
+-- else 20; or the frame's own refusal; or 21 with the number of the newest entry that does not fit; all of it at once is `RecordRefused`
+pub refused-record : (b : List ℕ) → Bytes b → (n p : ℕ) → (recordVerdict house first b ≡ refused n p) ↔ RecordRefused b n p
+refused-record = due.record-refused
+
+pub wrong-header : (b : List ℕ) → Bytes b → HeaderBroken b → recordVerdict house first b ≡ refused 20 0
+wrong-header b y h = due.record-refused b y 20 0 .1 (ofHeader h)
+
+pub refused-frame : (b : List ℕ) → Bytes b → (n p : ℕ) → (HeaderBroken b → ⊥) → Refused (frameOf b) n p → recordVerdict house first b ≡ refused n p
+refused-frame b y n p h r = due.record-refused b y n p .1 (ofFrame n p h r)
+
+pub unfit-entry : (b : List ℕ) → Bytes b → (j : ℕ) → (HeaderBroken b → ⊥) → ((n p : ℕ) → Refused (frameOf b) n p → ⊥)
+    → (recordVerdict house first b ≡ refused 21 j) ↔ NewestUnfit b j
+unfit-entry = due.newest-unfit

@@ -1,14 +1,14 @@
 -- Edits of records over document 01's frames: what allows one in document 01's words, and the items that one leaves.
 -- Assumes nothing.
-use Prim.Native.Nat.{ℕ, suc, _+_, _*_}
+use Prim.Native.Nat.{ℕ, suc, _+_, _*_, _<_}
 use mathlib.Core.Path.{_≡_, refl, sym, ap, _∙_}
 use mathlib.Core.Logic.{_↔_, _⊎_, ⊎-elim, inl, inr}
 use mathlib.Core.Bool.{true}
 use mathlib.Core.List.{List, [], _∷_, _++_}
-use mathlib.Core.Option.{Option, some}
+use mathlib.Core.Option.{Option, none, some}
 use native.Mathlib.Omega.{arith}
-use lib.ListN.{length, take, drop}
-use Rattle.format.specs.Words.{Bytes}
+use lib.ListN.{length, getD, take, drop}
+use Rattle.format.specs.Words.{Bytes, wordAt, bytes}
 use Rattle.format.specs.Answers.{accepted, refused}
 use Rattle.format.specs.Frames.{Frame, verdict}
 use Rattle.format.specs.Spots.{SpotIs, legalValue, withValue, withItems}
@@ -17,19 +17,25 @@ use Rattle.format.proofs.ItemQuestions.{some-is}
 use Rattle.format.proofs.PutLaws.{stands, spot-is}
 use Rattle.format.proofs.Stability as stability
 use Rattle.ledger.specs.Frames.{Spot}
-use Rattle.ledger.specs.Formats.{Correction}
-use Rattle.ledger.specs.Records.{header, lengthIn, countIn, totalIn, frameIn, entryBytes, recordVerdict}
-use Rattle.ledger.specs.Calls.{entryFor, openAnswer, editAnswer, editExit}
+use Rattle.ledger.specs.Formats.{Entry, Correction}
+use Rattle.ledger.specs.Records.{numbered, header, lengthIn, countIn, frameIn, entryBytes, recordVerdict}
+use Rattle.ledger.specs.Calls.{kindOf, entryFor, recordAnswer, openAnswer, openExit, editAnswer, editExit}
 use Rattle.ledger.specs.Chains.{Allowed}
 use Rattle.ledger.specs.Histories.{bytesOf, frameAfter, entriesOf, recordAfter, acceptedEdits}
 use Rattle.ledger.specs.Tests.{Plain}
 use Rattle.ledger.specs.First.{first}
 use Rattle.ledger.specs.House.{told, toldOf, house, Free}
+use Rattle.ledger.specs.Layout.{totalLength, frameOf, headerFor, entryWritten, historyWritten}
 use Rattle.ledger.proofs.Codecs.{bytes-part}
 use Rattle.ledger.proofs.FirstLaws.{full-limit}
+use Rattle.ledger.proofs.Opening.{open-whole}
 use Rattle.ledger.proofs.Editing.{edit-exactly}
 use Rattle.ledger.proofs.Refusals.{edit-refusals}
-use Rattle.ledger.proofs.Forward.{forward-whole}
+use Rattle.ledger.proofs.Forward.{forward-accepted, forward-count, forward-rest, forward-whole}
+use Rattle.ledger.proofs.Judging.{record-chain}
+use Rattle.ledger.proofs.Restoring.{entry-answers}
+use Rattle.ledger.proofs.EntryReasons.{spot-kind}
+use Rattle.ledger.proofs.Telling as telling
 use Rattle.ledger.proofs.Changing as changing
 use Rattle.ledger.proofs.House.{own, stands-there, same-told, house-first}
 
@@ -39,7 +45,7 @@ asks-nothing x n p e = let z : _≡_ {A = ℕ} 0 1 = cc in absurd (omega arith)
 
 module _ (b : List ℕ) (c : Correction) where
   free-of : Allowed house first b c → Free b c
-  unfolding house first
+  unfolding house first lengthIn countIn
   free-of a =
       record {
         spot = own (a .spot);
@@ -55,6 +61,7 @@ module _ (b : List ℕ) (c : Correction) where
 
   -- a spot's kind is 1 or 2, so these two cases are all
   free-legal : Bytes b → (h : Free b c) → legalValue (h .spot .kind) (c .value) ≡ true
+  unfolding lengthIn
   free-legal y h =
       ⊎-elim
       (λ k. ap (λ (i : ℕ). legalValue i (c .value)) k ∙ stability.legal-sample (c .value) .1 (h .sample k))
@@ -62,7 +69,7 @@ module _ (b : List ℕ) (c : Correction) where
       (stability.legal-kind (h .spot .kind) (h .spot .value) (stability.standing (frameIn b) (bytes-part b 16 (lengthIn b) y) (c .word) (h .spot) (h .stands)))
 
   free-allowed : Bytes b → c .extra ≡ [] → Free b c → Allowed house first b c
-  unfolding house first
+  unfolding house first lengthIn countIn
   free-allowed y x h =
       record {
         asked = refl;
@@ -115,10 +122,10 @@ module _ (b : List ℕ) (c : Correction) where
 
   pub edit-bytes : Bytes b → editAnswer house first b c ≡ accepted tt
       → editExit house first b c
-      ≡ header first (lengthIn b) (suc (countIn b))
-      ++ (spots.put (frameIn b) (c .word) (c .value)
-      ++ (take (16 * countIn b) (drop (16 + lengthIn b) b) ++ (entryBytes first (entryFor house (frameIn b) c) ++ drop (totalIn first b + 16) b)))
-  unfolding house first
+      ≡ headerFor (wordAt b 3) (suc (wordAt b 5))
+      ++ (spots.put (frameOf b) (c .word) (c .value)
+      ++ (take (16 * wordAt b 5) (drop (16 + wordAt b 3) b) ++ (entryWritten (entryFor house (frameOf b) c) ++ drop (totalLength b + 16) b)))
+  unfolding house first header entryBytes bytes lengthIn countIn
   edit-bytes y e = changing.edit-whole house first house-first b c y e
 
   -- this format asks nothing before 22
@@ -129,11 +136,74 @@ module _ (b : List ℕ) (c : Correction) where
       asks : first .asked (c .extra) ≡ refused n p → Plain 22 n p ⊎ (Plain 23 n p ⊎ (Plain 24 n p ⊎ (Plain 25 n p ⊎ Plain 12 n p)))
       asks q = asks-nothing (c .extra) n p q
 
--- a record after any calls, with an entry's 16 bytes
+-- ---- a record as document 01 lays it out
+pub open-laid : (f buf : List ℕ) → openAnswer house first f buf ≡ accepted tt → openExit house first f buf ≡ headerFor (length f) 0 ++ (f ++ drop (16 + length f) buf)
+unfolding header first bytes
+open-laid f buf e = open-whole house first f buf e
+
+pub beyond-laid : (f buf : List ℕ) → Bytes f → openAnswer house first f buf ≡ accepted tt → (cs : List Correction)
+    → drop (totalLength (recordAfter house first f buf cs)) (recordAfter house first f buf cs) ≡ drop (totalLength (recordAfter house first f buf cs)) buf
+unfolding first lengthIn countIn
+beyond-laid f buf y e cs = forward-rest house first house-first f buf y e cs
+
+pub record-tells : (f buf : List ℕ) → Bytes f → openAnswer house first f buf ≡ accepted tt → (cs : List Correction)
+    → recordAnswer house first (recordAfter house first f buf cs)
+    ≡ accepted (record {
+      length = length f;
+      count = length (acceptedEdits house first f buf cs);
+      total = 16 + length f + 16 * length (acceptedEdits house first f buf cs);
+    })
+unfolding first
+record-tells f buf y e cs = telling.record-tells house first house-first f buf y e cs
+
+history-laid : (es : List Entry) → bytesOf first es ≡ historyWritten es
+unfolding bytesOf historyWritten entryBytes first bytes
+history-laid [] = refl
+history-laid (e ∷ es) = ap (λ (l : List ℕ). entryWritten e ++ l) (history-laid es)
+
 pub record-whole : (f buf : List ℕ) → Bytes f → openAnswer house first f buf ≡ accepted tt → (cs : List Correction)
     → recordAfter house first f buf cs
-    ≡ header first (length f) (length (acceptedEdits house first f buf cs))
+    ≡ headerFor (length f) (length (acceptedEdits house first f buf cs))
     ++ (frameAfter house f (acceptedEdits house first f buf cs)
-    ++ (bytesOf first (entriesOf house f (acceptedEdits house first f buf cs)) ++ drop (16 + length f + 16 * length (acceptedEdits house first f buf cs)) buf))
-unfolding first
-record-whole f buf y e cs = forward-whole house first house-first f buf y e cs
+    ++ (historyWritten (entriesOf house f (acceptedEdits house first f buf cs)) ++ drop (16 + length f + 16 * length (acceptedEdits house first f buf cs)) buf))
+unfolding first header bytes
+record-whole f buf y e cs =
+    forward-whole house first house-first f buf y e cs
+    ∙ ap
+    (λ (h : List ℕ).
+    headerFor (length f) (length (acceptedEdits house first f buf cs))
+    ++ (frameAfter house f (acceptedEdits house first f buf cs) ++ (h ++ drop (16 + length f + 16 * length (acceptedEdits house first f buf cs)) buf)))
+    (history-laid (entriesOf house f (acceptedEdits house first f buf cs)))
+
+-- ---- the item that an accepted edit was asked for, in the frame that stood before it
+one-accepted : (d e : Entry) → accepted d ≡ accepted e → d ≡ e
+one-accepted d e q = cc
+
+module _ (f buf : List ℕ) (y : Bytes f) (e : openAnswer house first f buf ≡ accepted tt) (cs : List Correction) (j : ℕ) (d : Correction) (h : j < length (acceptedEdits house first f buf cs)) where
+  -- the frame before the edit and the edit, the j-th of the accepted from 0
+  stood : List ℕ
+  stood = frameAfter house f (take j (acceptedEdits house first f buf cs))
+
+  made : Correction
+  made = getD (acceptedEdits house first f buf cs) j d
+
+  told-kind : (k : ℕ) × ((k ≡ 1) ⊎ (k ≡ 2)) × (k ≡ kindOf (toldOf (spots.spot stood (made .word))))
+  unfolding stood made house
+  told-kind =
+      let b = recordAfter house first f buf cs in
+      let v = forward-accepted house first house-first f buf y e cs in
+      let n : j < countIn b = (let c = forward-count house first house-first f buf y e cs in omega arith) in
+      let t = record-chain house first b .0 v .2 .1 .fit j (omega arith) n in
+      let q = one-accepted (numbered first b (suc j)) (entryFor house stood made) (sym (entry-answers house first b (suc j) v (omega arith) n) ∙ telling.entry-asked house first house-first f buf y e cs j d h) in
+      (t .spot .kind, spot-kind _ _ (own (t .spot)) (stands-there _ _ (t .spot) (t .stands)), t .kind ∙ ap (λ (x : Entry). x .kind) q)
+
+  pub item-stood : (p : spots.Spot) × (spots.spot (frameAfter house f (take j (acceptedEdits house first f buf cs))) (getD (acceptedEdits house first f buf cs) j d .word) ≡ some p)
+  unfolding stood made
+  item-stood = go (spots.spot stood (made .word)) refl
+    where
+      go : (o : Option spots.Spot) → spots.spot stood (made .word) ≡ o → (p : spots.Spot) × (spots.spot stood (made .word) ≡ some p)
+      go (some p) q = (p, q)
+      go none q =
+          let k = told-kind in
+          let z : k .0 ≡ 0 = k .2 ∙ ap (λ (i : Option spots.Spot). kindOf (toldOf i)) q in
+          absurd (⊎-elim (λ i. omega arith) (λ i. omega arith) (k .1))

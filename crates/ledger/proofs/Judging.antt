@@ -11,7 +11,7 @@ use native.Mathlib.Omega.{arith}
 use lib.ListN.{length, getD, take}
 use lib.Dec.{eqb}
 use borrow.Author.Tests.{leb-true, eqb-true, eqb-false, le-leb, eq-eqb, ne-eqb, not-true}
-use Rattle.format.specs.Answers.{accepted, refused, Done, andThen, need, firstOf}
+use Rattle.format.specs.Answers.{accepted, refused, Done, andThen, firstOf}
 use Rattle.ledger.specs.Tests.{all}
 use Rattle.ledger.specs.Frames.{Spot, FrameBook}
 use Rattle.ledger.specs.Formats.{Entry, Format}
@@ -88,6 +88,15 @@ module _ (B : FrameBook) (F : Format) where
       go : (t : Bool) → fits B F f e ≡ t → ((fits B F f e ≡ false) × (n ≡ 21) × (p ≡ suc (length es))) ⊎ ((fits B F f e ≡ true) × (historyVerdict B F (before B f e) es ≡ refused n p))
       go true q = inr (q, sym (history-fits B F f e es q) ∙ h)
       go false q = let z = sym (history-unfit B F f e es q) ∙ h in inl (q, cc, cc)
+
+  -- a refusal of some entries is 21, at the number of one of them
+  pub entry-place : (f : List ℕ) (es : List Entry) (n p : ℕ) → historyVerdict B F f es ≡ refused n p → (n ≡ 21) × (1 ≤ p) × (p ≤ length es)
+  entry-place f [] n p e = absurd (not-both _ tt n p (history-none B F f) e)
+  entry-place f (x ∷ es) n p e =
+      ⊎-elim
+      (λ w. let q = w .2 in (w .1, omega arith, omega arith))
+      (λ w. let r = entry-place (before B f x) es n p (w .1) in (r .0, r .1, let h = r .2 in omega arith))
+      (step-refused f x es n p e)
 
   pub each-fits : (f : List ℕ) (es : List Entry) (d : Entry) → historyVerdict B F f es ≡ accepted tt → (m : ℕ) → m < length es
       → fits B F (undone B f (take m es)) (getD es m d) ≡ true
@@ -209,6 +218,19 @@ module _ (B : FrameBook) (F : Format) where
       rw (e, ← r₂) (right-fits _ _ (C .fit j (omega arith) (omega arith)))
 
   -- ---- the record
+  -- T26, refused: 20 where the header is wrong, the frame's own refusal where it is not accepted
+  pub header-refused : (b : List ℕ) → (Header F b → ⊥) → recordVerdict B F b ≡ refused 20 0
+  unfolding recordVerdict firstOf
+  header-refused b h = rw (wrong (headerRight F b) refl)
+    where
+      wrong : (t : Bool) → headerRight F b ≡ t → headerRight F b ≡ false
+      wrong true q = absurd (h (header-words F b q))
+      wrong false q = q
+
+  pub frame-refused : (b : List ℕ) (n p : ℕ) → Header F b → B .judge (frameIn b) ≡ refused n p → recordVerdict B F b ≡ refused n p
+  unfolding recordVerdict firstOf
+  frame-refused b n p h j = rw (header-right F b h, j)
+
   pub verdict-parts : (b : List ℕ) → recordVerdict B F b ≡ accepted tt
       → (headerRight F b ≡ true) × (B .judge (frameIn b) ≡ accepted tt) × (historyVerdict B F (frameIn b) (entriesIn F b) ≡ accepted tt)
   unfolding recordVerdict
@@ -236,20 +258,6 @@ module _ (B : FrameBook) (F : Format) where
         parts-verdict b (header-right F b (w .0)) (w .1)
         ∙ all-fit (frameIn b) (entriesIn F b) (numbered F b 0) (λ m l. below b 0 (w .2 .0) (w .2 .1) m (let k : m < countIn b = rw n at l in omega arith)),
   )
-
-  -- T26, refused: 20 where the header is wrong, the frame's own refusal where it is not accepted
-  pub header-refused : (b : List ℕ) → (Header F b → ⊥) → recordVerdict B F b ≡ refused 20 0
-  unfolding recordVerdict firstOf
-  header-refused b h = go (headerRight F b) refl
-    where
-      go : (t : Bool) → headerRight F b ≡ t
-          → firstOf (need (headerRight F b) 20 0 ∷ B .judge (frameIn b) ∷ historyVerdict B F (frameIn b) (entriesIn F b) ∷ []) ≡ refused 20 0
-      go true q = absurd (h (header-words F b q))
-      go false q = rw q
-
-  pub frame-refused : (b : List ℕ) (n p : ℕ) → Header F b → B .judge (frameIn b) ≡ refused n p → recordVerdict B F b ≡ refused n p
-  unfolding recordVerdict firstOf
-  frame-refused b n p h j = rw (header-right F b h, j)
 
   -- and 21 with the number j of the newest entry that does not fit: the chain holds down to f_j, and entry j does not fit f_j
   pub entry-refused : (b : List ℕ) (j : ℕ) → Header F b → B .judge (frameIn b) ≡ accepted tt

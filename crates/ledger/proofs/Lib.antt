@@ -1,8 +1,13 @@
 pub mod Stores
 pub mod Answering
+pub mod Due
 pub mod Codecs
 pub mod Headers
 pub mod Judging
+pub mod FirstLaws
+pub mod House
+pub mod EntryReasons
+pub mod AnswersDue
 pub mod Edits
 pub mod Holding
 pub mod Opening
@@ -12,7 +17,7 @@ pub mod Forward
 pub mod Backward
 pub mod Changing
 pub mod Restoring
-pub mod FirstLaws
+pub mod Telling
 pub mod Writes
 pub mod Refusals
 pub mod Earlier
@@ -20,7 +25,6 @@ pub mod Swapping
 pub mod Demand3
 pub mod Walking
 pub mod Figures
-pub mod House
 pub mod HouseEdits
 pub mod HouseDemand3
 pub mod HouseFigures

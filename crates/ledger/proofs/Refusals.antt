@@ -13,12 +13,12 @@ use Rattle.format.specs.Words.{Bytes, pick}
 use Rattle.format.specs.Answers.{accepted, refused, Done, andThen, need, firstOf}
 use Rattle.ledger.specs.Tests.{Plain}
 use Rattle.ledger.specs.Frames.{FrameBook}
-use Rattle.ledger.specs.Formats.{Entry, Correction, Format, size}
-use Rattle.ledger.specs.Records.{lengthIn, countIn, totalIn, frameIn, numbered, entriesIn, length-entries, headerRight, signed, atSpot, before, historyVerdict, history-none, recordVerdict}
+use Rattle.ledger.specs.Formats.{Correction, Format, size}
+use Rattle.ledger.specs.Records.{lengthIn, countIn, totalIn, frameIn, numbered, entriesIn, length-entries, headerRight, signed, atSpot, recordVerdict}
 use Rattle.ledger.specs.Calls.{Summary, entryFor, newValue, recordAnswer, entryAnswer, openAnswer, editTests, editAnswer, restoreAnswer}
 use Rattle.ledger.proofs.Answering.{need-refuses, not-both}
 use Rattle.ledger.proofs.Codecs.{bytes-part}
-use Rattle.ledger.proofs.Judging.{step-refused}
+use Rattle.ledger.proofs.Judging.{entry-place}
 
 -- a refusal that is one of some answers'
 abbrev Among : List Done → ℕ → ℕ → Type 0
@@ -35,14 +35,6 @@ plain : (t : Bool) (m n p : ℕ) → need t m 0 ≡ refused n p → Plain m n p
 plain t m n p e = let w = need-refuses t m 0 n p e in (sym (w .1), sym (w .2))
 
 module _ (B : FrameBook) (F : Format) where
-  entry-place : (f : List ℕ) (es : List Entry) (n p : ℕ) → historyVerdict B F f es ≡ refused n p → (n ≡ 21) × (1 ≤ p) × (p ≤ length es)
-  entry-place f [] n p e = absurd (not-both _ tt n p (history-none B F f) e)
-  entry-place f (x ∷ es) n p e =
-      ⊎-elim
-      (λ w. let q = w .2 in (w .1, omega arith, omega arith))
-      (λ w. let r = entry-place (before B f x) es n p (w .1) in (r .0, r .1, let h = r .2 in omega arith))
-      (step-refused B F f x es n p e)
-
   -- a record: 20 at 0, a frame refusal, or 21 at an entry's number
   pub record-refusals : (b : List ℕ) (n p : ℕ) → recordVerdict B F b ≡ refused n p
       → Plain 20 n p ⊎ ((B .judge (frameIn b) ≡ refused n p) ⊎ ((n ≡ 21) × (1 ≤ p) × (p ≤ countIn b)))
@@ -51,7 +43,7 @@ module _ (B : FrameBook) (F : Format) where
       ⊎-elim (λ w. inl (plain (headerRight F b) 20 n p w))
       (λ r. inr
       (⊎-elim inl
-      (⊎-elim (λ w. inr (let q = entry-place (frameIn b) (entriesIn F b) n p w in (q .0, q .1, rw (length-entries F b (countIn b)) at (q .2)))) (λ z. absurd z))
+      (⊎-elim (λ w. inr (let q = entry-place B F (frameIn b) (entriesIn F b) n p w in (q .0, q .1, rw (length-entries F b (countIn b)) at (q .2)))) (λ z. absurd z))
       r))
       (among _ n p e)
 

@@ -5,13 +5,13 @@ use mathlib.Core.Path.{_≡_, refl}
 use mathlib.Core.List.{List}
 use mathlib.Core.Option.{Option, none, some}
 use lib.ListN.{length}
+use Rattle.format.specs.Words.{wordAt}
 use Rattle.format.specs.Frames.{verdict}
 use Rattle.format.specs.Questions.{done}
 use Rattle.format.specs.Spots as spots
 use Rattle.ledger.specs.Frames.{Spot, FrameBook}
 use Rattle.ledger.specs.Formats.{Correction}
-use Rattle.ledger.specs.First.{first}
-use Rattle.ledger.specs.Records.{countIn, totalIn, frameIn}
+use Rattle.ledger.specs.Layout.{totalLength, frameOf}
 
 -- a frame's spot as a book tells it
 abbrev pub told : spots.Spot → Spot
@@ -42,7 +42,7 @@ house-spot s w = refl
 pub record Free (b : List ℕ) (c : Correction) : Type 0 where
   -- the word index is a Sample's or Bin's first word
   pub spot : spots.Spot
-  pub stands : spots.spot (frameIn b) (c .word) ≡ some spot
+  pub stands : spots.spot (frameOf b) (c .word) ≡ some spot
   -- a sample of at most 4,095, a bin's count of at least 1 and 32 bits, and not the present value
   pub sample : spot .kind ≡ 1 → c .value ≤ 4095
   pub bin : spot .kind ≡ 2 → (1 ≤ c .value) × (c .value < 4294967296)
@@ -51,5 +51,5 @@ pub record Free (b : List ℕ) (c : Correction) : Type 0 where
   pub operator : (1 ≤ c .operator) × (c .operator ≤ 65535)
   pub reason : (1 ≤ c .reason) × (c .reason ≤ 5)
   -- fewer than 512 entries stand, and the buffer holds one more
-  pub few : countIn b < 512
-  pub room : totalIn first b + 16 ≤ length b
+  pub few : wordAt b 5 < 512
+  pub room : totalLength b + 16 ≤ length b

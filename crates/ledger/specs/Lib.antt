@@ -8,4 +8,6 @@ pub mod Histories
 pub mod First
 pub mod House
 pub mod Judged
+pub mod Layout
+pub mod Reasons
 pub mod HouseTable

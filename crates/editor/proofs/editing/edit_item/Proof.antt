@@ -1,11 +1,10 @@
 -- `editor::editing::edit_item` meets its contract.
 -- Assumes nothing.
 use native.Mathlib.Omega.{arith}
-use mathlib.Core.Path.{refl, sym, ap, _∙_}
+use mathlib.Core.Path.{sym, ap, _∙_}
 use Rattle.plane.specs.Views.{viewHeld}
-use Rattle.editor.specs.Views.{viewDone}
 use Rattle.editor.proofs.KnownLaws.{sum, few, short}
-use Rattle.editor.proofs.EditLaws.{no-target, tests-left, edited-refused, edited-written}
+use Rattle.editor.proofs.EditLaws.{no-target, tests-left, not-refusing, edited-refused, edited-refusing, edited-making}
 use borrow.Author.Needs.{needs}
 use Rattle.editor.proofs.editing.edit_item.Statement.{statement}
 use Rattle.editor.proofs.editing.edit_item.Tie as tie
@@ -31,31 +30,30 @@ edit-tests-requires c κs =
     let k = s .before .pre .0 in
     omega (arith, sum _ _ k, few _ _ k, short _ _ k (λ i. (s .slice-known .given i) .fits))
 
-enum-known-answer : tie.Need-enum-known-answer
-enum-known-answer c = search needs
+refuses-requires : tie.Need-refuses-requires
+refuses-requires c κs = search needs
 
-enum-told-2 : tie.Need-enum-told-2
-enum-told-2 c = search needs
+returns-2 : tie.Need-returns-2
+returns-2 c =
+    let f = c .before in
+    let t = f .before in
+    let s = t .before .before in
+    let start = s .before .before .before in
+    let there = sym (ap viewHeld (s .s .given .1)) ∙ start .pre .1 in
+    edited-refusing _ _ _ (sym (f .refuses .ensures) ∙ c .if1 .taken) (tests-left _ _ (start .pre .0) (start .args .c) _ there _ (t .edit-tests .ensures))
 
 write-edit-requires : tie.Need-write-edit-requires
 write-edit-requires c κs =
-    let t = c .before .before .before in
+    let f = c .before .before in
+    let t = f .before in
     let s = t .before .before in
     let start = s .before .before .before in
     let there = sym (ap viewHeld (s .s .given .1)) ∙ start .pre .1 in
     record {
       known = start .pre .0;
-      accepted = tests-left _ _ (start .pre .0) (start .args .c) _ there _ (sym (ap viewDone (c .before .enum-told2 .given .1)) ∙ t .edit-tests .ensures);
+      accepted = tests-left _ _ (start .pre .0) (start .args .c) _ there _ (t .edit-tests .ensures) ∙ not-refusing _ (sym (f .refuses .ensures) ∙ c .before .if1 .left);
       held = there;
     }
-
-returns-2 : tie.Need-returns-2
-returns-2 c =
-    let t = c .before .before .before in
-    let s = t .before .before in
-    let start = s .before .before .before in
-    let there = sym (ap viewHeld (s .s .given .1)) ∙ start .pre .1 in
-    edited-refused _ _ _ _ _ refl (tests-left _ _ (start .pre .0) (start .args .c) _ there _ (sym (ap viewDone (c .before .answer .given .1)) ∙ t .edit-tests .ensures))
 
 same-length : tie.Need-same-length
 same-length c = search needs
@@ -63,11 +61,13 @@ same-length c = search needs
 returns-3 : tie.Need-returns-3
 returns-3 c =
     let w = c .before .before in
-    let t = w .before .before .before .before in
+    let i = w .before .before in
+    let f = i .before in
+    let t = f .before in
     let s = t .before .before in
     let start = s .before .before .before in
     let there = sym (ap viewHeld (s .s .given .1)) ∙ start .pre .1 in
-    edited-written _ _ _ (tests-left _ _ (start .pre .0) (start .args .c) _ there _ (sym (ap viewDone (w .before .before .enum-told2 .given .1)) ∙ t .edit-tests .ensures)) (w .write-edit .ensures)
+    edited-making _ _ _ _ (sym (f .refuses .ensures) ∙ i .if1 .left) (tests-left _ _ (start .pre .0) (start .args .c) _ there _ (t .edit-tests .ensures)) (w .write-edit .ensures)
 
 pub edit-item-spec : {M : Type 1} → statement M
 edit-item-spec =
@@ -78,9 +78,8 @@ edit-item-spec =
     test-requires
     returns
     edit-tests-requires
-    enum-known-answer
-    enum-told-2
-    write-edit-requires
+    refuses-requires
     returns-2
+    write-edit-requires
     same-length
     returns-3)

@@ -1,0 +1,214 @@
+-- A record's bytes and the sequences of calls that make them: each such sequence is one of ledger's, an accepted record has one, and its frame and
+-- accepted corrections are the only ones.
+-- Assumes nothing.
+use Prim.Native.Nat.{ℕ, zero, suc, _+_, _-_, _*_, _≤_, _<_}
+use mathlib.Core.Path.{_≡_, refl, sym, ap, ap₂, subst, _∙_}
+use mathlib.Core.Logic.{_↔_, by-cases}
+use native.Mathlib.Decide.{decLt}
+use mathlib.Core.List.{List, [], _∷_, _++_, map, map-append}
+use native.Mathlib.Omega.{arith}
+use lib.ListN.{length, take}
+use Rattle.format.specs.Words.{Bytes}
+use Rattle.format.specs.Answers.{Done, accepted, refused, andThen}
+use Rattle.format.proofs.WordLaws.{below-drop}
+use Rattle.ledger.specs.Formats as formats
+use Rattle.ledger.specs.Formats.{Entry}
+use Rattle.ledger.specs.Records.{lengthIn, countIn, totalIn, entryOf, numbered, entriesTo, entriesIn, recordVerdict}
+use Rattle.ledger.specs.Calls.{Summary, recordAnswer, openExit, restored}
+use Rattle.ledger.specs.Histories as histories
+use Rattle.ledger.specs.Histories.{oldestFirst, correctionOf, run, made, recordAfter, acceptedEdits}
+use Rattle.ledger.specs.First.{first}
+use Rattle.ledger.specs.House.{house}
+use Rattle.ledger.specs.Layout.{totalLength}
+use Rattle.ledger.specs.Reasons.{cut}
+use Rattle.ledger.proofs.Backward.{restored-first}
+use Rattle.ledger.proofs.House.{house-first}
+use Rattle.ledger.proofs.HouseDemand3 as house3
+use Rattle.plane.specs.declared.answers.Record.{Record}
+use Rattle.plane.specs.declared.answers.RecordFound.{RecordFound}
+use Rattle.plane.specs.declared.answers.RecordFound.the-variants as records
+use Rattle.plane.specs.Views.{summaryOf}
+use Rattle.plane.proofs.Unique.{same-record}
+use Rattle.editor.specs.declared.answers.Done as code
+use Rattle.editor.specs.declared.editing.Correction.{Correction}
+use Rattle.editor.specs.Views.{asked}
+use Rattle.editor.specs.Sequences.{Recorded, Calls, done, then, madeBy, correctionFor, Given, AllGiven, none, more, Sequence}
+use Rattle.editor.proofs.CallLaws.{calls-run, calls-made, after-calls, called}
+
+-- ---- what `record` answers
+module _ (b : List ℕ) where
+  pub recorded : (x : Record) → Recorded b (records.Record x) → recordVerdict house first b ≡ accepted tt
+  unfolding recordAnswer
+  recorded x e = go (recordVerdict house first b) _ e
+    where
+      go : (d : Done) (s : Summary) → accepted (summaryOf x) ≡ andThen d (λ u. accepted s) → d ≡ accepted tt
+      go (accepted u) s q = refl
+      go (refused n p) s q = let z : _≡_ {A = ℕ} 0 1 = cc in absurd (omega arith)
+
+  pub recorded-back : (r : RecordFound) → Recorded b r → recordVerdict house first b ≡ accepted tt → (x : Record) × (r ≡ records.Record x)
+  unfolding recordAnswer
+  recorded-back r t v =
+      (record { length = lengthIn b; count = countIn b; total = totalIn first b }, same-record r _ (t ∙ rw v))
+
+  pub recorded-refused : (n p : ℕ) → (refused n p ≡ recordAnswer house first b) ↔ (recordVerdict house first b ≡ refused n p)
+  unfolding recordAnswer
+  recorded-refused n p = go (recordVerdict house first b) _
+    where
+      go : (d : Done) (s : Summary) → (refused n p ≡ andThen d (λ u. accepted s)) ↔ (d ≡ refused n p)
+      go (accepted u) s = (λ e. let z : _≡_ {A = ℕ} 0 1 = cc in absurd (omega arith), λ e. let z : _≡_ {A = ℕ} 0 1 = cc in absurd (omega arith))
+      go (refused m q) s = (λ e. let i : m ≡ n = cc in let j : q ≡ p = cc in rw (i, j), λ e. let i : m ≡ n = cc in let j : q ≡ p = cc in rw (i, j))
+
+-- ---- the corrections that a record's entries tell of
+asked-for : (b : List ℕ) (j : ℕ) → asked (correctionFor (numbered first b j)) ≡ correctionOf (numbered first b j)
+unfolding numbered entryOf first
+asked-for b j = refl
+
+all-asked : (b : List ℕ) (n : ℕ) → map asked (map correctionFor (oldestFirst (entriesTo first b n))) ≡ map correctionOf (oldestFirst (entriesTo first b n))
+unfolding entriesTo oldestFirst
+all-asked b zero = refl
+all-asked b (suc n) =
+    let l = oldestFirst (entriesTo first b n) in
+    let x = numbered first b (suc n) in
+    ap (map asked) (map-append correctionFor l (x ∷ []))
+    ∙ map-append asked (map correctionFor l) (correctionFor x ∷ [])
+    ∙ ap₂ (λ (c : List formats.Correction) (d : formats.Correction). c ++ (d ∷ [])) (all-asked b n) (asked-for b (suc n))
+    ∙ sym (map-append correctionOf l (x ∷ []))
+
+given-for : (b : List ℕ) → Bytes b → (j : ℕ) → Given (correctionFor (numbered first b j))
+unfolding numbered entryOf lengthIn first
+given-for b y j =
+    let s : (i : ℕ) → _ < 256 = below-drop (16 + lengthIn b + 16 * (j - 1)) b 256 y in
+    record {
+      word = omega (arith, s 0, s 1);
+      value = omega (arith, s 8, s 9, s 10, s 11);
+      operator = omega (arith, s 12, s 13);
+      reason = omega (arith, s 14, s 15);
+    }
+
+given-both : {cs ds : List Correction} → AllGiven cs → AllGiven ds → AllGiven (cs ++ ds)
+given-both none h = h
+given-both (more g r) h = more g (given-both r h)
+
+all-given : (b : List ℕ) → Bytes b → (n : ℕ) → AllGiven (map correctionFor (oldestFirst (entriesTo first b n)))
+unfolding entriesTo oldestFirst
+all-given b y zero = none
+all-given b y (suc n) = rw (map-append correctionFor (oldestFirst (entriesTo first b n)) (numbered first b (suc n) ∷ [])) (given-both (all-given b y n) (more (given-for b y (suc n)) none))
+
+-- ---- a sequence of calls is one of ledger's
+module _ (b : List ℕ) (S : Sequence b) where
+  left-after : S .left ≡ recordAfter house first (S .frame) (S .buffer) (map asked (S .corrections))
+  left-after = calls-run (S .calls) ∙ ap (λ (m : List ℕ). run house first m (map asked (S .corrections))) (S .opening .left)
+
+  pub as-ledgers : histories.Sequence house first b
+  unfolding lengthIn countIn first
+  as-ledgers = record {
+    origin = S .frame;
+    buffer = S .buffer;
+    calls = map asked (S .corrections);
+    bytes = S .lent .0;
+    opened = sym (S .opening .answered);
+    whole = subst (λ (l : List ℕ). totalLength l ≤ length b) left-after (S .whole);
+    same = subst (λ (l : List ℕ). take (totalLength l) b ≡ take (totalLength l) l) left-after (S .same);
+  }
+
+  edits-made : map asked (madeBy (S .corrections) (S .answers)) ≡ acceptedEdits house first (S .frame) (S .buffer) (map asked (S .corrections))
+  edits-made = calls-made (S .calls) ∙ ap (λ (m : List ℕ). made house first m (map asked (S .corrections))) (S .opening .left)
+
+  -- its frame and its accepted corrections are those that the record tells of
+  pub only-frame : S .frame ≡ restored house first b 0
+  unfolding as-ledgers
+  only-frame = house3.the-only-ones b as-ledgers .0
+
+  pub only-corrections : madeBy (S .corrections) (S .answers) ≡ map correctionFor (oldestFirst (entriesIn first b))
+  unfolding as-ledgers
+  only-corrections =
+      sym (back (madeBy (S .corrections) (S .answers)))
+      ∙ ap (map unasked) (edits-made ∙ house3.the-only-ones b as-ledgers .1)
+      ∙ both (oldestFirst (entriesIn first b))
+    where
+      unasked : formats.Correction → Correction
+      unasked c = record { word = c .word; value = c .value; operator = c .operator; reason = c .reason }
+
+      back : (cs : List Correction) → map unasked (map asked cs) ≡ cs
+      back [] = refl
+      back (c ∷ cs) = ap (λ (l : List Correction). c ∷ l) (back cs)
+
+      both : (es : List Entry) → map unasked (map correctionOf es) ≡ map correctionFor es
+      both [] = refl
+      both (e ∷ es) = ap (λ (l : List Correction). correctionFor e ∷ l) (both es)
+
+fits-inside : (b : List ℕ) → recordVerdict house first b ≡ accepted tt → totalLength b ≤ length b
+fits-inside b v = by-cases (decLt (length b) (totalLength b)) (λ l. absurd (house3.accepted-record b .0 v .0 (cut l))) (λ h. let n : length b < totalLength b → ⊥ = h in omega arith)
+
+joined : {b m e : List ℕ} {cs ds : List Correction} {rs qs : List code.Done} → Calls b cs rs m → Calls m ds qs e → Calls b (cs ++ ds) (rs ++ qs) e
+joined done k = k
+joined (then o j) k = then o (joined j k)
+
+-- ---- and an accepted record has one: the frame that it restores to, opened in that very buffer, and its own entries as calls
+module _ (b : List ℕ) (y : Bytes b) (v : recordVerdict house first b ≡ accepted tt) where
+  origin : List ℕ
+  origin = restored house first b 0
+
+  start : List ℕ
+  start = openExit house first origin b
+
+  own : List Correction
+  own = map correctionFor (oldestFirst (entriesIn first b))
+
+  makes : run house first start (map asked own) ≡ b
+  unfolding origin start own
+  makes = ap (run house first (openExit house first (restored house first b 0) b)) (all-asked b (countIn b)) ∙ house3.made-again b y v .1
+
+  pub has-sequence : Sequence b
+  unfolding origin start own
+  has-sequence =
+      let k = called start own in
+      let l : k .1 .0 ≡ b = calls-run (k .1 .1) ∙ makes in
+      record {
+        frame = origin;
+        buffer = b;
+        lent = (restored-first house first house-first b y v .bytes, y);
+        opened = start;
+        opening = record { answered = sym (house3.made-again b y v .0); left = refl };
+        corrections = own;
+        given = all-given b y (countIn b);
+        answers = k .0;
+        left = k .1 .0;
+        calls = k .1 .1;
+        whole = subst (λ (x : List ℕ). totalLength x ≤ length b) (sym l) (fits-inside b v);
+        same = subst (λ (x : List ℕ). take (totalLength x) b ≡ take (totalLength x) x) (sym l) refl;
+      }
+
+  pub own-buffer : has-sequence .buffer ≡ b
+  unfolding has-sequence
+  own-buffer = refl
+
+  pub own-left : has-sequence .left ≡ b
+  unfolding has-sequence
+  own-left = calls-run (called start own .1 .1) ∙ makes
+
+  -- calls on an accepted record are calls that follow that sequence
+  pub followed : {cs : List Correction} {rs : List code.Done} {e : List ℕ} → Calls b cs rs e → AllGiven cs → Sequence e
+  followed {cs = cs} {rs = rs} {e = e} k g =
+      let S = has-sequence in
+      let a = joined (S .calls) (subst (λ (m : List ℕ). Calls m cs rs e) (sym own-left) k) in
+      let v : recordVerdict house first e ≡ accepted tt
+      = ap (recordVerdict house first) (after-calls (S .frame) (S .buffer) (S .opened) (S .opening) a)
+      ∙ house3.accepted-after (S .frame) (S .buffer) (S .lent .0) (sym (S .opening .answered)) (map asked (S .corrections ++ cs)) in
+      record {
+        frame = S .frame;
+        buffer = S .buffer;
+        lent = S .lent;
+        opened = S .opened;
+        opening = S .opening;
+        corrections = S .corrections ++ cs;
+        given = given-both (S .given) g;
+        answers = S .answers ++ rs;
+        left = e;
+        calls = a;
+        whole = fits-inside e v;
+        same = refl;
+      }
+
+pub accepted-exactly : (b : List ℕ) → Bytes b → (recordVerdict house first b ≡ accepted tt) ↔ Sequence b
+accepted-exactly b y = (has-sequence b y, λ S. house3.accepted-exactly b y .1 (as-ledgers b S))
