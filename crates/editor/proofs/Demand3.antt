@@ -35,7 +35,8 @@ use Rattle.editor.specs.declared.answers.Done.the-variants as answer
 use Rattle.editor.specs.declared.editing.Correction.{Correction}
 use Rattle.editor.specs.Views.{viewDone, asked}
 use Rattle.editor.specs.Promises.{Opened, Edited, Restored}
-use Rattle.editor.specs.Sequences.{Recorded, EntryTold, Calls, madeBy, corrected, entriesFor, correctionFor, Moment, AllGiven, Sequence}
+use Rattle.plane.specs.Promises.{Recorded, EntryTold}
+use Rattle.editor.specs.Sequences.{Calls, madeBy, corrected, entriesFor, correctionFor, Moment, AllGiven, Sequence}
 use Rattle.editor.proofs.CallLaws.{says-accepted, says-refused, after-calls, edits-of-calls, count-of-calls, asked-take, asked-nth, moment}
 use Rattle.editor.proofs.SequenceLaws as sequences
 use Rattle.editor.proofs.Effects as effects

@@ -32,7 +32,8 @@ use Rattle.plane.proofs.Unique.{same-record}
 use Rattle.editor.specs.declared.answers.Done as code
 use Rattle.editor.specs.declared.editing.Correction.{Correction}
 use Rattle.editor.specs.Views.{asked}
-use Rattle.editor.specs.Sequences.{Recorded, Calls, done, then, madeBy, correctionFor, Given, AllGiven, none, more, Sequence}
+use Rattle.plane.specs.Promises.{Recorded}
+use Rattle.editor.specs.Sequences.{Calls, done, then, madeBy, correctionFor, Given, AllGiven, none, more, Sequence}
 use Rattle.editor.proofs.CallLaws.{calls-run, calls-made, after-calls, called}
 
 -- ---- what `record` answers

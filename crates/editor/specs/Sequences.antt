@@ -6,27 +6,16 @@ use mathlib.Core.Path.{_≡_}
 use mathlib.Core.List.{List, [], _∷_, _++_, map}
 use lib.ListN.{length, take}
 use Rattle.format.specs.Words.{Bytes}
-use Rattle.ledger.specs.Calls.{recordAnswer, entryAnswer}
 use Rattle.ledger.specs.Formats.{Entry}
 use Rattle.ledger.specs.Histories.{frameAfter, entriesOf}
 use Rattle.ledger.specs.First.{first}
 use Rattle.ledger.specs.House.{house}
 use Rattle.ledger.specs.Layout.{totalLength}
-use Rattle.plane.specs.declared.answers.RecordFound.{RecordFound}
-use Rattle.plane.specs.declared.answers.EntryFound.{EntryFound}
-use Rattle.plane.specs.Views.{viewRecord, viewEntry}
 use Rattle.editor.specs.declared.answers.Done.{Done}
 use Rattle.editor.specs.declared.answers.Done.the-variants as answer
 use Rattle.editor.specs.declared.editing.Correction.{Correction}
 use Rattle.editor.specs.Views.{viewDone, asked}
 use Rattle.editor.specs.Promises.{Opened, Edited}
-
--- what the questions of a record promise: `record`, and `entry` of entry j
-abbrev pub Recorded : List ℕ → RecordFound → Type 0
-Recorded b r = viewRecord r ≡ recordAnswer house first b
-
-abbrev pub EntryTold : List ℕ → ℕ → EntryFound → Type 0
-EntryTold b j r = viewEntry r ≡ entryAnswer house first b j
 
 -- ---- calls of `edit`
 
