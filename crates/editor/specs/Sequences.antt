@@ -8,7 +8,6 @@ use lib.ListN.{length, take}
 use Rattle.format.specs.Words.{Bytes}
 use Rattle.ledger.specs.Formats.{Entry}
 use Rattle.ledger.specs.Histories.{frameAfter, entriesOf}
-use Rattle.ledger.specs.First.{first}
 use Rattle.ledger.specs.House.{house}
 use Rattle.ledger.specs.Layout.{totalLength}
 use Rattle.editor.specs.declared.answers.Done.{Done}
