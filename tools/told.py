@@ -34,15 +34,15 @@ def crates():
 def errors(text):
     """The errors of a log in their order, each whole: its line and the indented ones behind it. One that only says that another proof is
     missing is left out."""
-    found = []
+    found, inside = [], False
     for line in text.split("\n"):
         if re.search(r": error\b|^error\b", line):
             found.append(re.sub(r"^\S*/crates/", "", line))
-        elif found and line.startswith("  "):
+            inside = True
+        elif inside and line.startswith("  "):
             found[-1] += "\n" + line
-        elif found and found[-1]:
-            found.append("")
-    found = [error for error in found if error]
+        else:
+            inside = False
     return [error for error in found if "was not admitted" not in error] or found
 
 
