@@ -147,6 +147,3 @@ long-past s i h = omega (arith, word-past s i (omega arith), word-past s (i + 1)
 
 pub time-past : (s : List ℕ) (i : ℕ) → length s ≤ i → 0 ≡ timeAt s i
 time-past s i h = omega (arith, word-past s i (omega arith), word-past s (i + 1) (omega arith), word-past s (i + 2) (omega arith))
-
-pub time-short : (s : List ℕ) (i : ℕ) → length s ≤ i + 2 → longAt s i ≡ timeAt s i
-time-short s i h = omega (arith, word-past s (i + 2) (omega arith))
