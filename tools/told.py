@@ -9,7 +9,7 @@ ROOT = os.path.dirname(os.path.dirname(os.path.abspath(__file__)))
 # rewrite that finds nothing, a text that does not parse) may only mean that the proof does not fit, and shows nothing.
 FACT = re.compile(
     # two values that had to be the same are not
-    r"the two (?:types|sides) (?:first differ|differ only|are)\b"
+    r"the two (?:types|sides|values) (?:first differ|differ only|are)\b"
     r"|^  does not hold\b"
     # what is left after a rewriting is no equation of a thing with itself
     r"|must be a path whose two ends are equal, and .*is none"
