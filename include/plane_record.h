@@ -1,4 +1,5 @@
 /* The plane record library for C and C++ on x86-64 Linux: frames of 16-bit words are read, written and corrected. Link libexports.a.
+ * docs/FORMAT.md has frames and records byte by byte, and an example of each refusal; documents 01 (the rules) and 02 are the client's papers.
  *
  * Every call is proved to answer, and to leave in the memory lent to it, exactly what document 01 says, for all bytes and all arguments. It ends,
  * reads and writes nothing but what it is lent, and keeps nothing: no heap, no globals, so threads may call it at once, each on memory of its own.

@@ -114,7 +114,8 @@ pub fn text_words(w: u16) -> u16
     (w & 0xFF) + 1 >> 1
 }
 
-// How many words come after a word of the class, where a text would have `text` of them.
+// How many words come after a word of the class, where a text would have `text` of them: worked out before, since a call in an arm costs the proof
+// more. Every class has an arm; `_` would tell a proof only that it is none of the others.
 fn after_class(class: Class, w: u16, text: u16) -> u16
     requires { ⌜ text ≡ textWords w ⌝ }
     ensures { λ r. ⌜ r ≡ after (view class) w ⌝ }

@@ -74,7 +74,8 @@ pub enum Item {
     EndEvent(EndEvent),
 }
 
-// The low 14 bits of a word that three items share: card 5, chip 2 and 7 bits more, each cut to its width.
+// The low 14 bits of a word that three items share: card 5, chip 2 and 7 bits more, each cut to its width. The items put their prefix right of the
+// `|`: on its left the prover computes with it, and shows a screenful.
 fn three(card: u16, chip: u16, low: u16) -> u16
     ensures { λ r. ⌜ r ≡ threeCut card chip low ⌝ }
 {

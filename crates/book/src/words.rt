@@ -6,7 +6,7 @@ ghost use lib.Seq.{sets};
 ghost use Rattle.format.specs.Words.{wordAt};
 ghost use Rattle.book.specs.Promises.{WordRead, LongRead, TimeRead, Copied};
 
-// A byte, as a word.
+// A byte, as a word. A function, so that the cast asks for no proof at each place that reads a byte.
 fn wide(x: u8) -> u16
     ensures { λ r. ⌜ (r ≡ x) × (r < 256) ⌝ }
 {
@@ -39,7 +39,8 @@ pub fn word(s: &[u8], i: usize) -> u16
     end_word(s, i)
 }
 
-// The number of 32 bits whose low word stands at index i.
+// The number of 32 bits whose low word stands at index i. `word` needs no test; the one here, as in `time`, is there because i + 1 and i + 2 must
+// not pass the largest number.
 pub fn long(s: &[u8], i: usize) -> u32
     ensures { λ r. ⌜ LongRead (now (s .entry)) i r ⌝ }
 {

@@ -36,7 +36,8 @@ pub struct Correction {
     pub reason: u32,
 }
 
-// The tests of an edit of an accepted record at the item asked for: 23, 24, 25, 12.
+// The tests of an edit of an accepted record at the item asked for: 23, 24, 25, 12. All are made and the first refusal is told: straight code, to be
+// read against the meaning's list of them.
 fn edit_tests(c: Correction, x: Record, held: Held, room: usize) -> Done
     requires { ⌜ x .total < 65536 ⌝ }
     ensures { λ r. ⌜ viewDone r ≡ itemTests (asked c) (summaryOf x) (asHeld held) room ⌝ }

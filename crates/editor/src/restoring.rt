@@ -22,7 +22,7 @@ use plane::answers::RecordFound;
 use plane::history::undo_from;
 use plane::record;
 
-// Undoes the entries of an accepted record, from the newest down to number k + 1, in a copy of its frame.
+// Undoes the entries of an accepted record, from the newest down to number k + 1, in a copy of its frame. They were tested when it was judged.
 fn rewind(frame: &mut [u8], buf: &[u8], x: Record, k: usize)
     requires { ⌜ Known (now buf) (summaryOf x) × (k ≤ x .count) × (now frame ≡ frameIn (now buf)) ⌝ }
     ensures { λ _. ⌜ now (frame .exit) ≡ restored house first (now (buf .entry)) k ⌝ }
@@ -36,7 +36,8 @@ fn rewind(frame: &mut [u8], buf: &[u8], x: Record, k: usize)
     }
 }
 
-// The frame as it stood after the first k edits, to the start of the second buffer.
+// The frame as it stood after the first k edits, to the start of the second buffer. The entries are undone there, in the caller's own memory and with
+// no scratch: nothing can refuse any more.
 fn write_restored(buf: &[u8], x: Record, k: usize, out: &mut [u8])
     requires { ⌜ Known (now buf) (summaryOf x) × (k ≤ x .count) × (x .length ≤ length (now out)) ⌝ }
     ensures { λ _. ⌜ now (out .exit) ≡ sets (now (out .entry)) 0 (restored house first (now (buf .entry)) k) ⌝ }

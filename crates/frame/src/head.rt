@@ -47,7 +47,8 @@ pub(crate) fn kind_of(w: u16) -> Kind
     Kind::Command
 }
 
-// The number of the first of rules 1 to 5 that is broken, or 0.
+// The number of the first of rules 1 to 5 that is broken, or 0. Apart from the walk: with these early exits before its loop the compiler takes what
+// is called in the loop for rarely used, and does not inline it.
 pub(crate) fn head_fault(s: &[u8]) -> u32
     ensures { λ r. ⌜ r ≡ headFault (now (s .entry)) ⌝ }
 {

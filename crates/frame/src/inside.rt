@@ -1,4 +1,5 @@
-// Words that lie whole inside a slice of bytes: the walk has tested that, so there is no second test here.
+// Words that lie whole inside a slice of bytes: the walk has tested that, so there is no second test here. book's total functions answer the same,
+// and would test the end at every word (bench/README.md). These have a `requires`, so they stay in the crate.
 ghost use mathlib.Core.Path.{_≡_};
 ghost use Prim.Native.Nat.{_+_, _*_, _≤_};
 ghost use lib.ListN.{length};

@@ -62,6 +62,7 @@ pub fn partial(buf: &[u8], n: usize) -> Partial
     let last = n / 2;
     let kind = kind_of(w);
     let card = w & 0x1F;
+    // The walk notes where item 0 stands, which nobody asks here.
     let walked = walk(buf, last, kind, card, 0);
     match walked {
         Walked::Refused(r) => Partial::Refused(r),

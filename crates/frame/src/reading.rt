@@ -83,6 +83,7 @@ pub(crate) fn judge(s: &[u8], n: usize) -> Indexed
 pub fn read(s: &[u8]) -> Reading
     ensures { λ r. ⌜ ReadAs (now (s .entry)) r ⌝ }
 {
+    // Some item is asked for, as there is one walk for every question; where it stands is not looked at.
     let judged = judge(s, 0);
     match judged {
         Indexed::Refused(r) => Reading::Refused(r),

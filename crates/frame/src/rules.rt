@@ -33,7 +33,8 @@ pub enum Step {
     Stopped(u32),
 }
 
-// The first of 8, 9 and 10 whose rule does not hold, else the state after the item.
+// The first of 8, 9 and 10 whose rule does not hold, else the state after the item. Every class hands over its three tests and the state, worked out:
+// one law then makes the turn of all ten classes.
 fn judged(place: bool, value: bool, order: bool, after: State, next: usize) -> Step
     ensures { λ r. ⌜ viewStep r ≡ marked next (tested place value order (viewState after)) ⌝ }
 {
@@ -49,7 +50,7 @@ fn judged(place: bool, value: bool, order: bool, after: State, next: usize) -> S
     Step::Stopped(Refusal::PLACE)
 }
 
-// The order key of a header.
+// The order key of a header. It is not the 14-bit content itself: there is room for sixteen chips (docs/DECISIONS.md).
 fn key(card: u16, chip: u16, channel: u16) -> u32
     ensures { λ r. ⌜ r ≡ items.key card chip channel ⌝ }
 {
@@ -136,7 +137,7 @@ pub fn time_bin(st: State, x: TimeBin, next: usize) -> Step
     )
 }
 
-// The time after this one; 0 where this one is past the last, which the order rule refuses.
+// The time after this one; 0 where this one is past the last, which the order rule refuses: a state may hold any time, and no sum may pass its type.
 fn later(time: u32) -> u32
     ensures { λ r. ⌜ (time ≤ 511 → r ≡ time + 1) × (511 < time → r ≡ 0) ⌝ }
 {
@@ -192,7 +193,8 @@ pub fn start_event(at: usize, st: State, x: StartEvent, next: usize) -> Step
     judged(may_start(mode), x.valid(), true, after, next)
 }
 
-// The words of the event so far, and three for its End event, are half of its size.
+// The words of the event so far, and three for its End event, are half of its size. The size is halved and the words are not doubled, since
+// these may be any number here, and twice that could pass the largest one.
 fn sized(at: usize, opener: usize, size: u32) -> bool
     ensures { λ r. ⌜ r ≡ eqb size (2 * (at - opener) + 6) ⌝ }
 {
@@ -224,7 +226,8 @@ pub fn end_event(at: usize, st: State, x: EndEvent, low: u16, next: usize) -> St
     judged(may_stand_inside(mode), value, true, after, next)
 }
 
-// A text whose bytes passed their test, or did not.
+// A text whose bytes passed their test, or did not. Key and next, which a command frame has no use for, are 0 behind each text as at the start: so no
+// proof has a fact to carry about them.
 pub fn text(st: State, closed: bool, next: usize) -> Step
     ensures { λ r. ⌜ TextStep st closed next r ⌝ }
 {

@@ -1,5 +1,6 @@
 // Runs: items of one manner, one behind the other. Most words of a frame stand in them, so the walk takes a run at once, behind an item that
-// leaves the frame where the run's items stand. Each item of a run is one that `step` would take, and the run ends before any other.
+// leaves the frame where the run's items stand. Each item of a run is one that `step` would take, and the run ends before any other. By `step`
+// alone each word would pay for its class, its rule and a new state; here it pays for a comparison or two (bench/README.md).
 ghost use mathlib.Core.Path.{_≡_};
 ghost use Prim.Native.Nat.{ℕ, _+_, _-_, _*_, _/_, _%_, _≤_, _<_, max, min};
 ghost use lib.ListN.{length};
@@ -43,6 +44,7 @@ pub(crate) fn ahead(count: usize, n: usize) -> usize
     MANY
 }
 
+// The lesser of two; the language has no `min`.
 fn least(a: usize, b: usize) -> usize
     ensures { λ r. ⌜ r ≡ min a b ⌝ }
 {
@@ -69,7 +71,8 @@ fn two_samples(x: u32) -> bool
     (x / 4096 % 16 == 3) & (x / 268435456 == 3)
 }
 
-// Behind the Samples from here on, taken two at a time: it is half the work.
+// Behind the Samples from here on, taken two at a time: it is half the work, since the compiler makes one load of the two words. They are split again
+// by division, which the prover's arithmetic takes apart, and not by masks.
 fn past_pairs(s: &[u8], at: usize, stop: usize) -> usize
     requires { ⌜ (at ≤ stop) × (2 * stop ≤ length (now s)) ⌝ }
     ensures { λ r. ⌜ (at ≤ r) × (r ≤ stop) × ((card last key next opener : ℕ) → stop ≤ last → (at < stop → next + (stop - at) ≤ 512) → Turns card (now (s .entry)) last (r - at) afterSample key next opener at (next + (r - at)) r) ⌝ }

@@ -58,6 +58,8 @@ impl State {
     }
 }
 
+// In the tests below every place has an arm of its own: an arm for several, or `_`, tells a proof only which tags are meant.
+
 // The items may end here: no event is open.
 pub fn may_end(mode: Mode) -> bool
     ensures { λ r. ⌜ MayEnd mode r ⌝ }

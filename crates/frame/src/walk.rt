@@ -104,7 +104,7 @@ fn text_at(s: &[u8], last: usize, at: usize, w: u16, st: State) -> Step
     text(st, closed, next)
 }
 
-// One turn at the word `at`, of the words before word `last`.
+// One turn at the word `at`, of the words before word `last`. It has one caller, the loop below: with a second one the compiler no longer inlines it.
 fn step(s: &[u8], last: usize, at: usize, card: u16, st: State) -> Step
     requires { ⌜ (at < last) × (2 * last ≤ length (now s)) ⌝ }
     ensures { λ r. ⌜ viewStep r ≡ stepOf card (now (s .entry)) last at (viewState st) ⌝ }
@@ -142,7 +142,7 @@ pub enum Walked {
     Refused(Refusal),
 }
 
-// The index noted so far, with item n at hand or not.
+// The index noted so far, with item n at hand or not. As a function it leaves the loop's proof an equation, and no join of branches.
 fn noted(count: usize, n: usize, at: usize, index: usize) -> usize
     ensures { λ r. ⌜ r ≡ pick (eqb count n) at index ⌝ }
 {

@@ -32,6 +32,7 @@ fn record_lines(lines: &mut [u8], buf: &[u8], size: usize, count: usize) -> usiz
     let end = Record::HEADER + size;
     let reading = read(&buf[16..end]);
     match reading {
+        // Never taken: an accepted record's frame is accepted.
         Reading::Refused(_r) => 0,
         Reading::Accepted(f) => {
             let kind = f.kind;
@@ -54,7 +55,8 @@ fn all_lines(lines: &mut [u8], buf: &[u8]) -> usize
     }
 }
 
-// The listing by way of a scratch that holds any: nothing is written where it does not fit.
+// The listing by way of a scratch that holds any: nothing is written where it does not fit. Its length is known only when it is made, and to make it
+// twice would cost more than the copy.
 fn listing_in(scratch: &mut [u8], buf: &[u8], out: &mut [u8]) -> Listing
     requires { ⌜ 82240 ≤ length (now scratch) ⌝ }
     ensures { λ r. ⌜ Listed (now (buf .entry)) (now (out .entry)) (viewListing r) (now (out .exit)) ⌝ }

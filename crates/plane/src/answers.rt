@@ -23,7 +23,7 @@ pub enum SpotFound {
     Nothing,
 }
 
-// What an edit asks of a Sample or Bin: its kind and its value.
+// What an edit asks of a Sample or Bin: its kind and its value. It is a Spot without the key, which only a walk to the item could tell.
 pub struct Held {
     pub kind: u16,
     pub value: u32,

@@ -7,7 +7,7 @@ use crate::answers::Record;
 use book::words::word;
 
 // The buffer has 16 bytes, every header word is right, at most 512 entries stand, and the whole record lies in the buffer. Sums are of whole
-// numbers, with no wrap.
+// numbers, with no wrap. All tests are made, with no early exit: `word` is total, so none needs the one before it.
 pub(crate) fn header_right(b: &[u8]) -> bool
     ensures { λ r. ⌜ r ≡ headerRight first (now (b .entry)) ⌝ }
 {

@@ -64,6 +64,7 @@ fn told_in(
     })
 }
 
+// The same with memory of its own. The arrays stand here and are lent on: in the function that works on them every goal would show all their zeros.
 fn told(frame: &[u8], b: &[u8], x: Record, w: usize) -> Judged
     requires { ⌜ Accepted house (now frame) × (length (now frame) ≡ lengthIn (now b)) × (16 + lengthIn (now b) + 16 * x .count ≤ length (now b)) ⌝ }
     ensures { λ r. ⌜ viewJudged r ≡ toldBy (now (frame .entry)) (now (b .entry)) (summaryOf x) w ⌝ }
@@ -109,6 +110,7 @@ pub fn judge(buf: &[u8], w: usize) -> Judged
 pub fn record(buf: &[u8]) -> RecordFound
     ensures { λ r. ⌜ Recorded (now (buf .entry)) r ⌝ }
 {
+    // Any word will do; what stands there is left aside.
     let judged = judge(buf, 0);
     match judged {
         Judged::Refused(r) => RecordFound::Refused(r),

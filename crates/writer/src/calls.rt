@@ -1,4 +1,4 @@
-// The writer's calls on a partial frame in a lent buffer.
+// The writer's calls on a partial frame in a lent buffer. All tests come first, in functions that can only read: a refusal has nothing to undo.
 ghost use mathlib.Core.Path.{_≡_};
 ghost use Prim.Native.Nat.{_%_};
 ghost use Rattle.format.specs.Frames.{startWord};

@@ -34,7 +34,8 @@ use frame::rules::time_bin;
 use frame::state::State;
 use frame::texts::no_zero;
 
-// An item of so many bytes and an end word fit behind `length` bytes, in the buffer and in a frame.
+// An item of so many bytes and an end word fit behind `length` bytes, in the buffer and in a frame. The first test is for the sum, since `length` may
+// be any number.
 fn has_room(room: usize, length: usize, size: usize) -> bool
     requires { ⌜ size ≤ 1000 ⌝ }
     ensures { λ r. ⌜ r ≡ roomIn room length size ⌝ }
@@ -82,7 +83,7 @@ fn put_words(buf: &mut [u8], length: usize, turn: Step, piece: Piece) -> Put
     }
 }
 
-// What an item is written as.
+// What an item is written as: a plain value, so that the buffer is lent once and not in each arm, which the check pays for (docs/PROVING.md).
 fn piece_of(item: Item) -> Piece
     ensures { λ r. ⌜ pieceBytes r ≡ itemBytes item ⌝ }
 {
