@@ -3,3 +3,4 @@ pub mod ClassLaws
 pub mod Moves
 pub mod SoundMoves
 pub mod TreeMoves
+pub mod TreeLaws

@@ -4,3 +4,4 @@ pub mod HeadLaws
 pub mod Acceptance
 pub mod FaultLaws
 pub mod WalkFaults
+pub mod RefusalLaws

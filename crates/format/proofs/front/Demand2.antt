@@ -1,6 +1,6 @@
 -- Demand 2, in the client's words, for frames. Each sentence is a theorem stated in full and proved by citing one law. What the statements say
 -- is in specs/Frames.antt (`Legal`, `encode`, `verdict`), specs/Rules.antt, specs/Items.antt, specs/Faults.antt, specs/Tree.antt and
--- specs/Runs.antt; the questions' and the writer's own pages are proofs/front/Questions.antt and proofs/front/Writing.antt. The second half says the same of
+-- specs/Runs.antt; the questions' and the writer's own pages are Questions.antt and Writing.antt beside this one. The second half says the same of
 -- what the questions answer and what the writer is handed (specs/Handing.antt); of the code's own calls: writer/proofs/front/Demand2.antt.
 -- Assumes nothing.
 use Prim.Native.Nat.{ℕ, _+_, _<_, _≤_}
@@ -14,16 +14,16 @@ use Rattle.format.specs.Answers.{accepted, refused}
 use Rattle.format.specs.Items.{Item, wordsOf, Token, whole}
 use Rattle.format.specs.Rules.{Kind, mayEnd}
 use Rattle.format.specs.Frames.{Frame, behind, Sound, encode, Legal, verdict}
-use Rattle.format.specs.Faults.{Refused}
-use Rattle.format.specs.Tree.{Tree, leaves}
+use Rattle.format.specs.Faults.{Refused, Answered}
+use Rattle.format.specs.Tree.{Tree, leaves, TreeOf}
 use Rattle.format.specs.WriterCases.{RunWrote}
 use Rattle.format.specs.Runs.{ran, writeAll}
 use Rattle.format.specs.Questions.{Shown, shownAt}
 use Rattle.format.specs.Steps.{Overview, readOf}
 use Rattle.format.specs.Handing.{StandsFor, Told, toldOf, Answers, toldWords, allTold, frameTold, Call, tokenOfCall, callOf, handOver, writeCalls, CallsWrote}
 use Rattle.format.proofs.verdict.Acceptance.{exactly}
-use Rattle.format.proofs.front.Refusals as refusals
-use Rattle.format.proofs.front.Tree as tree
+use Rattle.format.proofs.verdict.RefusalLaws as refusals
+use Rattle.format.proofs.tree.TreeLaws as tree
 use Rattle.format.proofs.writer.Completeness.{written, too-short, run-wrote, rewritten}
 use Rattle.format.proofs.writer.HandingLaws as handing
 
@@ -39,11 +39,11 @@ one-reading = refusals.one-reading
 pub refused-exactly : (s : List ℕ) → Bytes s → (n p : ℕ) → (verdict s ≡ refused n p) ↔ Refused s n p
 refused-exactly = refusals.refusals
 
-pub one-answer : (s : List ℕ) → Bytes s → refusals.Answered s
+pub one-answer : (s : List ℕ) → Bytes s → Answered s
 one-answer = refusals.answered
 
 -- the rules are those of the grammar written as a tree with limits of its own, which is unique (T6b): a second writing guards the first
-pub rules-as-tree : (kind : Kind) (card : ℕ) (xs : List Item) → (Sound kind card [] xs × (mayEnd (behind [] xs) ≡ true)) ↔ tree.TreeOf kind card xs
+pub rules-as-tree : (kind : Kind) (card : ℕ) (xs : List Item) → (Sound kind card [] xs × (mayEnd (behind [] xs) ≡ true)) ↔ TreeOf kind card xs
 rules-as-tree = tree.as-tree
 
 pub one-tree : (kind : Kind) (t u : Tree kind) → leaves kind t ≡ leaves kind u → t ≡ u

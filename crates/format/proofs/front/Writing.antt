@@ -15,7 +15,7 @@ use Rattle.format.specs.Frames.{Frame, behind, Sound, allWords, encode, 
 use Rattle.format.specs.Writing.{Partial, partialWords, partialVerdict, beginAnswer, beginLeft, given, addAnswer, addLeft, closeAnswer, closeLeft}
 use Rattle.format.specs.WriterCases.{PartialAnswer, content, withItem, framed, Ends, oneOf, PartialRefused, Begin, handed, Add, Short, Close, Holds, RunWrote}
 use Rattle.format.specs.Runs.{ran, writeAll}
-use Rattle.format.proofs.front.Refusals.{empty-legal}
+use Rattle.format.proofs.verdict.RefusalLaws.{empty-legal}
 use Rattle.format.proofs.writer.PartialRefusals.{partial-exactly}
 use Rattle.format.proofs.rules.SoundLaws.{sound-left}
 use Rattle.format.proofs.writer.NoDeadEnd.{no-dead-end, partial-ends}

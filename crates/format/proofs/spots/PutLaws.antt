@@ -1,4 +1,4 @@
--- Putting a value, as bytes stored: what they leave of the bytes, and the frame that the new bytes are. T25 follows in Stability.
+-- Putting a value, as bytes stored: what they leave of the bytes, and the frame that the new bytes are. T25 follows in StabilityLaws.
 -- Assumes nothing.
 use Prim.Native.Nat.{ℕ, zero, suc, _+_, _*_, _<_, _≤_}
 use mathlib.Core.Path.{_≡_, refl, sym, ap, ap₂, subst, _∙_}

@@ -21,7 +21,7 @@ use Rattle.format.specs.Runs.{ran, writeAll}
 use Rattle.format.specs.Faults.{Refused}
 use Rattle.format.specs.Handing.{StandsFor, Told, toldOf, Answers, no-more, then, toldWords, allTold, frameTold, Call, byAdd, byText, tokenOfCall, callOf, handOver, writeCalls, CallsWrote}
 use Rattle.format.proofs.verdict.Acceptance.{exactly, sound}
-use Rattle.format.proofs.front.Refusals.{refusals}
+use Rattle.format.proofs.verdict.RefusalLaws.{refusals}
 use Rattle.format.proofs.questions.ItemQuestions.{item-stands, all-words, item-there, item-past, item-refused, text-of}
 use Rattle.format.proofs.writer.WriterSteps.{encode-length}
 use Rattle.format.proofs.writer.Completeness.{written, too-short, run-wrote, rewritten}
