@@ -4,3 +4,4 @@ pub mod GivenLaws
 pub mod NumberLaws
 pub mod Unique
 pub mod Once
+pub mod RefusedLaws

@@ -4,3 +4,4 @@ pub mod Putting
 pub mod Listings
 pub mod Unique
 pub mod Splits
+pub mod SameListings

@@ -1,26 +1,24 @@
 -- The front page of the static library: what a caller may go by. Each export's promise is its contract in src/; here is what the promise says of
 -- `refused`: it is 0 exactly where document 01's call is accepted, and where it is not 0, all lent memory is as found. That a promise has one
--- answer is Unique.antt.
+-- answer is Unique.antt. Each theorem cites one law: `exactly`, `kept` or `law.follow-accepts`, at what the call is.
 -- Assumes nothing.
 use Prim.Native.Nat.{ℕ, _≤_}
-use mathlib.Core.Path.{_≡_, refl, sym, ap, _∙_}
+use mathlib.Core.Path.{_≡_}
 use mathlib.Core.Logic.{_↔_}
 use mathlib.Core.List.{List}
-use mathlib.Core.Option.{Option, none, some}
-use native.Mathlib.Omega.{arith}
+use mathlib.Core.Option.{Option}
 use lib.ListN.{length}
 use Rattle.format.specs.Words.{Bytes}
-use Rattle.format.specs.Answers.{Outcome, accepted, refused}
-use Rattle.format.specs.Items.{Item, Text, whole}
+use Rattle.format.specs.Answers.{accepted}
+use Rattle.format.specs.Items.{Text, whole}
 use Rattle.format.specs.Rules.{Kind}
 use Rattle.format.specs.Steps.{Overview, readOf}
-use Rattle.format.specs.Questions.{Shown, shownAt, Event, eventAt, samplesAt, samplesLeft, countsAt, countsLeft, done}
+use Rattle.format.specs.Questions.{Shown, shownAt, Event, eventAt, samplesAt, countsAt, done}
 use Rattle.format.specs.Writing.{addAnswer, addLeft, closeAnswer, closeLeft}
-use Rattle.format.proofs.front.Writing.{begin-refused-leaves, add-refused-leaves, close-refused-leaves}
+use Rattle.format.proofs.front.Writing.{add-refused-leaves, close-refused-leaves}
 use Rattle.follower.specs.Follow as follow
-use Rattle.follower.proofs.front.Sequence.{refusals}
 use Rattle.ledger.specs.Formats as formats
-use Rattle.ledger.specs.Calls.{Summary, recordAnswer, entryAnswer, openAnswer, openExit, editAnswer, editExit, restoreAnswer, restoreExit}
+use Rattle.ledger.specs.Calls.{Summary, recordAnswer, entryAnswer, openAnswer, editAnswer, restoreAnswer}
 use Rattle.ledger.specs.First.{first}
 use Rattle.ledger.specs.House.{house}
 use Rattle.ledger.proofs.calls.Writes.{open-found, edit-found, restore-found}
@@ -39,7 +37,9 @@ use Rattle.exports.specs.Flat.{flatFrame, flatFound, flatEvent, flatWrit
 use Rattle.exports.specs.Given.{asked, followerOf, begun, begunLeft, tokenOf}
 use Rattle.exports.specs.Promises.{Leaves, Sampled, Counted, Opened, Edited, Restored}
 use Rattle.exports.proofs.NumberLaws as numbers
-use Rattle.exports.proofs.Unique.{exactly, refuses, done-tells, frame-tells, found-tells, event-tells, written-tells, record-tells, entry-tells}
+use Rattle.exports.proofs.RefusedLaws as law
+use Rattle.exports.proofs.RefusedLaws.{kept, samples-found, counts-found, begin-found}
+use Rattle.exports.proofs.Unique.{exactly, done-tells, frame-tells, found-tells, event-tells, written-tells, record-tells, entry-tells}
 
 -- ---- the questions
 
@@ -60,24 +60,12 @@ module _ (s : List ℕ) (bs : Bytes s) where
     pub counts-accepts : (chip c : ℕ) → Counted s chip c out r left → (r .refused ≡ 0) ↔ ((u : Unit {0}) × (done (countsAt s chip c (length out)) ≡ accepted u))
     counts-accepts chip c w = exactly _ _ _ _ _ done-tells _ (numbers.counts-numbered s bs chip c (length out)) r (w .answered)
 
-samples-found : (o : Outcome (List Item)) (out : List ℕ) (n p : ℕ) → done o ≡ refused n p → samplesLeft o out ≡ out
-samples-found (accepted xs) out n p e = let z : _≡_ {A = ℕ} 0 1 = cc in absurd (omega arith)
-samples-found (refused m q) out n p e = refl
-
-counts-found : (o : Outcome (List Item)) (out : List ℕ) (n p : ℕ) → done o ≡ refused n p → countsLeft o out ≡ out
-counts-found (accepted xs) out n p e = let z : _≡_ {A = ℕ} 0 1 = cc in absurd (omega arith)
-counts-found (refused m q) out n p e = refl
-
 module _ (s out : List ℕ) (r : PlaneDone) (left : List ℕ) where
   pub samples-leaves : (e chip c : ℕ) → Sampled s e chip c out r left → 1 ≤ r .refused → left ≡ out
-  samples-leaves e chip c w l =
-      let (n, p, h) = refuses _ _ _ _ _ done-tells _ r (w .answered) l in
-      w .written ∙ samples-found (samplesAt s e chip c (length out)) out n p h
+  samples-leaves e chip c = kept _ _ _ _ _ done-tells _ _ out (samples-found (samplesAt s e chip c (length out)) out) r left
 
   pub counts-leaves : (chip c : ℕ) → Counted s chip c out r left → 1 ≤ r .refused → left ≡ out
-  counts-leaves chip c w l =
-      let (n, p, h) = refuses _ _ _ _ _ done-tells _ r (w .answered) l in
-      w .written ∙ counts-found (countsAt s chip c (length out)) out n p h
+  counts-leaves chip c = kept _ _ _ _ _ done-tells _ _ out (counts-found (countsAt s chip c (length out)) out) r left
 
 -- ---- the writer
 
@@ -86,12 +74,8 @@ module _ (buf : List ℕ) (r : PlaneWritten) (left : List ℕ) where
     pub begin-accepts : (r .refused ≡ 0) ↔ ((n : ℕ) × (begun kind buf card sequence ≡ accepted n))
     begin-accepts = exactly _ _ _ _ _ written-tells _ (numbers.begin-numbered kind buf card sequence) r (w .answered)
 
-    begin-found : (k : Option Kind) (n p : ℕ) → begun k buf card sequence ≡ refused n p → begunLeft k buf card sequence ≡ buf
-    begin-found none n p e = refl
-    begin-found (some k) n p e = begin-refused-leaves buf k card sequence n p e
-
     pub begin-leaves : 1 ≤ r .refused → left ≡ buf
-    begin-leaves l = let (n, p, h) = refuses _ _ _ _ _ written-tells _ r (w .answered) l in w .written ∙ begin-found kind n p h
+    begin-leaves = kept _ _ _ _ _ written-tells _ _ buf (begin-found kind buf card sequence) r left w
 
   module _ (n : ℕ) where
     module _ (x : PlaneItem) (w : Leaves (flatWritten (addAnswer buf n (tokenOf x))) (addLeft buf n (tokenOf x)) r left) where
@@ -99,37 +83,27 @@ module _ (buf : List ℕ) (r : PlaneWritten) (left : List ℕ) where
       add-accepts bs = exactly _ _ _ _ _ written-tells _ (numbers.add-numbered buf bs n x) r (w .answered)
 
       pub add-leaves : 1 ≤ r .refused → left ≡ buf
-      add-leaves l = let (k, p, h) = refuses _ _ _ _ _ written-tells _ r (w .answered) l in w .written ∙ add-refused-leaves buf n _ k p h
+      add-leaves = kept _ _ _ _ _ written-tells _ _ buf (add-refused-leaves buf n (tokenOf x)) r left w
 
     module _ (t : List ℕ) (w : Leaves (flatWritten (addAnswer buf n (whole (Text t)))) (addLeft buf n (whole (Text t))) r left) where
       pub add-text-accepts : Bytes buf → (r .refused ≡ 0) ↔ ((m : ℕ) × (addAnswer buf n (whole (Text t)) ≡ accepted m))
       add-text-accepts bs = exactly _ _ _ _ _ written-tells _ (numbers.add-text-numbered buf bs n t) r (w .answered)
 
       pub add-text-leaves : 1 ≤ r .refused → left ≡ buf
-      add-text-leaves l = let (k, p, h) = refuses _ _ _ _ _ written-tells _ r (w .answered) l in w .written ∙ add-refused-leaves buf n _ k p h
+      add-text-leaves = kept _ _ _ _ _ written-tells _ _ buf (add-refused-leaves buf n (whole (Text t))) r left w
 
     module _ (w : Leaves (flatWritten (closeAnswer buf n)) (closeLeft buf n) r left) where
       pub close-accepts : Bytes buf → (r .refused ≡ 0) ↔ ((m : ℕ) × (closeAnswer buf n ≡ accepted m))
       close-accepts bs = exactly _ _ _ _ _ written-tells _ (numbers.close-numbered buf bs n) r (w .answered)
 
       pub close-leaves : 1 ≤ r .refused → left ≡ buf
-      close-leaves l = let (k, p, h) = refuses _ _ _ _ _ written-tells _ r (w .answered) l in w .written ∙ close-refused-leaves buf n k p h
+      close-leaves = kept _ _ _ _ _ written-tells _ _ buf (close-refused-leaves buf n) r left w
 
 -- ---- the follower
 
 pub follow-accepts : (x : PlaneFollower) (word : ℕ) (r : PlaneFollowed) → r ≡ flatFollowed x (follow.follow (followerOf x) word)
     → (r .refused ≡ 0) ↔ ((lost : ℕ) × (next : follow.State) × (follow.follow (followerOf x) word ≡ follow.accepted lost next))
-unfolding flatFollowed
-follow-accepts x word r e =
-    ((λ z. go (follow.follow (followerOf x) word) refl (sym (ap (λ (q : PlaneFollowed). q .refused) e) ∙ z)), (λ w. ap (λ (q : PlaneFollowed). q .refused) e ∙ ap (λ (a : follow.Answer). flatFollowed x a .refused) (w .2)))
-  where
-    from-one : (s : follow.State) (w n p : ℕ) → follow.Given s w n p → n ≡ 0 → ⊥
-    from-one s w n p (follow.sequence h) z = omega arith
-    from-one s w n p (follow.noStart h i) z = omega arith
-
-    go : (a : follow.Answer) → follow.follow (followerOf x) word ≡ a → flatFollowed x a .refused ≡ 0 → (lost : ℕ) × (next : follow.State) × (a ≡ follow.accepted lost next)
-    go (follow.accepted lost next) i z = (lost, next, refl)
-    go (follow.refused n p) i z = absurd (from-one _ _ n p (refusals (followerOf x) word n p .0 i) z)
+follow-accepts = law.follow-accepts
 
 -- ---- records
 
@@ -154,10 +128,10 @@ module _ (b : List ℕ) (bs : Bytes b) where
 module _ (b : List ℕ) (r : PlaneDone) (left : List ℕ) (l : 1 ≤ r .refused) where
   -- of the frame f, in b
   pub open-leaves : (f : List ℕ) → Opened f b r left → left ≡ b
-  open-leaves f w = let (n, p, h) = refuses _ _ _ _ _ done-tells _ r (w .answered) l in w .written ∙ open-found house first f b n p h
+  open-leaves f w = kept _ _ _ _ _ done-tells _ _ b (open-found house first f b) r left w l
 
   pub edit-leaves : (c : PlaneCorrection) → Edited b (asked c) r left → left ≡ b
-  edit-leaves c w = let (n, p, h) = refuses _ _ _ _ _ done-tells _ r (w .answered) l in w .written ∙ edit-found house first b (asked c) n p h
+  edit-leaves c w = kept _ _ _ _ _ done-tells _ _ b (edit-found house first b (asked c)) r left w l
 
   pub restore-leaves : (k : ℕ) (out : List ℕ) → Restored b k out r left → left ≡ out
-  restore-leaves k out w = let (n, p, h) = refuses _ _ _ _ _ done-tells _ r (w .answered) l in w .written ∙ restore-found house first b k out n p h
+  restore-leaves k out w = kept _ _ _ _ _ done-tells _ _ out (restore-found house first b k out) r left w l

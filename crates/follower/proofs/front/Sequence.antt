@@ -1,7 +1,7 @@
 -- The front page of the follower: what is promised of sequence numbers, each statement in full and proved by one law. Quoted: document 01.
 -- The code's promise is that its answers are those of `follow` (src/lib.rt); here is what `follow` answers. Assumes nothing.
 use Prim.Native.Nat.{ℕ, _+_, _-_, _%_, _<_, _≤_}
-use mathlib.Core.Path.{_≡_, refl, sym, ap}
+use mathlib.Core.Path.{_≡_, refl, sym}
 use mathlib.Core.List.{List, [], _∷_}
 use mathlib.Core.Logic.{_↔_}
 use Rattle.follower.specs.declared.Follower.{Follower}
@@ -27,7 +27,7 @@ from-0-to-255 = line.from-0-to-255
 
 -- "a refusal leaves it as it was"
 pub refusal-leaves : (s : State) (word n p : ℕ) → follow s word ≡ refused n p → after s (follow s word) ≡ s
-refusal-leaves s word n p e = ap (after s) e
+refusal-leaves = line.refusal-leaves
 
 -- "Word 0x0100: nothing lost, expect 1."
 pub start : (s : State) → follow s 0x0100 ≡ accepted 0 (expecting 1)
@@ -51,7 +51,7 @@ above s word h = sym (line.passes s word h)
 
 -- It is refused exactly where the table of numbered refusals lists it, by that number and at that place (T35).
 pub refusals : (s : State) (word n p : ℕ) → (follow s word ≡ refused n p) ↔ Given s word n p
-refusals s word n p = (line.given s word n p, line.gives)
+refusals = line.refusals
 
 -- THE LOSS (T22): "A made-up loss .. falls to the modulo rule".
 
@@ -62,7 +62,7 @@ loss-exactly = loss.exactly
 
 -- There is such a number,
 pub loss-exists : (e nn : ℕ) → e < 256 → nn < 256 → (l : ℕ) × (l < 256) × ((e + l) % 256 ≡ nn)
-loss-exists e nn a b = (_, loss.below e nn, loss.reaches e nn a b)
+loss-exists = loss.exists
 
 -- and no second one.
 pub loss-only : (e nn l k : ℕ) → e < 256 → l < 256 → k < 256 → (e + l) % 256 ≡ nn → (e + k) % 256 ≡ nn → l ≡ k

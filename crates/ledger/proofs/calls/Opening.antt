@@ -31,6 +31,10 @@ module _ (B : FrameBook) (F : Format) where
   pub open-exactly : (f b : List ℕ) → (openAnswer B F f b ≡ accepted tt) ↔ ((B .judge f ≡ accepted tt) × (16 + length f ≤ length b))
   open-exactly f b = (open-parts f b, parts-open f b)
 
+  -- so of an accepted frame where there is room
+  pub open-room : (f b : List ℕ) → B .judge f ≡ accepted tt → (openAnswer B F f b ≡ accepted tt) ↔ (16 + length f ≤ length b)
+  open-room f b j = (λ e. open-parts f b e .1, λ r. parts-open f b (j, r))
+
   pub open-refused : (f b : List ℕ) (n p : ℕ) → B .judge f ≡ refused n p → openAnswer B F f b ≡ refused n p
   unfolding openAnswer firstOf
   open-refused f b n p e = rw e

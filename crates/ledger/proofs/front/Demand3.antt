@@ -51,7 +51,7 @@ module _ (B : FrameBook) (F : Format) (L : Lawful B F) where
 
   -- > "An accepted frame is refused a record only where the buffer is too short,"
   pub opened-exactly : (f buf : List ℕ) → B .judge f ≡ accepted tt → (openAnswer B F f buf ≡ accepted tt) ↔ (16 + length f ≤ length buf)
-  opened-exactly f buf j = (λ e. opening.open-exactly B F f buf .0 e .1, λ r. opening.open-exactly B F f buf .1 (j, r))
+  opened-exactly f buf j = opening.open-room B F f buf j
 
   pub too-short : (f buf : List ℕ) → B .judge f ≡ accepted tt → length buf < 16 + length f → openAnswer B F f buf ≡ refused 12 0
   too-short f buf = opening.open-no-room B F f buf
@@ -178,7 +178,7 @@ module _ (B : FrameBook) (F : Format) (L : Lawful B F) where
       → (openAnswer B F (restored B F b 0) b ≡ accepted tt)
       × (recordAfter B F (restored B F b 0) b (map correctionOf (oldestFirst (entriesIn F b))) ≡ b)
       × (acceptedEdits B F (restored B F b 0) b (map correctionOf (oldestFirst (entriesIn F b))) ≡ map correctionOf (oldestFirst (entriesIn F b)))
-  made-again b y e = (backward.backward-opens B F L b y e, backward.backward-makes B F L b y e, backward.backward-all B F L b y e)
+  made-again b y e = backward.backward-again B F L b y e
 
   -- so calls on any accepted record are calls that follow its own history, and every sentence above holds of them too
   pub continued : (b : List ℕ) → Bytes b → recordVerdict B F b ≡ accepted tt → (cs : List Correction)

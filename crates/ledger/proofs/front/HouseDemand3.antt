@@ -6,16 +6,15 @@
 -- buf after f was opened in it and the edit calls cs were made, accepted or refused; `acceptedEdits f buf cs` are the accepted ones, in order. In
 -- this format a correction has no `extra`. Assumes nothing.
 use Prim.Native.Nat.{ℕ, suc, _+_, _*_, _≤_, _<_}
-use mathlib.Core.Path.{_≡_, ap, _∙_}
+use mathlib.Core.Path.{_≡_}
 use mathlib.Core.Logic.{_↔_, _⊎_}
 use mathlib.Core.List.{List, [], _∷_, _++_, map}
 use mathlib.Core.Option.{some}
 use lib.ListN.{length, getD, take, drop}
 use Rattle.format.specs.Words.{Bytes, wordAt}
-use Rattle.format.specs.Answers.{Outcome, accepted, refused}
+use Rattle.format.specs.Answers.{accepted, refused}
 use Rattle.format.specs.Faults.{Refused}
 use Rattle.format.specs.Frames.{Frame, verdict}
-use Rattle.format.specs.Questions.{done}
 use Rattle.format.specs.Spots.{Spot, spot, put, revalued, withValue, SpotIs, withItems}
 use Rattle.ledger.specs.Tests.{Plain}
 use Rattle.ledger.specs.Formats.{Entry, Correction}
@@ -23,17 +22,13 @@ use Rattle.ledger.specs.Records.{countIn, frameIn, entriesIn, recordVerd
 use Rattle.ledger.specs.Calls.{entryFor, recordAnswer, entryAnswer, openAnswer, openExit, editAnswer, editExit, restored, restoreAnswer, restoreExit}
 use Rattle.ledger.specs.Histories.{oldestFirst, correctionOf, frameAfter, entriesOf, run, recordAfter, acceptedEdits, Point, Sequence}
 use Rattle.ledger.specs.First.{first}
-use Rattle.ledger.specs.House.{house, house-judge, Free}
+use Rattle.ledger.specs.House.{house, Free}
 use Rattle.ledger.specs.Layout.{totalLength, frameOf, headerFor, entryWritten, historyWritten}
 use Rattle.ledger.specs.Reasons.{HeaderBroken, Back, NewestUnfit, RecordRefused, ofHeader, ofFrame, OpenRefused, EditRefused, RestoreRefused, EntryRefused}
 use Rattle.ledger.proofs.answers.AnswersDue as due
 use Rattle.ledger.proofs.front.Demand3 as demand3
-use Rattle.ledger.proofs.house.House.{house-first}
+use Rattle.ledger.proofs.house.House.{judges, house-first}
 use Rattle.ledger.proofs.house.HouseEdits as edits
-
--- an accepted frame, as the book judges it
-judged : (f : List ℕ) (g : Frame) → verdict f ≡ accepted g → house .judge f ≡ accepted tt
-judged f g v = house-judge f ∙ ap (λ (o : Outcome Frame). done o) v
 
 -- > "Put an accepted frame into a record with no history,"
 pub put-into-a-record : (f buf : List ℕ) → openAnswer house first f buf ≡ accepted tt
@@ -55,10 +50,10 @@ own-beyond = edits.beyond-laid
 
 -- > "An accepted frame is refused a record only where the buffer is too short,"
 pub opened-exactly : (f buf : List ℕ) (g : Frame) → verdict f ≡ accepted g → (openAnswer house first f buf ≡ accepted tt) ↔ (16 + length f ≤ length buf)
-opened-exactly f buf g v = demand3.opened-exactly house first house-first f buf (judged f g v)
+opened-exactly f buf g v = demand3.opened-exactly house first house-first f buf (judges f g v)
 
 pub too-short : (f buf : List ℕ) (g : Frame) → verdict f ≡ accepted g → length buf < 16 + length f → openAnswer house first f buf ≡ refused 12 0
-too-short f buf g v = demand3.too-short house first house-first f buf (judged f g v)
+too-short f buf g v = demand3.too-short house first house-first f buf (judges f g v)
 
 -- every refusal of an opening, exactly: the frame's own, then 12 (specs/Reasons.antt, `OpenRefused`)
 pub opening-refused : (f buf : List ℕ) → Bytes f → (n p : ℕ) → (openAnswer house first f buf ≡ refused n p) ↔ OpenRefused f buf n p

@@ -191,6 +191,12 @@ module _ (B : FrameBook) (F : Format) (L : Lawful B F) where
     pub backward-all : made B F (openExit B F (restored B F b 0) b) (map correctionOf (oldestFirst (entriesIn F b))) ≡ map correctionOf (oldestFirst (entriesIn F b))
     backward-all = rw (← oldest-map correctionOf (entriesIn F b)) (holds-replays (restored B F b 0) (map correctionOf (entriesIn F b)) b (accepted-holds b y e) .all)
 
+    -- all three at once
+    pub backward-again : (openAnswer B F (restored B F b 0) b ≡ accepted tt)
+        × (run B F (openExit B F (restored B F b 0) b) (map correctionOf (oldestFirst (entriesIn F b))) ≡ b)
+        × (made B F (openExit B F (restored B F b 0) b) (map correctionOf (oldestFirst (entriesIn F b))) ≡ map correctionOf (oldestFirst (entriesIn F b)))
+    backward-again = (backward-opens, backward-makes, backward-all)
+
     -- so calls on any accepted record are calls that follow its own
     pub backward-continues : (cs : List Correction)
         → run B F b cs ≡ run B F (openExit B F (restored B F b 0) b) (map correctionOf (oldestFirst (entriesIn F b)) ++ cs)

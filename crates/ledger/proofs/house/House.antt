@@ -1,7 +1,7 @@
 -- Document 01's own frames are a lawful book, so that demand 3 holds of records over them.
 -- Assumes nothing.
 use Prim.Native.Nat.{ℕ, _≤_}
-use mathlib.Core.Path.{_≡_, refl, sym, ap}
+use mathlib.Core.Path.{_≡_, refl, sym, ap, _∙_}
 use mathlib.Core.Logic.{_⊎_, ⊎-elim}
 use mathlib.Core.Bool.{true}
 use mathlib.Core.List.{List}
@@ -20,7 +20,7 @@ use Rattle.format.proofs.front.Stability as stability
 use Rattle.ledger.specs.Frames.{Spot, revalued, Accepted, Settable, LawfulBook}
 use Rattle.ledger.specs.Formats.{Lawful}
 use Rattle.ledger.specs.First.{first}
-use Rattle.ledger.specs.House.{told, toldOf, house}
+use Rattle.ledger.specs.House.{told, toldOf, house, house-judge}
 use Rattle.ledger.proofs.house.FirstLaws.{first-lawful}
 
 -- a spot that the book tells is the frame's own
@@ -39,7 +39,10 @@ same-told o none e = go o e
     go (some p) h = no-some (told p) (sym h)
 same-told o (some p) e = owned o (told p) e
 
--- an accepted frame is the verdict's
+-- the verdict accepts a frame exactly where the book judges it right
+pub judges : (f : List ℕ) (g : Frame) → verdict f ≡ accepted g → house .judge f ≡ accepted tt
+judges f g v = house-judge f ∙ ap (λ (o : Outcome Frame). done o) v
+
 pub judged : (o : Outcome Frame) → done o ≡ accepted tt → (f : Frame) × (o ≡ accepted f)
 judged (accepted f) e = (f, refl)
 judged (refused n p) e = let z : _≡_ {A = ℕ} 0 1 = cc in absurd (omega arith)

@@ -1,9 +1,8 @@
 -- What document 01 says that `list` prints, by computation: case 10 after its edit; and beside it the same record before its edit and with its
 -- entry cut off, an entry that does not fit, and an empty buffer.
 -- Assumes nothing.
-use Prim.Native.Nat.{ℕ}
 use mathlib.Core.Path.{_≡_, refl}
-use mathlib.Core.List.{List, [], _∷_, map}
+use mathlib.Core.List.{[], _∷_, map}
 use lib.ListN.{take}
 use lib.Seq.{sets}
 use Rattle.format.specs.Words.{words, bytes, nonZero, allZero}
@@ -20,14 +19,11 @@ use Rattle.ledger.specs.Calls.{newValue, undone, openAnswer, openExit, editTest
 use Rattle.ledger.specs.Histories.{run}
 use Rattle.ledger.specs.First.{first}
 use Rattle.ledger.specs.House.{house}
-use Rattle.ledger.specs.HouseTable.{recorded, correction}
+use Rattle.ledger.specs.HouseTable.{recorded}
 use Rattle.lines.specs.Ascii.{ascii}
+use Rattle.lines.specs.Figures.{edited}
 use Rattle.lines.specs.Text.{decimalIn, decimal, hex}
 use Rattle.lines.specs.Listing.{frameLine, changeText, signerText, entryLine, endLine, refusedLine, entryLines, frameOf, listing}
-
--- case 10's record after its edit
-abbrev edited : List ℕ
-edited = recorded (correction 11 260 ∷ [])
 
 pub figures
     : map listing (edited ∷ recorded [] ∷ take 65 edited ∷ sets edited 64 (6 ∷ []) ∷ [] ∷ [])
