@@ -34,7 +34,7 @@ use Rattle.editor.specs.declared.editing.Correction.{Correction}
 use Rattle.editor.specs.Views.{viewDone, asked}
 use Rattle.editor.specs.Promises.{Opened, Edited, Restored}
 use Rattle.plane.specs.Promises.{Recorded, EntryTold}
-use Rattle.editor.specs.Sequences.{Calls, madeBy, corrected, entriesFor, correctionFor, Moment, AllGiven, Sequence}
+use Rattle.editor.specs.Sequences.{Calls, madeBy, corrected, entriesFor, toldOf, correctionFor, Moment, AllGiven, Sequence}
 use Rattle.editor.proofs.CallLaws.{says-accepted, says-refused, after-calls, edits-of-calls, count-of-calls, asked-take, asked-nth, moment}
 use Rattle.editor.proofs.SequenceLaws as sequences
 use Rattle.editor.proofs.Effects as effects
@@ -179,15 +179,7 @@ module _ (f buf : List ℕ) (y : Bytes f) (b : List ℕ) (o : Opened f buf (view
   pub entry-asked : (j : ℕ) → j < length (madeBy cs rs) → (d : Correction) (r : EntryFound) → EntryTold e (suc j) r
       → (p : Spot)
       × (spot (corrected f (take j (madeBy cs rs))) (getD (madeBy cs rs) j d .word) ≡ some p)
-      × (r
-      ≡ entries.Entry (record {
-        word = getD (madeBy cs rs) j d .word;
-        kind = p .kind;
-        old = p .value;
-        new = getD (madeBy cs rs) j d .value;
-        operator = getD (madeBy cs rs) j d .operator;
-        reason = getD (madeBy cs rs) j d .reason;
-      }))
+      × (r ≡ entries.Entry (toldOf (getD (madeBy cs rs) j d) p))
   entry-asked j h d r t =
       let l = subst (λ (m : ℕ). j < m) (sym as-many) h in
       let m = ap (take j) edits ∙ asked-take j (madeBy cs rs) in

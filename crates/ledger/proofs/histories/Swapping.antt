@@ -19,6 +19,19 @@ use Rattle.ledger.proofs.calls.Editing.{edit-judged, edit-exactly, edit
 use Rattle.ledger.proofs.histories.Backward.{accepted-holds}
 
 module _ (B : FrameBook) (F : Format) (L : Lawful B F) where
+  -- a correction may be made on every frame that has the same item there
+  legal-on : (g h : List ℕ) (d : Correction) → B .spot h (d .word) ≡ B .spot g (d .word) → Legal B F g d → Legal B F h d
+  legal-on g h d e l = record {
+    spot = l .spot;
+    stands = e ∙ l .stands;
+    suits = l .suits;
+    legal = l .legal;
+    changed = l .changed;
+    operator = l .operator;
+    reason = l .reason;
+    good = l .good;
+  }
+
   -- what may be asked of one item does not depend on the value put in another
   module _ (g : List ℕ) (w v : ℕ) (s : Spot) (S : Settable B g w v s) (d : Correction) (n : d .word ≡ w → ⊥) where
     same-spot : B .spot (B .put g w v) (d .word) ≡ B .spot g (d .word)
@@ -28,28 +41,10 @@ module _ (B : FrameBook) (F : Format) (L : Lawful B F) where
     same-entry = rw same-spot
 
     legal-before : Legal B F (B .put g w v) d → Legal B F g d
-    legal-before l = record {
-      spot = l .spot;
-      stands = sym same-spot ∙ l .stands;
-      suits = l .suits;
-      legal = l .legal;
-      changed = l .changed;
-      operator = l .operator;
-      reason = l .reason;
-      good = l .good;
-    }
+    legal-before = legal-on (B .put g w v) g d (sym same-spot)
 
     legal-after : Legal B F g d → Legal B F (B .put g w v) d
-    legal-after l = record {
-      spot = l .spot;
-      stands = same-spot ∙ l .stands;
-      suits = l .suits;
-      legal = l .legal;
-      changed = l .changed;
-      operator = l .operator;
-      reason = l .reason;
-      good = l .good;
-    }
+    legal-after = legal-on g (B .put g w v) d same-spot
 
   module _ (f : List ℕ) (h : List Correction) (b : List ℕ) (H : Holds B F f h b) (c d : Correction) (n : d .word ≡ c .word → ⊥)
       (a : Allowed B F b c) (a₂ : Allowed B F (editWritten B F b c) d) where
