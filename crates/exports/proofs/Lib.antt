@@ -1,6 +1,7 @@
+pub mod front
 pub mod TextLaws
 pub mod GivenLaws
 pub mod NumberLaws
 pub mod Unique
-pub mod Exports
 pub mod Once
+pub mod RefusedLaws

@@ -1,6 +1,6 @@
 -- What the follower answers, by the tests that a reader of the word makes; when it refuses; that its state stays in range. Assumes nothing.
 use Prim.Native.Nat.{ℕ, _+_, _%_, _<_, _≤_}
-use mathlib.Core.Path.{_≡_, refl, sym, subst, _∙_}
+use mathlib.Core.Path.{_≡_, refl, sym, ap, subst, _∙_}
 use mathlib.Core.Bool.{Bool, true, false}
 use mathlib.Core.Logic.{_↔_}
 use native.Mathlib.Omega.{arith}
@@ -102,6 +102,13 @@ given s word n p = given-at s word n p (line s word)
 pub gives : {s : State} {word n p : ℕ} → Given s word n p → follow s word ≡ refused n p
 gives {s} {word} (sequence h) = sym (passes s word h)
 gives {s} {word} (noStart h b) = sym (at-early word h b)
+
+-- refused exactly where the table lists it
+pub refusals : (s : State) (word n p : ℕ) → (follow s word ≡ refused n p) ↔ Given s word n p
+refusals s word n p = (given s word n p, gives)
+
+pub refusal-leaves : (s : State) (word n p : ℕ) → follow s word ≡ refused n p → after s (follow s word) ≡ s
+refusal-leaves s word n p e = ap (after s) e
 
 pub from-0-to-255 : (e : ℕ) → InRange (expecting e) ↔ (e ≤ 255)
 from-0-to-255 e = (λ (h : e < 256). omega arith, λ (h : e ≤ 255). omega arith)

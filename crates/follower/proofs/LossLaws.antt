@@ -12,6 +12,9 @@ below e nn = omega arith
 pub reaches : (e nn : ℕ) → e < 256 → nn < 256 → (e + difference nn e) % 256 ≡ nn
 reaches e nn a b = omega arith
 
+pub exists : (e nn : ℕ) → e < 256 → nn < 256 → (l : ℕ) × (l < 256) × ((e + l) % 256 ≡ nn)
+exists e nn a b = (_, below e nn, reaches e nn a b)
+
 pub only : (e nn l k : ℕ) → e < 256 → l < 256 → k < 256 → (e + l) % 256 ≡ nn → (e + k) % 256 ≡ nn → l ≡ k
 only e nn l k a b c f g = omega arith
 

@@ -1,16 +1,17 @@
 -- When each refusal of a frame is due and at what place, in document 01's words ("Numbered refusals") and with no word of a walk; a partial frame's
 -- items and a new item of the writer are refused by the same words.
 -- Assumes nothing.
-use Prim.Native.Nat.{ℕ, suc, _+_, _/_, _%_, _<_, _≤_}
+use Prim.Native.Nat.{ℕ, suc, _+_, _-_, _/_, _%_, _<_, _≤_}
 use mathlib.Core.Path.{_≡_}
 use mathlib.Core.List.{List, []}
 use mathlib.Core.Bool.{true, false}
 use lib.ListN.{length, take, drop}
 use Rattle.format.specs.Words.{words, wordAt}
+use Rattle.format.specs.Answers.{accepted, refused}
 use Rattle.format.specs.Book.{Class, unassigned, classOf, after}
 use Rattle.format.specs.Items.{Item, classFor, wordsOf}
 use Rattle.format.specs.Rules.{Kind, place, value, order, mayEnd}
-use Rattle.format.specs.Frames.{behind, Sound, allWords, isStart, lastOf, kindIn, cardIn, front}
+use Rattle.format.specs.Frames.{Frame, behind, Sound, allWords, encode, Legal, isStart, lastOf, kindIn, cardIn, front, verdict}
 
 -- ---- rules 1 to 5: what breaks each
 pub data HeadBroken (s : List ℕ) : ℕ → Type 0 where
@@ -88,3 +89,19 @@ pub data Refused (s : List ℕ) : ℕ → ℕ → Type 0 where
   -- "then 11", at "that of the last word": all items are faultless, and an event is open
   ofEnd : (xs : List Item) → ((m : ℕ) → HeadBroken s m → ⊥) → Sound (kindIn s) (cardIn s) [] xs
       → drop 3 (front s) ≡ allWords xs → mayEnd (behind [] xs) ≡ false → Refused s 11 (lastOf s)
+
+-- ---- its number, 1 to 11, and its place: "the word index of the item for 6 to 10, that of the last word for 11, .. else 0"
+pub record Placed (s : List ℕ) (n p : ℕ) : Type 0 where
+  pub least : 1 ≤ n
+  pub most : n ≤ 11
+  pub head : n ≤ 5 → p ≡ 0
+  pub item : 6 ≤ n → n ≤ 10 → (3 ≤ p) × (p < length s / 2 - 1)
+  pub last : n ≡ 11 → p ≡ length s / 2 - 1
+
+-- ---- one answer: some bytes are read as the one legal frame that is written so and no refusal is due, or one refusal of 1 to 11 is due and they are
+-- no legal frame's
+pub data Answered (s : List ℕ) : Type 0 where
+  reads : (f : Frame) → verdict s ≡ accepted f → Legal f → s ≡ encode f
+      → ((g : Frame) → Legal g → s ≡ encode g → g ≡ f) → ((n p : ℕ) → Refused s n p → ⊥) → Answered s
+  refuses : (n p : ℕ) → verdict s ≡ refused n p → 1 ≤ n → n ≤ 11
+      → ((m r : ℕ) → Refused s m r → (m ≡ n) × (r ≡ p)) → ((f : Frame) → Legal f → s ≡ encode f → ⊥) → Answered s

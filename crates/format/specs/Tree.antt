@@ -1,5 +1,5 @@
 -- A frame's items as a tree: a second writing of place, value and order, with limits of its own, apart from the one in Rules and Items (document
--- 01, "Shape of a frame"). That the two say the same is proved in proofs/Tree.
+-- 01, "Shape of a frame"). That the two say the same is stated in proofs/front/Tree.antt.
 -- Assumes nothing.
 use Prim.Native.Nat.{ℕ, suc, _+_, _*_, _^_, _<_, _≤_}
 use mathlib.Core.Path.{_≡_}
@@ -157,3 +157,9 @@ Limited card (x ∷ xs) = Limits card x × Limited card xs
 pub record Lawful (kind : Kind) (card : ℕ) (tree : Tree kind) : Type 0 where
   pub shaped : Shaped kind tree
   pub limited : Limited card (leaves kind tree)
+
+-- some items are the leaves of a lawful tree
+pub record TreeOf (kind : Kind) (card : ℕ) (xs : List Item) : Type 0 where
+  pub tree : Tree kind
+  pub lawful : Lawful kind card tree
+  pub leaves-are : leaves kind tree ≡ xs

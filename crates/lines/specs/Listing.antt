@@ -1,6 +1,7 @@
 -- What the program `list` prints of a buffer (document 01, "Figures to agree with").
 -- Assumes nothing.
-use Prim.Native.Nat.{ℕ, zero, suc}
+use Prim.Native.Nat.{ℕ, zero, suc, _≤_}
+use mathlib.Core.Path.{_≡_}
 use mathlib.Core.List.{List, [], _++_}
 use lib.ListN.{length}
 use lib.Seq.{sets}
@@ -74,3 +75,14 @@ listingAnswer b found = andThen (need (leb (length (listing b)) (length found)) 
 
 unfoldable pub listingExit : List ℕ → List ℕ → List ℕ
 listingExit b found = leaves (listingAnswer b found) found (sets found 0 (listing b))
+
+-- ---- what a listing speaks of, alike in two accepted records b and c with the frames f and g: kind, card, sequence word, length and number of items
+-- of the frame, and the entries
+pub record SameRecord (b c : List ℕ) (f g : Frame) : Type 0 where
+  pub kind : f .kind ≡ g .kind
+  pub card : f .card ≡ g .card
+  pub sequence : f .sequence ≡ g .sequence
+  pub size : lengthIn b ≡ lengthIn c
+  pub items : length (f .items) ≡ length (g .items)
+  pub count : countIn b ≡ countIn c
+  pub entries : (j : ℕ) → 1 ≤ j → j ≤ countIn b → numbered first b j ≡ numbered first c j
