@@ -15,8 +15,9 @@ use Rattle.format.specs.Book as paper
 use Rattle.format.specs.Book.{classOf}
 use Rattle.format.specs.Items as items
 use Rattle.format.specs.Items.{wordsOf, fits, decode, tokenOf, whole}
+use Rattle.format.specs.Fields.{total, cut, pack, Fit, widths}
 use Rattle.format.proofs.book.BookLaws.{ranged}
-use Rattle.format.proofs.book.FieldLaws.{total, cut, pack, Fit, widths, cut-fit, cut-packed, pack-cut}
+use Rattle.format.proofs.book.FieldLaws.{cut-fit, cut-packed, pack-cut}
 use Rattle.format.proofs.items.WrittenLaws.{content-fit, first-word, read-content}
 use Rattle.book.specs.declared.items.Channel.{Channel}
 use Rattle.book.specs.declared.items.Histogram.{Histogram}

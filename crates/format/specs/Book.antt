@@ -3,7 +3,9 @@
 use mathlib.Core.Bool.{Bool, true, false}
 use mathlib.Core.List.{List, [], _∷_}
 use mathlib.Core.Option.{Option, none, some}
-use Prim.Native.Nat.{ℕ, _+_, _/_, _%_}
+use Prim.Native.Nat.{ℕ, zero, suc, _+_, _/_, _%_, _≤_}
+use lib.ListN.{getD}
+use Rattle.format.specs.Words.{pick}
 use Rattle.format.specs.Prefix.{Row, find}
 
 pub data Class : Type 0 where
@@ -102,3 +104,20 @@ printed startEvent = range 0x00F0 0x00FF
 printed endEvent = range 0x00E0 0x00EF
 printed frameEnd = range 0x000F 0x000F
 printed unassigned = range 1 0
+
+-- the word lies in the range
+abbrev pub Within : ℕ → Range → Type 0
+Within w g = (g .from ≤ w) × (w ≤ g .to)
+
+-- the book's row k, from 0
+abbrev pub nth : ℕ → Row Class
+nth k = getD book k (row 0 0 unassigned)
+
+-- the sum of f over the n numbers from a
+unfoldable pub sum : (ℕ → ℕ) → ℕ → ℕ → ℕ
+sum f a zero = 0
+sum f a (suc n) = f a + sum f (suc a) n
+
+-- 1 for an unassigned word, 0 for any other
+abbrev pub unread : ℕ → ℕ
+unread w = pick (assigned (classOf w)) 0 1

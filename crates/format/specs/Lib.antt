@@ -3,6 +3,7 @@ pub mod Answers
 pub mod Prefix
 pub mod Book
 pub mod Items
+pub mod Fields
 pub mod Rules
 pub mod Frames
 pub mod Questions

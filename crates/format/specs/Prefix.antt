@@ -1,7 +1,8 @@
 -- A word's class by prefixes of varying length, tried in the table's order: for any table and any kind of class. The laws are in proofs/book/PrefixLaws.
 -- Assumes nothing.
+use mathlib.Core.Path.{_≡_}
 use mathlib.Core.Bool.{Bool, true, not, _&&_}
-use mathlib.Core.List.{List, [], _∷_}
+use mathlib.Core.List.{List, [], _∷_, List·Memᴰ}
 use mathlib.Core.Option.{Option, none, some}
 use Prim.Native.Nat.{ℕ, _/_, _^_, _-_}
 use lib.Dec.{eqb, leb}
@@ -36,3 +37,10 @@ module _ {A : Type 0} where
   abbrev pub prefixFree : List (Row A) → Bool
   prefixFree [] = true
   prefixFree (p ∷ t) = leb (p .bits) 16 && (apart p t && prefixFree t)
+
+  -- a row of the table that the word matches, of class c
+  pub record Matched (t : List (Row A)) (w : ℕ) (c : A) : Type 0 where
+    pub row : Row A
+    pub member : List·Memᴰ row t
+    pub fits : matches row w ≡ true
+    pub class : row .class ≡ c

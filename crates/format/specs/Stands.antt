@@ -79,3 +79,11 @@ pub record Fill (n blank : ℕ) (Standing : ℕ → ℕ → Type 0) (found left 
   pub blanks : (i : ℕ) → i < n → ((v : ℕ) → Standing i v → ⊥) → getD left i 0 ≡ blank
   pub beyond : (i : ℕ) → n ≤ i → getD left i 0 ≡ getD found i 0
   pub kept : length left ≡ length found
+
+-- how many Samples of the channel stand before it
+abbrev pub sampleOrdinal : {ys : List Item} {t v : ℕ} → SampleIn ys t v → ℕ
+sampleOrdinal h = count sample (h .before) + length (h .run)
+
+-- how many Bins of the histogram stand before it
+abbrev pub binOrdinal : {ys : List Item} {b n : ℕ} → BinIn ys b n → ℕ
+binOrdinal h = length (h .before)

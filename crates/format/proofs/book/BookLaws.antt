@@ -2,18 +2,17 @@
 -- Assumes nothing.
 use mathlib.Core.Path.{_≡_, refl, sym, ap, subst, _∙_}
 use mathlib.Core.Logic.{_↔_}
-use mathlib.Core.Bool.{Bool, true, false, true≢false}
-use mathlib.Core.Option.{Option, none, some}
+use mathlib.Core.Bool.{true, true≢false}
 use mathlib.Core.List.{List, [], _∷_, map, List·Memᴰ, List·Memᴰ·head, List·Memᴰ·tail, List·Memᴰ·not-nil}
-use Prim.Native.Nat.{ℕ, suc, _+_, _*_, _/_, _%_, _^_, _-_, _≤_, _<_}
+use Prim.Native.Nat.{ℕ, _+_, _*_, _/_, _%_, _^_, _-_, _≤_, _<_}
 use native.Mathlib.Omega.{arith}
 use native.Mathlib.Nat.{mod-lt}
 use lib.Pow.{split, high, pow-pos}
-use lib.ListN.{length, getD}
+use lib.ListN.{length}
 use borrow.Author.Tests.{eqb-true, eq-eqb}
-use Rattle.format.specs.Prefix.{Row, matches, find, prefixFree}
-use Rattle.format.specs.Book.{Class, channel, histogram, hitCount, sample, bin, lastCell, timeBin, dataFrame, monitorFrame, commandFrame, text, startEvent, endEvent, frameEnd, unassigned, row, book, named, classOf, assigned, Range, range, printed}
-use Rattle.format.proofs.book.PrefixLaws.{Searched, hit, miss, searched, found, missed, Misses, all-missed, nth-row}
+use Rattle.format.specs.Prefix.{Row, matches, prefixFree}
+use Rattle.format.specs.Book.{Class, unassigned, row, book, named, classOf, assigned, Range, range, printed, Within, nth}
+use Rattle.format.proofs.book.PrefixLaws.{Searched, hit, miss, searched, found, Misses, all-missed, nth-row}
 
 -- no prefix of the book begins another
 pub book-free : prefixFree book ≡ true
@@ -70,14 +69,6 @@ from-span r w f =
     let e : r .prefix * n + w % n ≡ w = ap (λ (q : ℕ). q * n + w % n) (sym (eqb-true _ _ f)) ∙ split w (16 - r .bits) in
     let l : w % n < n = mod-lt w pos in
     (omega arith, omega arith)
-
--- the word lies in the range
-abbrev pub Within : ℕ → Range → Type 0
-Within w g = (g .from ≤ w) × (w ≤ g .to)
-
--- a word of the book's row k is of that row's class
-abbrev pub nth : ℕ → Row Class
-nth k = getD book k (row 0 0 unassigned)
 
 module _ (w : ℕ) where
   pub of-row : (r : Row Class) → List·Memᴰ r book → matches r w ≡ true → classOf w ≡ r .class

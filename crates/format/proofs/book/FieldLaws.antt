@@ -1,7 +1,7 @@
 -- T3, over shift and width: the fields of a word "are cut from the word by position", high bits first, and "go in the same way". One pair of
 -- laws for any list of widths; then the widths of document 01's table, for every class at once.
 -- Assumes nothing.
-use Prim.Native.Nat.{ℕ, _+_, _-_, _*_, _/_, _%_, _^_, _<_}
+use Prim.Native.Nat.{ℕ, _+_, _-_, _*_, _/_, _%_, _^_}
 use mathlib.Core.Path.{_≡_, refl, sym, ap, ap₂, _∙_}
 use mathlib.Core.List.{List, [], _∷_, List·Memᴰ}
 use mathlib.Core.Bool.{true}
@@ -9,31 +9,9 @@ use native.Mathlib.Nat.{add-comm, div-one, mod-lt}
 use lib.Pow.{pow-pos, split, high, low, shr-shr}
 use borrow.Author.Tests.{eqb-true}
 use Rattle.format.specs.Prefix.{Row, matches}
-use Rattle.format.specs.Book.{Class, channel, histogram, hitCount, sample, bin, lastCell, timeBin, dataFrame, monitorFrame, commandFrame, text, startEvent, endEvent, frameEnd, unassigned, book}
+use Rattle.format.specs.Book.{Class, book}
+use Rattle.format.specs.Fields.{total, cut, pack, Fit, widths}
 use Rattle.format.proofs.book.BookLaws.{each}
-
--- how many bits fields of these widths take
-abbrev pub total : List ℕ → ℕ
-total [] = 0
-total (n ∷ ns) = n + total ns
-
--- the fields of these widths in the low bits of a word: each at the place that the widths behind it leave
-abbrev pub cut : List ℕ → ℕ → List ℕ
-cut [] w = []
-cut (n ∷ ns) w = (w / 2 ^ total ns % 2 ^ n) ∷ cut ns w
-
--- the word with these fields below a head
-abbrev pub pack : List ℕ → ℕ → List ℕ → ℕ
-pack [] h xs = h
-pack (n ∷ ns) h [] = pack ns (h * 2 ^ n) []
-pack (n ∷ ns) h (x ∷ xs) = pack ns (h * 2 ^ n + x) xs
-
--- one value for each width, and none too wide
-abbrev pub Fit : List ℕ → List ℕ → Type 0
-Fit [] [] = Unit {0}
-Fit [] (x ∷ xs) = ⊥
-Fit (n ∷ ns) [] = ⊥
-Fit (n ∷ ns) (x ∷ xs) = (x < 2 ^ n) × Fit ns xs
 
 -- what is cut fits
 pub cut-fit : (ns : List ℕ) (w : ℕ) → Fit ns (cut ns w)
@@ -69,24 +47,6 @@ pack-cut (n ∷ ns) w =
     (ap (λ (k : ℕ). w / 2 ^ k) (add-comm n (total ns)) ∙ sym (shr-shr w (total ns) n))
     ∙ split (w / 2 ^ total ns) n)
     ∙ pack-cut ns w
-
--- document 01's column "Content, high bits first", of each class
-abbrev pub widths : Class → List ℕ
-widths channel = 5 ∷ 2 ∷ 7 ∷ []
-widths histogram = 5 ∷ 2 ∷ 7 ∷ []
-widths hitCount = 5 ∷ 2 ∷ 7 ∷ []
-widths sample = 12 ∷ []
-widths bin = 12 ∷ []
-widths lastCell = 2 ∷ 9 ∷ []
-widths timeBin = 9 ∷ []
-widths dataFrame = 4 ∷ 5 ∷ []
-widths monitorFrame = 4 ∷ 5 ∷ []
-widths commandFrame = 4 ∷ 5 ∷ []
-widths text = 8 ∷ []
-widths startEvent = 4 ∷ []
-widths endEvent = 4 ∷ []
-widths frameEnd = []
-widths unassigned = []
 
 -- in every row the prefix and the fields fill the word
 abbrev Fills : Row Class → Type 0

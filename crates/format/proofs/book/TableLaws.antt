@@ -5,22 +5,15 @@ use mathlib.Core.Path.{_≡_, refl, sym, ap, _∙_}
 use mathlib.Core.Logic.{_↔_}
 use mathlib.Core.Bool.{Bool, true, false, true≢false}
 use mathlib.Core.Option.{Option, none, some}
-use mathlib.Core.List.{List, List·Memᴰ}
+use mathlib.Core.List.{List}
 use native.Mathlib.Omega.{arith}
 use lib.Dec.{lit<}
-use Rattle.format.specs.Prefix.{Row, matches, find, prefixFree}
-use Rattle.format.specs.Book.{Class, channel, histogram, hitCount, sample, bin, lastCell, timeBin, dataFrame, monitorFrame, commandFrame, text, startEvent, endEvent, frameEnd, unassigned, classOf, assigned, printed}
+use Rattle.format.specs.Prefix.{Row, find, prefixFree, Matched}
+use Rattle.format.specs.Book.{Class, channel, histogram, hitCount, sample, bin, lastCell, timeBin, dataFrame, monitorFrame, commandFrame, text, startEvent, endEvent, frameEnd, unassigned, classOf, assigned, printed, Within}
 use Rattle.format.proofs.book.PrefixLaws.{Searched, hit, miss, searched, found}
-use Rattle.format.proofs.book.BookLaws.{Within, ranged, in-range}
+use Rattle.format.proofs.book.BookLaws.{ranged, in-range}
 
 module _ {A : Type 0} where
-  -- a row of the table that the word matches, of class c
-  pub record Matched (t : List (Row A)) (w : ℕ) (c : A) : Type 0 where
-    pub row : Row A
-    pub member : List·Memᴰ row t
-    pub fits : matches row w ≡ true
-    pub class : row .class ≡ c
-
   same-class : (c d : A) → some c ≡ some d → c ≡ d
   same-class c d e = cc
 

@@ -8,17 +8,12 @@ use native.Mathlib.Nat.{add-zero, add-suc, suc-add, zero-add, suc-mul, add-comm,
 use native.Mathlib.Omega.{arith}
 use Rattle.format.specs.Words.{pick}
 use Rattle.format.specs.Prefix.{find}
-use Rattle.format.specs.Book.{Class, book, named, classOf, assigned}
+use Rattle.format.specs.Book.{Class, book, named, classOf, assigned, sum, unread}
 use Rattle.format.proofs.book.PageLaws.{paged, by-page}
 
 -- the book is such a table
 pub book-paged : paged book ≡ true
 book-paged = refl
-
--- the sum of f over the n numbers from a
-unfoldable pub sum : (ℕ → ℕ) → ℕ → ℕ → ℕ
-sum f a zero = 0
-sum f a (suc n) = f a + sum f (suc a) n
 
 module _ (f : ℕ → ℕ) where
   sum-append : (m a n : ℕ) → sum f a (m + n) ≡ sum f a m + sum f (a + m) n
@@ -34,10 +29,6 @@ module _ (f : ℕ → ℕ) where
       ap₂ _+_ (ap f (sym (add-zero a)) ∙ h 0 (omega arith))
       (sum-same v n (suc a) (λ i k. ap f (suc-add a i ∙ sym (add-suc a i)) ∙ h (suc i) (omega arith)))
       ∙ add-comm v (n * v) ∙ sym (suc-mul n v)
-
--- 1 for an unassigned word, 0 for any other
-abbrev pub unread : ℕ → ℕ
-unread w = pick (assigned (classOf w)) 0 1
 
 -- a page's 256 words are as its first
 page : (h : ℕ) → (h ≡ 0 → ⊥) → sum unread (h * 256) 256 ≡ 256 * unread (h * 256)

@@ -8,25 +8,20 @@ use mathlib.Core.Bool.{true, false}
 use mathlib.Core.Option.{none, some}
 use mathlib.Core.List.{List, _∷_, _++_, map, flatten, List·Memᴰ}
 use lib.ListN.{length, getD, take, drop}
-use Rattle.format.specs.Prefix.{Row, matches, find, prefixFree}
-use Rattle.format.specs.Book.{Class, unassigned, book, classOf, after, assigned, printed}
+use Rattle.format.specs.Prefix.{Row, matches, find, prefixFree, Matched}
+use Rattle.format.specs.Book.{Class, unassigned, book, classOf, after, assigned, printed, Within, nth, sum, unread}
 use Rattle.format.specs.Items.{Item, classFor, three, wordsOf, fits, inRange, whole, tokenOf, tokens, key}
 use Rattle.format.specs.Tree.{Limits}
+use Rattle.format.specs.Fields.{cut, pack, Fit, widths, content, rowFor, firstWord, laterWords, Read, total}
+use Rattle.format.specs.Figures.{figures, figureWords}
 use Rattle.format.proofs.book.BookFigures as figure
-use Rattle.format.proofs.book.BookFigures.{figures, figureWords}
 use Rattle.format.proofs.book.PrefixLaws as prefix
 use Rattle.format.proofs.book.BookLaws as ranges
-use Rattle.format.proofs.book.BookLaws.{Within, nth}
 use Rattle.format.proofs.book.TableLaws as table
-use Rattle.format.proofs.book.TableLaws.{Matched}
 use Rattle.format.proofs.book.Unassigned as count
-use Rattle.format.proofs.book.Unassigned.{sum, unread}
 use Rattle.format.proofs.book.FieldLaws as field
-use Rattle.format.proofs.book.FieldLaws.{cut, pack, Fit, widths}
 use Rattle.format.proofs.items.ItemLaws as item
-use Rattle.format.proofs.items.ItemLaws.{Read}
 use Rattle.format.proofs.items.WrittenLaws as written
-use Rattle.format.proofs.items.WrittenLaws.{content, rowFor, firstWord, laterWords}
 use Rattle.format.proofs.rules.LimitLaws as limit
 use Rattle.format.proofs.rules.KeyLaws as keys
 
@@ -68,10 +63,10 @@ book-unassigned = table.class-none
 pub book-unassigned-count : sum unread 0 65536 ≡ 3807
 book-unassigned-count = count.unassigned-count
 
--- T3. "The fields are cut from the word by position", "high bits first" (proofs/book/FieldLaws, `widths`: the printed widths), and go in the same way.
+-- T3. "The fields are cut from the word by position", "high bits first" (specs/Fields, `widths`: the printed widths), and go in the same way.
 
 -- In every row, prefix and fields fill the word;
-pub fields-fill : (r : Row Class) → List·Memᴰ r book → 16 - r .bits ≡ field.total (widths (r .class))
+pub fields-fill : (r : Row Class) → List·Memᴰ r book → 16 - r .bits ≡ total (widths (r .class))
 fields-fill = field.fills
 
 -- a word of a row is the row's prefix and the fields cut from it;
@@ -135,7 +130,7 @@ item-data = item.tokens-skip
 pub key-rises : (a b c a′ b′ c′ : ℕ) → b < 4 → c < 128 → b′ < 4 → c′ < 128 → (key a b c < key a′ b′ c′) ↔ (three a b c < three a′ b′ c′)
 key-rises = keys.key-rises
 
--- FIGURES: the words that document 01 prints for the items of its cases 3 and 7, and a few more (proofs/book/BookFigures, which has words that are no
+-- FIGURES: the words that document 01 prints for the items of its cases 3 and 7, and a few more (proofs/book/BookFigures has words that are no
 -- item's as well), are what these items are written as, and are read as these items.
 pub figures-written : flatten (map wordsOf figures) ≡ figureWords
 figures-written = figure.figures-written

@@ -14,10 +14,9 @@ use Rattle.format.specs.Items.{Item, Text, StartEvent, EndEvent, classFo
 use Rattle.format.specs.Rules.{dataKind, same, count}
 use Rattle.format.specs.Frames.{Frame, allWords, verdict}
 use Rattle.format.specs.Questions.{Event, itemAt, shown, shownAt, textAt, eventAt, samplesAt, samplesLeft, countsAt, countsLeft}
-use Rattle.format.specs.Stands.{ItemIs, indexOf, EventIn, ChannelIn, HistogramIn, SampleIn, BinIn, Fill}
+use Rattle.format.specs.Stands.{ItemIs, indexOf, EventIn, ChannelIn, HistogramIn, SampleIn, BinIn, Fill, sampleOrdinal, binOrdinal}
 use Rattle.format.proofs.questions.ItemQuestions as items
 use Rattle.format.proofs.questions.EventQuestions as events
-use Rattle.format.proofs.questions.StandLaws.{sampleOrdinal, binOrdinal}
 use Rattle.format.proofs.questions.FillQuestions as fill
 use Rattle.format.proofs.writer.HandingLaws as handing
 

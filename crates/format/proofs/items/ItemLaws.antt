@@ -3,22 +3,23 @@
 -- Assumes nothing.
 use Prim.Native.Nat.{ℕ, zero, suc, _+_, _-_, _*_, _/_, _%_, _<_, _≤_}
 use mathlib.Core.Path.{_≡_, refl, sym, ap, ap₂, subst, _∙_}
-use mathlib.Core.List.{List, [], _∷_, _++_, map}
-use mathlib.Core.Bool.{Bool, true, false, _&&_, true≢false}
+use mathlib.Core.List.{List, [], _∷_, _++_}
+use mathlib.Core.Bool.{Bool, true, false, _&&_}
 use mathlib.Core.Option.{Option, none, some}
 use native.Mathlib.Omega.{arith}
-use lib.Dec.{leb, ltb, eqb, lit<}
+use lib.Dec.{leb, ltb, lit<}
 use lib.Pow.{areBytes, mod-pow-add}
-use lib.ListN.{length, getD, take, drop, length-append, length-take, length-drop, take-append-drop}
-use lib.Seq.{take-at, drop-at, length-take-le, getD-drop}
-use borrow.Author.Tests.{leb-true, leb-false, ltb-true, eqb-true, le-leb, lt-ltb, eq-eqb}
-use Rattle.format.specs.Words.{pick, Bytes, words, bytes, longOf, timeOf, longWords, timeWords, nonZero, allZero}
+use lib.ListN.{length, getD, take, drop, length-append, length-drop, take-append-drop}
+use lib.Seq.{take-at, drop-at, length-take-le}
+use borrow.Author.Tests.{leb-true, eqb-true, le-leb, lt-ltb}
+use Rattle.format.specs.Words.{pick, words, bytes, longOf, timeOf, longWords, timeWords, nonZero}
 use Rattle.format.specs.Book.{Class, channel, histogram, hitCount, sample, bin, lastCell, timeBin, dataFrame, monitorFrame, commandFrame, text, startEvent, endEvent, frameEnd, unassigned, classOf, after, assigned}
-use Rattle.format.specs.Items.{ItemOf, Item, Channel, Histogram, HitCount, Sample, Bin, LastCell, TimeBin, Text, StartEvent, EndEvent, classFor, three, wordsOf, fits, closed, decode, Token, whole, broken, flawed, tokenFor, tokenOf, tokens}
+use Rattle.format.specs.Items.{ItemOf, Item, Channel, Histogram, HitCount, Sample, Bin, LastCell, TimeBin, Text, StartEvent, EndEvent, classFor, three, wordsOf, fits, decode, Token, whole, flawed, tokenFor, tokenOf, tokens}
+use Rattle.format.specs.Fields.{Read}
 use Rattle.format.proofs.book.PrefixLaws.{and-left, and-right, and-both}
 use Rattle.format.proofs.book.BookLaws.{ranged, in-range}
-use Rattle.format.proofs.items.WordLaws.{words-bytes, length-words, bytes-below, long-there, long-back, long-below, time-there, time-back, time-below, below-drop, below-take}
-use Rattle.format.proofs.items.TextLaws.{are-bytes, bytes-are, text-there, TextRead, text-back}
+use Rattle.format.proofs.items.WordLaws.{length-words, bytes-below, long-there, long-back, long-below, time-there, time-back, time-below, below-drop, below-take}
+use Rattle.format.proofs.items.TextLaws.{are-bytes, bytes-are, text-there, text-back}
 
 -- three fields of a word below its head: card 5, chip 2, and 7 bits
 three-there : (h a b c : ℕ) → h % 16384 ≡ 0 → leb a 31 && leb b 3 && leb c 127 ≡ true
@@ -119,12 +120,6 @@ read-written x rest f =
     let n : after (classOf w) w ≡ length ws = ap (λ (c : Class). after c w) (h .class) ∙ h .count in
     let a : assigned (classOf w) ≡ true = ap assigned (h .class) ∙ item-assigned x in
     rw (h .words, n, a, le-leb (length ws) (length (ws ++ rest)) (omega (arith, length-append ws rest)), take-at ws rest (length ws) refl, h .class, h .read, tokens-skip (length ws) (ws ++ rest), drop-at ws rest (length ws) refl)
-
--- T3, back: a word of a class, with its words after it, is what its content is written as
-pub record Read (w : ℕ) (ws : List ℕ) (x : Item) : Type 0 where
-  pub words : w ∷ ws ≡ wordsOf x
-  pub fits : fits x ≡ true
-  pub class : classFor x ≡ classOf w
 
 some-item : (x y : Item) → some x ≡ some y → x ≡ y
 some-item x y e = cc

@@ -13,39 +13,13 @@ use lib.ListN.{length, getD, take, drop, length-drop}
 use lib.Seq.{take-all}
 use borrow.Author.Tests.{leb-true}
 use Rattle.format.specs.Words.{words, bytes, longOf, longWords, timeWords, nonZero}
-use Rattle.format.specs.Book.{Class, channel, histogram, hitCount, sample, bin, lastCell, timeBin, dataFrame, monitorFrame, commandFrame, text, startEvent, endEvent, frameEnd, unassigned, classOf, after}
+use Rattle.format.specs.Book.{Class, channel, histogram, hitCount, sample, bin, lastCell, timeBin, dataFrame, monitorFrame, commandFrame, text, startEvent, endEvent, frameEnd, unassigned, classOf, after, nth}
 use Rattle.format.specs.Items.{ItemOf, Item, Channel, Histogram, HitCount, Sample, Bin, LastCell, TimeBin, Text, StartEvent, EndEvent, classFor, wordsOf, fits, closed, decode, Token, whole, tokenOf, tokens}
+use Rattle.format.specs.Fields.{cut, Fit, widths, content, rowFor, laterWords, firstWord}
 use Rattle.format.proofs.book.PrefixLaws.{and-left, and-right}
-use Rattle.format.proofs.book.BookLaws.{nth}
 use Rattle.format.proofs.items.WordLaws.{pick-elim}
 use Rattle.format.proofs.items.ItemLaws.{Written, read-written, written-read, token-passed, tokens-skip}
-use Rattle.format.proofs.book.FieldLaws.{cut, pack, Fit, widths, cut-packed}
-
--- CONTENT: the fields of an item's first word, in the book's order. A text's is its n, the final zero counted; an End event's is zero.
-abbrev pub content : Item → List ℕ
-content (Channel a b c) = a ∷ b ∷ c ∷ []
-content (Histogram a b c) = a ∷ b ∷ c ∷ []
-content (HitCount a b c) = a ∷ b ∷ c ∷ []
-content (Sample v) = v ∷ []
-content (Bin b n) = b ∷ []
-content (LastCell a b) = a ∷ b ∷ []
-content (TimeBin t) = t ∷ []
-content (Text s) = (length s + 1) ∷ []
-content (StartEvent t ts n) = t ∷ []
-content (EndEvent n) = 0 ∷ []
-
--- the item's row of the book
-abbrev pub rowFor : {T : Type 0} → ItemOf T → ℕ
-rowFor (Channel a b c) = 0
-rowFor (Histogram a b c) = 1
-rowFor (HitCount a b c) = 2
-rowFor (Sample v) = 3
-rowFor (Bin b n) = 4
-rowFor (LastCell a b) = 5
-rowFor (TimeBin t) = 6
-rowFor (Text s) = 10
-rowFor (StartEvent t ts n) = 11
-rowFor (EndEvent n) = 12
+use Rattle.format.proofs.book.FieldLaws.{cut-packed}
 
 pub row-class : {T : Type 0} (x : ItemOf T) → nth (rowFor x) .class ≡ classFor x
 row-class (Channel a b c) = refl
@@ -58,23 +32,6 @@ row-class (TimeBin t) = refl
 row-class (Text s) = refl
 row-class (StartEvent t ts n) = refl
 row-class (EndEvent n) = refl
-
--- the words after the first
-abbrev pub laterWords : Item → List ℕ
-laterWords (Channel a b c) = []
-laterWords (Histogram a b c) = []
-laterWords (HitCount a b c) = []
-laterWords (Sample v) = []
-laterWords (Bin b n) = longWords n
-laterWords (LastCell a b) = []
-laterWords (TimeBin t) = []
-laterWords (Text s) = words (s ++ (0 ∷ []))
-laterWords (StartEvent t ts n) = timeWords ts ++ longWords n
-laterWords (EndEvent n) = longWords n
-
--- an item's first word
-abbrev pub firstWord : Item → ℕ
-firstWord x = pack (widths (classFor x)) (nth (rowFor x) .prefix) (content x)
 
 -- T3, put in: the first word is the prefix of the item's row with its content below it
 pub first-word : (x : Item) → wordsOf x ≡ firstWord x ∷ laterWords x

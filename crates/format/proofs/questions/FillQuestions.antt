@@ -2,7 +2,7 @@
 -- Assumes nothing.
 use Prim.Native.Nat.{ℕ, _<_, _≤_}
 use mathlib.Core.Path.{_≡_, sym, ap, subst, _∙_}
-use mathlib.Core.List.{List, []}
+use mathlib.Core.List.{List}
 use mathlib.Core.Logic.{_↔_}
 use native.Mathlib.Omega.{arith}
 use lib.ListN.{length, getD}
@@ -12,10 +12,10 @@ use Rattle.format.specs.Answers.{Outcome, accepted, refused}
 use Rattle.format.specs.Items.{Item}
 use Rattle.format.specs.Frames.{Frame, verdict}
 use Rattle.format.specs.Questions.{present, past, isHistogram, channelIn, cleared, samplesAt, countsAt, samplesLeft, countsLeft}
-use Rattle.format.specs.Stands.{ChannelIn, HistogramIn, SampleIn, BinIn, Fill}
+use Rattle.format.specs.Stands.{ChannelIn, HistogramIn, SampleIn, BinIn, Fill, sampleOrdinal, binOrdinal}
 use Rattle.format.proofs.questions.MarkLaws.{Mark, MarkIs, Rise, in-bounds, one-mark, one-value, setAll, filled}
 use Rattle.format.proofs.questions.FillLaws.{sampleMarks, samples-filled, samples-rise, binMarks, counts-filled, bins-rise}
-use Rattle.format.proofs.questions.StandLaws.{sampleOrdinal, sample-mark, sample-in, binOrdinal, bin-mark, bin-in}
+use Rattle.format.proofs.questions.StandLaws.{sample-mark, sample-in, bin-mark, bin-in}
 use Rattle.format.proofs.questions.FindLaws.{channel-there, channel-in, channel-absent, channel-sound, one-place, histogram-there, histogram-in, histogram-absent, histogram-sound, one-histogram-place}
 use Rattle.format.proofs.questions.EventQuestions.{Sounds, sounds}
 

@@ -13,7 +13,7 @@ use Rattle.format.specs.Items.{Item, Channel, Histogram, HitCount, Sampl
 use Rattle.format.specs.Rules.{Kind, count, among}
 use Rattle.format.specs.Frames.{Sound}
 use Rattle.format.specs.Questions.{pickNth}
-use Rattle.format.specs.Stands.{only, SampleIn, BinIn}
+use Rattle.format.specs.Stands.{only, SampleIn, BinIn, sampleOrdinal, binOrdinal}
 use Rattle.format.proofs.book.PrefixLaws.{and-left, and-right, and-both}
 use Rattle.format.proofs.rules.SoundLaws.{sound-head}
 use Rattle.format.proofs.questions.ItemQuestions.{no-some}
@@ -100,10 +100,6 @@ before-marks u t v time (x ∷ before) run after o r e =
         ap (λ (y : Item). pickNth (count sample (y ∷ before) + length run) (sampleMarks u (y ∷ rest))) i
         ∙ ap (λ (j : ℕ). pickNth j (sampleMarks u (TimeBin w ∷ rest))) k ∙ h w
 
--- how many Samples of the channel stand before it
-abbrev pub sampleOrdinal : {ys : List Item} {t v : ℕ} → SampleIn ys t v → ℕ
-sampleOrdinal h = count sample (h .before) + length (h .run)
-
 pub sample-mark : (ys : List Item) (t v : ℕ) (h : SampleIn ys t v) → MarkIs (sampleMarks 0 ys) (sampleOrdinal h) t v
 sample-mark ys t v h =
     ap (λ (l : List Item). pickNth (sampleOrdinal h) (sampleMarks 0 l)) (h .items)
@@ -180,10 +176,6 @@ sample-in kind card a b c k t v p ys s e = go (mark-in 0 k t v ys e)
     go (inr h) = h
 
 -- ---- bins
-
--- how many Bins of the histogram stand before it
-abbrev pub binOrdinal : {ys : List Item} {b n : ℕ} → BinIn ys b n → ℕ
-binOrdinal h = length (h .before)
 
 bins-mark : (b n : ℕ) (before after : List Item) → only (bin ∷ []) before ≡ true → MarkIs (binMarks (before ++ (Bin b n ∷ after))) (length before) b n
 unfolding only binMarks pickNth

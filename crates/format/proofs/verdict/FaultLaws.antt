@@ -16,10 +16,11 @@ use Rattle.format.specs.Items.{Item, classFor, wordsOf, fits, inRange, d
 use Rattle.format.specs.Rules.{place, sized, value, order, bad, check}
 use Rattle.format.specs.Frames.{Allowed, isStart, lengthFits, startFits, lastOf, headFault, kindIn, cardIn}
 use Rattle.format.specs.Faults.{HeadBroken, odd, under, over, noStart, otherVersion, otherSize, highSequence, noEnd, afterAt, wordsAt, ItemBroken, noClass, cut, misplaced, misvalued, disordered, First}
+use Rattle.format.specs.Fields.{Read}
 use Rattle.format.proofs.book.PrefixLaws.{and-left, and-right}
 use Rattle.format.proofs.items.WordLaws.{length-words, word-at, words-below, below-take, below-drop}
 use Rattle.format.proofs.items.PartLaws.{part-take}
-use Rattle.format.proofs.items.ItemLaws.{read-written, Read, written-read}
+use Rattle.format.proofs.items.ItemLaws.{read-written, written-read}
 use Rattle.format.proofs.rules.LimitLaws.{range-fits}
 
 -- of two first numbers neither is below the other
