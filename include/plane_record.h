@@ -10,9 +10,9 @@
  * but these two (a follower alone is given back). A refused call has left all lent memory as it was. A place is a word index (from 0) for 6 to 11,
  * an entry's number (from 1) for 21, else 0; the 9 of plane_begin, which has no item yet, is at 0 too.
  *
- * What the caller owes. Memory is lent by a pointer and a length, in elements. The pointer is not null, also where the length is 0; it is aligned
- * for its elements, and all of them can be read, and written where it is not const; they take at most PTRDIFF_MAX bytes. Until the call returns
- * nothing else writes them, and memory lent to be written overlaps nothing else that is lent. Every other argument may be any value.
+ * What the caller owes. Memory is lent by a pointer and a length, in elements. Where the length is 0 the pointer may be null. Else it is
+ * aligned for its elements, and all of them can be read, and written where it is not const; they take at most PTRDIFF_MAX bytes. Until the call
+ * returns nothing else writes them, and memory lent to be written overlaps nothing else that is lent. Every other argument may be any value.
  */
 #ifndef PLANE_RECORD_H
 #define PLANE_RECORD_H
