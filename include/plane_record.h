@@ -143,7 +143,8 @@ struct plane_found {
     struct plane_item_fields item;
 };
 
-/* Item `ordinal`, from 0. Refused as plane_read refuses, then by 13. */
+/* Item `ordinal`, from 0. Refused as plane_read refuses, then by 13. Each call judges the whole frame, so that listing one takes the square of its
+ * length; plane_samples and plane_counts fetch a whole channel or histogram at once. */
 struct plane_found plane_item(const uint8_t *frame, size_t length, size_t ordinal);
 
 struct plane_text_part {
@@ -195,7 +196,8 @@ struct plane_written plane_begin(uint8_t *buffer, size_t room, uint16_t kind, ui
 
 /* Adds an item to the partial frame in the first `length` bytes. Refused by what is wrong with the partial frame; then, at the word where the item
  * would start, by 6 for a class that is none, and by 8, 9 or 10 by the rules (8 for a frame start or Frame end; a text is added by plane_add_text,
- * here it is 8 or 9); then by 12. Fields that the class does not have are not looked at. */
+ * here it is 8 or 9); then by 12. Fields that the class does not have are not looked at. Each call judges the whole partial frame, so that building
+ * one takes the square of its length. */
 struct plane_written plane_add(uint8_t *buffer, size_t room, size_t length, struct plane_item_fields item);
 
 /* Adds a text, which comes without its final zero: as plane_add. A text over 254 bytes or holding a zero is 9. */
