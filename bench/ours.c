@@ -11,7 +11,7 @@ static u64 read_frame(struct a_case *c, struct lent *out) {
 }
 
 // The last of the fields that the item's class has in the word book.
-static u64 last_field(const struct plane_item *x) {
+static u64 last_field(const struct plane_item_fields *x) {
     switch (x->item_class) {
     case PLANE_CHANNEL:
     case PLANE_HISTOGRAM: return x->channel;
@@ -42,7 +42,7 @@ static u64 counts(struct a_case *c, struct lent *out) {
 
 static u64 record(struct a_case *c, struct lent *out) {
     (void)out;
-    const struct plane_record x = plane_record(c->p, c->n);
+    const struct plane_record_found x = plane_record(c->p, c->n);
     return x.refused ? refusal_number(x.refused, x.place) : accepted_number(x.count, x.length);
 }
 

@@ -1,22 +1,27 @@
-/* The plane record library for C and C++ on x86-64 Linux: frames of 16-bit words are read, written and corrected. Link libexports.a.
- * docs/FORMAT.md has frames and records byte by byte, and an example of each refusal; documents 01 (the rules) and 02 are the client's papers.
+/* The plane record library for C (C99 or later) and C++ (C++98 or later) on x86-64 Linux: frames of 16-bit words are read, written and corrected.
+ * Link libexports.a. docs/FORMAT.md has frames and records byte by byte, and an example of each refusal; documents 01 (the rules) and 02 are the
+ * client's papers.
  *
  * Every call is proved to answer, and to leave in the memory lent to it, exactly what document 01 says, for all bytes and all arguments. It ends,
  * reads and writes nothing but what it is lent, and keeps nothing: no heap, no globals, so threads may call it at once, each on memory of its own.
  * Judging a record takes two arrays of 12 KByte together on the stack.
  *
- * Answers. `refused` is PLANE_ACCEPTED, 0, or the number of a refusal, with its `place`; any field that an answer does not use is 0. A refused call
- * has left all lent memory as it was. A place is a word index (from 0) for 6 to 11, an entry's number (from 1) for 21, else 0.
+ * Answers. `refused` is PLANE_ACCEPTED, 0, or the number of a refusal, with its `place`; any field that an answer does not use is 0, on a refusal all
+ * but these two (a follower alone is given back). A refused call has left all lent memory as it was. A place is a word index (from 0) for 6 to 11,
+ * an entry's number (from 1) for 21, else 0; the 9 of plane_begin, which has no item yet, is at 0 too.
  *
- * What the caller owes. Memory is lent by a pointer and a length, in elements. The pointer is not null, also where the length is 0; it is aligned
- * for its elements, and all of them can be read, and written where it is not const; they take at most PTRDIFF_MAX bytes. Until the call returns
- * nothing else writes them, and memory lent to be written overlaps nothing else that is lent. Every other argument may be any value.
+ * What the caller owes. Memory is lent by a pointer and a length, in elements. Where the length is 0 the pointer may be null. Else it is
+ * aligned for its elements, and all of them can be read, and written where it is not const; they take at most PTRDIFF_MAX bytes. Until the call
+ * returns nothing else writes them, and memory lent to be written overlaps nothing else that is lent. Every other argument may be any value.
  */
 #ifndef PLANE_RECORD_H
 #define PLANE_RECORD_H
 
 #include <stddef.h>
 #include <stdint.h>
+
+/* Raised by one where a program written for the version before has to be changed or compiled again. Header and archive are of one version. */
+#define PLANE_RECORD_VERSION 1
 
 #ifdef __cplusplus
 extern "C" {
@@ -31,22 +36,31 @@ enum plane_refusal {
     PLANE_REFUSED_SEQUENCE = 4,   /* word 2 above 0x0100 */
     PLANE_REFUSED_END = 5,        /* last word not 0x000F */
     PLANE_REFUSED_CLASS = 6,      /* unassigned word begins an item */
-    PLANE_REFUSED_CUT = 7,        /* the words after it reach the last word */
-    PLANE_REFUSED_PLACE = 8,      /* class not allowed here */
-    PLANE_REFUSED_VALUE = 9,      /* a value rule broken */
-    PLANE_REFUSED_ORDER = 10,     /* an order rule broken */
-    PLANE_REFUSED_OPEN = 11,      /* items end inside an event */
-    PLANE_REFUSED_ROOM = 12,      /* the output buffer is too short */
+    PLANE_REFUSED_CUT = 7,        /* the item runs into the frame-end word */
+    PLANE_REFUSED_PLACE = 8,      /* this class is not allowed after the item before it */
+    PLANE_REFUSED_VALUE = 9,      /* a value is out of its range */
+    PLANE_REFUSED_ORDER = 10,     /* times, channels, histograms or bins do not rise */
+    PLANE_REFUSED_OPEN = 11,      /* the last event has no End event */
+    PLANE_REFUSED_ROOM = 12,      /* the output buffer is too short, or a frame that is written would pass 8,192 bytes */
     PLANE_REFUSED_ABSENT = 13,    /* no such item, event, channel or histogram */
-    PLANE_REFUSED_NO_START = 14,  /* sequence number before a start */
+    PLANE_REFUSED_NO_START = 14,  /* a sequence number 1 to 255 before the first 0x0100 */
     PLANE_REFUSED_HEADER = 20,    /* buffer under 16 bytes, a header word wrong, or buffer under the total length */
     PLANE_REFUSED_ENTRY = 21,     /* a history entry doesn't fit the frame */
     PLANE_REFUSED_TARGET = 22,    /* the word index is not a Sample's or Bin's first word */
     PLANE_REFUSED_NEW_VALUE = 23, /* sample over 4,095, bin 0, or the present value */
     PLANE_REFUSED_SIGNER = 24,    /* operator not 1 to 65,535, or reason not 1 to 5 */
     PLANE_REFUSED_FULL = 25,      /* 512 entries stand */
-    PLANE_REFUSED_NO_ENTRY = 26   /* k above the entry count */
+    PLANE_REFUSED_NO_ENTRY = 26   /* there are not that many entries */
 };
+
+/* A refusal's name, as docs/FORMAT.md has it: "LENGTH" for 1. "ACCEPTED" for 0, "UNKNOWN" for a number that is no refusal. */
+static inline const char *plane_refusal_name(uint32_t number) {
+    static const char *const names[] = {
+        "ACCEPTED", "LENGTH", "KIND", "SIZE", "SEQUENCE", "END", "CLASS", "CUT", "PLACE", "VALUE", "ORDER", "OPEN", "ROOM", "ABSENT", "NO START",
+        "UNKNOWN", "UNKNOWN", "UNKNOWN", "UNKNOWN", "UNKNOWN", "HEADER", "ENTRY", "TARGET", "NEW VALUE", "SIGNER", "FULL", "NO ENTRY"
+    };
+    return number < sizeof names / sizeof names[0] ? names[number] : "UNKNOWN";
+}
 
 /* The classes, by their rows in the word book. Frame starts and Frame end are never items. */
 enum plane_class {
@@ -72,7 +86,17 @@ enum plane_kind { PLANE_DATA = 1, PLANE_MONITOR = 2, PLANE_COMMAND = 3 };
 enum plane_corrected { PLANE_CORRECTED_SAMPLE = 1, PLANE_CORRECTED_BIN = 2 };
 
 /* How much the calls ask for and write. */
-enum plane_sizes { PLANE_MOST_FRAME = 8192, PLANE_SAMPLES = 512, PLANE_COUNTS = 4096, PLANE_HEADER_BYTES = 16, PLANE_ENTRY_BYTES = 16, PLANE_MOST_ENTRIES = 512 };
+enum plane_sizes {
+    PLANE_MOST_FRAME = 8192,   /* bytes: no frame has more */
+    PLANE_FIRST_ITEM = 3,      /* the word index of item 0: the start word, the size and the sequence word come first */
+    PLANE_SAMPLES = 512,       /* words that plane_samples writes */
+    PLANE_NO_SAMPLE = 0xFFFF,  /* what plane_samples writes where no sample stands */
+    PLANE_COUNTS = 4096,       /* words that plane_counts writes */
+    PLANE_HEADER_BYTES = 16,   /* of a record; its frame begins behind them */
+    PLANE_ENTRY_BYTES = 16,
+    PLANE_MOST_ENTRIES = 512,
+    PLANE_MOST_RECORD = 16400  /* bytes: no record has more, and in a buffer of so many no edit is refused by 12 */
+};
 
 /* ---- the class of a word */
 
@@ -94,7 +118,7 @@ struct plane_frame {
 struct plane_frame plane_read(const uint8_t *frame, size_t length);
 
 /* An item: its class, and the fields that the class has; the others are 0. */
-struct plane_item {
+struct plane_item_fields {
     uint32_t item_class; /* one of enum plane_class */
     uint16_t card;       /* Channel, Histogram, Hit count */
     uint16_t chip;       /* Channel, Histogram, Hit count, Last cell */
@@ -116,22 +140,23 @@ struct plane_found {
     uint32_t refused;
     size_t place;
     size_t next; /* the word index of the next item, or of the end word */
-    struct plane_item item;
+    struct plane_item_fields item;
 };
 
-/* Item `ordinal`, from 0. Refused as plane_read refuses, then by 13. */
+/* Item `ordinal`, from 0. Refused as plane_read refuses, then by 13. Each call judges the whole frame, so that listing one takes the square of its
+ * length; plane_samples and plane_counts fetch a whole channel or histogram at once. */
 struct plane_found plane_item(const uint8_t *frame, size_t length, size_t ordinal);
 
-struct plane_text {
+struct plane_text_part {
     size_t offset;
     size_t length;
 };
 
 /* The bytes of the text that is item `ordinal`, without the final zero: `length` of them, in the frame itself, from byte `offset` on. Never refused:
  * it is empty on any refusal or another class, and plane_item tells this from an empty text. */
-struct plane_text plane_text(const uint8_t *frame, size_t length, size_t ordinal);
+struct plane_text_part plane_text(const uint8_t *frame, size_t length, size_t ordinal);
 
-struct plane_event {
+struct plane_event_found {
     uint32_t refused;
     size_t place;
     uint16_t kind; /* its type */
@@ -142,15 +167,15 @@ struct plane_event {
 };
 
 /* Event `ordinal`, from 0. Refused as plane_read refuses, then by 13. */
-struct plane_event plane_event(const uint8_t *frame, size_t length, size_t ordinal);
+struct plane_event_found plane_event(const uint8_t *frame, size_t length, size_t ordinal);
 
 struct plane_done {
     uint32_t refused;
     size_t place;
 };
 
-/* The samples of event `ordinal`, a chip and a channel: into the first 512 words of `out`, each at its time, 0xFFFF where no sample stands; words
- * beyond are untouched. Refused as plane_read refuses, then by 12 where `room` is under 512, then by 13. */
+/* The samples of event `ordinal`, a chip and a channel: into the first 512 words of `out`, each at its time, PLANE_NO_SAMPLE where no sample
+ * stands; words beyond are untouched. Refused as plane_read refuses, then by 12 where `room` is under 512, then by 13. */
 struct plane_done plane_samples(const uint8_t *frame, size_t length, size_t ordinal, uint16_t chip, uint16_t channel, uint16_t *out, size_t room);
 
 /* The counts of a chip's and a channel's histogram: into the first 4,096 words of `out`, each at its bin, 0 where no bin stands; words beyond are
@@ -162,7 +187,7 @@ struct plane_done plane_counts(const uint8_t *frame, size_t length, uint16_t chi
 struct plane_written {
     uint32_t refused;
     size_t place;
-    size_t length;
+    size_t length; /* 0 on a refusal: the partial frame stands as it stood, and its length is the one that the caller gave */
 };
 
 /* Begins a partial frame of 6 bytes. Refused by 2 where `kind` is none of enum plane_kind, by 9 for a card over 31, by 4 for a sequence word over
@@ -171,8 +196,9 @@ struct plane_written plane_begin(uint8_t *buffer, size_t room, uint16_t kind, ui
 
 /* Adds an item to the partial frame in the first `length` bytes. Refused by what is wrong with the partial frame; then, at the word where the item
  * would start, by 6 for a class that is none, and by 8, 9 or 10 by the rules (8 for a frame start or Frame end; a text is added by plane_add_text,
- * here it is 8 or 9); then by 12. Fields that the class does not have are not looked at. */
-struct plane_written plane_add(uint8_t *buffer, size_t room, size_t length, struct plane_item item);
+ * here it is 8 or 9); then by 12. Fields that the class does not have are not looked at. Each call judges the whole partial frame, so that building
+ * one takes the square of its length. */
+struct plane_written plane_add(uint8_t *buffer, size_t room, size_t length, struct plane_item_fields item);
 
 /* Adds a text, which comes without its final zero: as plane_add. A text over 254 bytes or holding a zero is 9. */
 struct plane_written plane_add_text(uint8_t *buffer, size_t room, size_t length, const uint8_t *text, size_t text_length);
@@ -200,7 +226,7 @@ struct plane_followed plane_follow(struct plane_follower follower, uint16_t word
 
 /* ---- records: a frame and the history of its edits */
 
-struct plane_record {
+struct plane_record_found {
     uint32_t refused;
     size_t place;
     size_t length; /* of its frame, which begins at byte 16 */
@@ -209,9 +235,9 @@ struct plane_record {
 };
 
 /* Whether a buffer begins with a record. Refused by 20, then as plane_read refuses its frame, then by 21. */
-struct plane_record plane_record(const uint8_t *buffer, size_t room);
+struct plane_record_found plane_record(const uint8_t *buffer, size_t room);
 
-struct plane_entry {
+struct plane_entry_found {
     uint32_t refused;
     size_t place;
     uint16_t word; /* the item's first word */
@@ -223,7 +249,7 @@ struct plane_entry {
 };
 
 /* Entry `number` of a record, from 1 as the oldest. Refused as plane_record refuses, then by 26. */
-struct plane_entry plane_entry(const uint8_t *buffer, size_t room, size_t number);
+struct plane_entry_found plane_entry(const uint8_t *buffer, size_t room, size_t number);
 
 /* Opens a record of the frame, with no history: writes header and frame to the buffer's start. Refused as plane_read refuses, then by 12. */
 struct plane_done plane_open(uint8_t *buffer, size_t room, const uint8_t *frame, size_t length);

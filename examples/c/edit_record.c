@@ -6,14 +6,14 @@ static unsigned word_at(const uint8_t *s, size_t i) { return s[2 * i] | s[2 * i 
 
 static void told(const char *what, struct plane_done done) {
     if (done.refused)
-        printf("%s: refused %u at %zu\n", what, done.refused, done.place);
+        printf("%s: refused %u %s at %zu\n", what, done.refused, plane_refusal_name(done.refused), done.place);
     else
         printf("%s: accepted\n", what);
 }
 
 // The frame of document 01's case 3, item by item; its length.
 static size_t write_frame(uint8_t *frame, size_t room) {
-    const struct plane_item items[] = {
+    const struct plane_item_fields items[] = {
         { .item_class = PLANE_START_EVENT, .kind = 1, .timestamp = 1000, .number = 7 },
         { .item_class = PLANE_CHANNEL, .card = 5, .chip = 2, .channel = 10 },
         { .item_class = PLANE_TIME_BIN, .time = 3 },
@@ -29,7 +29,7 @@ static size_t write_frame(uint8_t *frame, size_t room) {
 
 // What the program `list` prints of a record.
 static void list(const uint8_t *buffer, size_t room) {
-    const struct plane_record r = plane_record(buffer, room);
+    const struct plane_record_found r = plane_record(buffer, room);
     if (r.refused) {
         printf("refused %u at %zu\n", r.refused, r.place);
         return;
@@ -37,7 +37,7 @@ static void list(const uint8_t *buffer, size_t room) {
     const struct plane_frame f = plane_read(buffer + PLANE_HEADER_BYTES, r.length);
     printf("frame %c card %u seq %04X bytes %zu items %zu\n", "?DMC"[f.kind], f.card, f.sequence, r.length, f.items);
     for (size_t n = 1; n <= r.count; n++) {
-        const struct plane_entry e = plane_entry(buffer, room, n);
+        const struct plane_entry_found e = plane_entry(buffer, room, n);
         const char *kind = e.kind == PLANE_CORRECTED_SAMPLE ? "sample" : "bin";
         printf("edit %zu word %u %s %u -> %u by %u reason %u\n", n, e.word, kind, e.old_value, e.new_value, e.operator_id, e.reason);
     }

@@ -20,7 +20,7 @@ static void print_counts(void) {
 
 static struct plane_written told(const char *what, struct plane_written w) {
     if (w.refused)
-        printf("%s: refused %u at %zu\n", what, w.refused, w.place);
+        printf("%s: refused %u %s at %zu\n", what, w.refused, plane_refusal_name(w.refused), w.place);
     else
         printf("%s: %zu bytes\n", what, w.length);
     return w;
@@ -31,11 +31,11 @@ static void write_text(void) {
     uint8_t frame[64];
     told("begin, kind 4", plane_begin(frame, sizeof frame, 4, 5, 0));
     struct plane_written w = told("begin", plane_begin(frame, sizeof frame, PLANE_COMMAND, 5, 0));
-    told("add, class 99", plane_add(frame, sizeof frame, w.length, (struct plane_item){ .item_class = 99 }));
-    told("add, class 8", plane_add(frame, sizeof frame, w.length, (struct plane_item){ .item_class = PLANE_DATA_FRAME }));
+    told("add, class 99", plane_add(frame, sizeof frame, w.length, (struct plane_item_fields){ .item_class = 99 }));
+    told("add, class 8", plane_add(frame, sizeof frame, w.length, (struct plane_item_fields){ .item_class = PLANE_DATA_FRAME }));
     w = told("add text", plane_add_text(frame, sizeof frame, w.length, (const uint8_t *)letters, sizeof letters - 1));
     w = told("close", plane_close(frame, sizeof frame, w.length));
-    const struct plane_text t = plane_text(frame, w.length, 0);
+    const struct plane_text_part t = plane_text(frame, w.length, 0);
     printf("item 0: a text of %zu bytes from byte %zu: %.*s\n", t.length, t.offset, (int)t.length, (const char *)frame + t.offset);
 }
 
@@ -51,7 +51,7 @@ static struct plane_follower follow(struct plane_follower f, uint16_t word) {
     print_follower(f);
     printf(", word %04X: ", word);
     if (answer.refused)
-        printf("refused %u at %zu, ", answer.refused, answer.place);
+        printf("refused %u %s at %zu, ", answer.refused, plane_refusal_name(answer.refused), answer.place);
     else
         printf("lost %u, ", answer.lost);
     print_follower(answer.next);

@@ -7,7 +7,7 @@ static const uint16_t words[] = { 0x0805, 0x0022, 0x0100, 0x00F1, 0x03E8, 0x0000
                                   0xCB0A, 0x0E03, 0x30FA, 0x30FB, 0x00E0, 0x001A, 0x0000, 0x000F };
 enum { WORDS = sizeof words / sizeof words[0] };
 
-static void print_item(struct plane_item x) {
+static void print_item(struct plane_item_fields x) {
     switch (x.item_class) {
     case PLANE_START_EVENT: printf("start event type %u timestamp %lu number %u", x.kind, (unsigned long)x.timestamp, x.number); break;
     case PLANE_CHANNEL: printf("channel card %u chip %u channel %u", x.card, x.chip, x.channel); break;
@@ -21,11 +21,11 @@ static void print_item(struct plane_item x) {
 static void list(const uint8_t *frame, size_t length) {
     const struct plane_frame f = plane_read(frame, length);
     if (f.refused) {
-        printf("refused %u at %zu\n", f.refused, f.place);
+        printf("refused %u %s at %zu\n", f.refused, plane_refusal_name(f.refused), f.place);
         return;
     }
     printf("frame %c card %u seq %04X bytes %zu items %zu\n", "?DMC"[f.kind], f.card, f.sequence, length, f.items);
-    size_t word = 3;
+    size_t word = PLANE_FIRST_ITEM;
     for (size_t n = 0; n < f.items; n++) {
         const struct plane_found found = plane_item(frame, length, n);
         printf("item %zu at word %zu: ", n, word);
@@ -43,12 +43,12 @@ int main(void) {
     }
     list(frame, sizeof frame);
 
-    const struct plane_event event = plane_event(frame, sizeof frame, 0);
+    const struct plane_event_found event = plane_event(frame, sizeof frame, 0);
     printf("event 0: number %u size %u at word %zu\n", event.number, event.size, event.index);
     uint16_t samples[PLANE_SAMPLES];
     if (!plane_samples(frame, sizeof frame, 0, 2, 10, samples, PLANE_SAMPLES).refused)
         for (size_t time = 0; time < PLANE_SAMPLES; time++)
-            if (samples[time] != 0xFFFF) printf("chip 2 channel 10 time %zu: %u\n", time, samples[time]);
+            if (samples[time] != PLANE_NO_SAMPLE) printf("chip 2 channel 10 time %zu: %u\n", time, samples[time]);
 
     frame[28] = 0x1C;
     list(frame, sizeof frame);

@@ -1,79 +1,78 @@
 //! Writes a frame, opens a record of it, edits it, lists its history and restores the frame as it was.
 mod plane_record;
 use plane_record::{
-    add, begin, close, edit, entry, open, read, record, restore, PlaneCorrection, PlaneDone,
-    PlaneItem,
+    Answer, Correction, HEADER_BYTES, Item, MOST_FRAME, add, begin, class, close, corrected, edit,
+    entry, kind, open, read, record, restore,
 };
 
 fn word_at(s: &[u8], i: usize) -> u16 {
     u16::from_le_bytes([s[2 * i], s[2 * i + 1]])
 }
 
-fn told(what: &str, done: PlaneDone) {
-    match done.refused {
-        0 => println!("{what}: accepted"),
-        number => println!("{what}: refused {number} at {}", done.place),
+fn told(what: &str, done: Answer<()>) {
+    match done {
+        Ok(()) => println!("{what}: accepted"),
+        Err(refused) => println!("{what}: {refused}"),
     }
 }
 
 /// The frame of document 01's case 3, item by item; its length.
-fn write_frame(frame: &mut [u8]) -> usize {
-    let none = PlaneItem::default();
+fn write_frame(frame: &mut [u8]) -> Answer<usize> {
+    let none = Item::default();
     let items = [
-        PlaneItem { item_class: 12, kind: 1, timestamp: 1000, number: 7, ..none },
-        PlaneItem { item_class: 1, card: 5, chip: 2, channel: 10, ..none },
-        PlaneItem { item_class: 7, time: 3, ..none },
-        PlaneItem { item_class: 4, value: 250, ..none },
-        PlaneItem { item_class: 4, value: 251, ..none },
-        PlaneItem { item_class: 13, size: 26, ..none },
+        Item { item_class: class::START_EVENT, kind: 1, timestamp: 1000, number: 7, ..none },
+        Item { item_class: class::CHANNEL, card: 5, chip: 2, channel: 10, ..none },
+        Item { item_class: class::TIME_BIN, time: 3, ..none },
+        Item { item_class: class::SAMPLE, value: 250, ..none },
+        Item { item_class: class::SAMPLE, value: 251, ..none },
+        Item { item_class: class::END_EVENT, size: 26, ..none },
     ];
-    let mut length = begin(frame, 1, 5, 0x0100).length;
+    let mut length = begin(frame, kind::DATA, 5, 0x0100)?;
     for item in items {
-        length = add(frame, length, item).length;
+        length = add(frame, length, item)?;
     }
-    close(frame, length).length
+    close(frame, length)
 }
 
 /// What the program `list` prints of a record.
-fn list(buffer: &[u8]) {
-    let r = record(buffer);
-    if r.refused != 0 {
-        println!("refused {} at {}", r.refused, r.place);
-        return;
-    }
-    let f = read(&buffer[16..16 + r.length]);
+fn list(buffer: &[u8]) -> Answer<()> {
+    let r = record(buffer)?;
+    let f = read(&buffer[HEADER_BYTES..HEADER_BYTES + r.length])?;
     let kind = ["?", "D", "M", "C"][f.kind as usize];
     println!(
         "frame {kind} card {} seq {:04X} bytes {} items {}",
         f.card, f.sequence, r.length, f.items
     );
     for n in 1..=r.count {
-        let e = entry(buffer, n);
-        let kind = if e.kind == 1 { "sample" } else { "bin" };
+        let e = entry(buffer, n)?;
+        let kind = if e.kind == corrected::SAMPLE { "sample" } else { "bin" };
         println!(
             "edit {n} word {} {kind} {} -> {} by {} reason {}",
             e.word, e.old_value, e.new_value, e.operator_id, e.reason
         );
     }
     println!("end {}", r.count);
+    Ok(())
 }
 
-fn main() {
-    let (mut frame, mut buffer, mut before) = ([0; 8192], [0; 128], [0; 8192]);
-    let length = write_frame(&mut frame);
+fn main() -> Answer<()> {
+    let (mut frame, mut buffer, mut before) = ([0; MOST_FRAME], [0; 128], [0; MOST_FRAME]);
+    let length = write_frame(&mut frame)?;
     told("open", open(&mut buffer, &frame[..length]));
-    let header: Vec<String> = (0..8).map(|i| format!("{:04X}", word_at(&buffer, i))).collect();
+    let header: Vec<String> =
+        (0..HEADER_BYTES / 2).map(|i| format!("{:04X}", word_at(&buffer, i))).collect();
     println!("header {}", header.join(" "));
 
-    let correction = PlaneCorrection { word: 11, value: 260, operator_id: 9, reason: 2 };
+    let correction = Correction { word: 11, value: 260, operator_id: 9, reason: 2 };
     told("edit", edit(&mut buffer, correction));
     told("the same edit again", edit(&mut buffer, correction));
-    list(&buffer);
+    list(&buffer)?;
 
     told("restore to 0", restore(&buffer, 0, &mut before));
     println!(
         "word 11: {:04X}, and as it was {:04X}",
-        word_at(&buffer[16..], 11),
+        word_at(&buffer[HEADER_BYTES..], 11),
         word_at(&before, 11)
     );
+    Ok(())
 }

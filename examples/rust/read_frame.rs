@@ -1,6 +1,8 @@
 //! Reads a frame: its first words, its items, an event and the samples of a channel; then the same frame with a wrong size in its End event.
 mod plane_record;
-use plane_record::{event, item, read, samples, PlaneItem};
+use plane_record::{
+    Answer, FIRST_ITEM, Item, NO_SAMPLE, SAMPLES, class, event, item, read, samples,
+};
 
 /// Case 3 of document 01.
 const WORDS: [u16; 17] = [
@@ -8,23 +10,21 @@ const WORDS: [u16; 17] = [
     0x30FB, 0x00E0, 0x001A, 0x0000, 0x000F,
 ];
 
-fn shown(x: PlaneItem) -> String {
+fn shown(x: Item) -> String {
     match x.item_class {
-        1 => format!("channel card {} chip {} channel {}", x.card, x.chip, x.channel),
-        4 => format!("sample {}", x.value),
-        7 => format!("time bin {}", x.time),
-        12 => format!("start event type {} timestamp {} number {}", x.kind, x.timestamp, x.number),
-        13 => format!("end event size {}", x.size),
+        class::CHANNEL => format!("channel card {} chip {} channel {}", x.card, x.chip, x.channel),
+        class::SAMPLE => format!("sample {}", x.value),
+        class::TIME_BIN => format!("time bin {}", x.time),
+        class::START_EVENT => {
+            format!("start event type {} timestamp {} number {}", x.kind, x.timestamp, x.number)
+        }
+        class::END_EVENT => format!("end event size {}", x.size),
         class => format!("class {class}"),
     }
 }
 
-fn list(frame: &[u8]) {
-    let f = read(frame);
-    if f.refused != 0 {
-        println!("refused {} at {}", f.refused, f.place);
-        return;
-    }
+fn list(frame: &[u8]) -> Answer<()> {
+    let f = read(frame)?;
     let kind = ["?", "D", "M", "C"][f.kind as usize];
     println!(
         "frame {kind} card {} seq {:04X} bytes {} items {}",
@@ -33,27 +33,30 @@ fn list(frame: &[u8]) {
         frame.len(),
         f.items
     );
-    let mut word = 3;
+    let mut word = FIRST_ITEM;
     for n in 0..f.items {
-        let found = item(frame, n);
+        let found = item(frame, n)?;
         println!("item {n} at word {word}: {}", shown(found.item));
         word = found.next;
     }
+    Ok(())
 }
 
-fn main() {
+fn main() -> Answer<()> {
     let mut frame: Vec<u8> = WORDS.iter().flat_map(|w| w.to_le_bytes()).collect();
-    list(&frame);
+    list(&frame)?;
 
-    let e = event(&frame, 0);
+    let e = event(&frame, 0)?;
     println!("event 0: number {} size {} at word {}", e.number, e.size, e.index);
-    let mut out = [0; 512];
-    if samples(&frame, 0, 2, 10, &mut out).refused == 0 {
-        for (time, value) in out.iter().enumerate().filter(|(_, value)| **value != 0xFFFF) {
-            println!("chip 2 channel 10 time {time}: {value}");
-        }
+    let mut out = [0; SAMPLES];
+    samples(&frame, 0, 2, 10, &mut out)?;
+    for (time, value) in out.iter().enumerate().filter(|(_, value)| **value != NO_SAMPLE) {
+        println!("chip 2 channel 10 time {time}: {value}");
     }
 
     frame[28] = 0x1C;
-    list(&frame);
+    if let Err(refused) = list(&frame) {
+        println!("{refused}");
+    }
+    Ok(())
 }

@@ -1,0 +1,99 @@
+"""Reads a frame and lists a record from Python, by ctypes and the standard library alone.
+
+    gcc -shared -o libplane_record.so -Wl,--whole-archive target/staticlib/libexports.a -Wl,--no-whole-archive
+    python3 examples/python/plane_record.py ./libplane_record.so samples/data.frame samples/plane-14.record
+
+The structs are those of include/plane_record.h, field by field; a further call is declared as the five below are. Bytes that are only read are lent
+as they are; for a call that writes, lend ctypes.create_string_buffer(n).
+"""
+import ctypes
+import sys
+from ctypes import c_char_p, c_size_t, c_uint16, c_uint32, c_uint64
+
+KINDS = ["?", "data", "monitor", "command"]
+CLASSES = ["?", "channel", "histogram", "hit count", "sample", "bin", "last cell", "time bin", "?", "?", "?", "text", "start event", "end event"]
+
+
+class Frame(ctypes.Structure):
+    _fields_ = [("refused", c_uint32), ("place", c_size_t), ("kind", c_uint16), ("card", c_uint16), ("sequence", c_uint16), ("items", c_size_t)]
+
+
+class Item(ctypes.Structure):
+    _fields_ = (
+        [("item_class", c_uint32)]
+        + [(name, c_uint16) for name in "card chip channel hits value bin cell time length kind".split()]
+        + [("count", c_uint32), ("number", c_uint32), ("size", c_uint32), ("timestamp", c_uint64)]
+    )
+
+
+class Found(ctypes.Structure):
+    _fields_ = [("refused", c_uint32), ("place", c_size_t), ("next", c_size_t), ("item", Item)]
+
+
+class Record(ctypes.Structure):
+    _fields_ = [("refused", c_uint32), ("place", c_size_t), ("length", c_size_t), ("count", c_size_t), ("total", c_size_t)]
+
+
+class Entry(ctypes.Structure):
+    _fields_ = (
+        [("refused", c_uint32), ("place", c_size_t), ("word", c_uint16), ("kind", c_uint16)]
+        + [("old_value", c_uint32), ("new_value", c_uint32), ("operator_id", c_uint16), ("reason", c_uint16)]
+    )
+
+
+class Refused(Exception):
+    """A refusal's number, and its place."""
+
+
+class Library:
+    def __init__(self, path):
+        self.shared = ctypes.CDLL(path)
+
+    def call(self, name, answer, data, *numbers):
+        """Calls a function that reads `data`; its answer, or Refused."""
+        function = self.shared[name]
+        function.restype = answer
+        function.argtypes = [c_char_p, c_size_t] + [c_size_t] * len(numbers)
+        got = function(data, len(data), *numbers)
+        if got.refused:
+            raise Refused("refused %d at %d" % (got.refused, got.place))
+        return got
+
+    def read(self, frame):
+        return self.call("plane_read", Frame, frame)
+
+    def item(self, frame, ordinal):
+        return self.call("plane_item", Found, frame, ordinal)
+
+    def record(self, data):
+        return self.call("plane_record", Record, data)
+
+    def entry(self, data, number):
+        return self.call("plane_entry", Entry, data, number)
+
+
+def shown(item):
+    """The class of an item, and its fields that are not 0."""
+    values = ["%s %d" % (name, getattr(item, name)) for name, _ in Item._fields_[1:] if getattr(item, name)]
+    return " ".join([CLASSES[item.item_class]] + values)
+
+
+def main(library, frame_file, record_file):
+    plane = Library(library)
+    frame = open(frame_file, "rb").read()
+    f = plane.read(frame)
+    print("%s frame of card %d, sequence word %04X, %d items" % (KINDS[f.kind], f.card, f.sequence, f.items))
+    for n in range(f.items):
+        print("item %d: %s" % (n, shown(plane.item(frame, n).item)))
+    record = open(record_file, "rb").read()
+    for n in range(1, plane.record(record).count + 1):
+        e = plane.entry(record, n)
+        print("entry %d: word %d, %d -> %d, by %d, reason %d" % (n, e.word, e.old_value, e.new_value, e.operator_id, e.reason))
+    try:
+        plane.record(record[:15])
+    except Refused as refused:
+        print("its first 15 bytes: %s" % refused)
+
+
+if __name__ == "__main__":
+    main(*sys.argv[1:])

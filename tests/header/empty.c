@@ -1,0 +1,51 @@
+/* Every call with a null pointer where the length is 0: refused as any empty memory is, or accepted where nothing has to be read. */
+#include "plane_record.h"
+#include <stdio.h>
+#include <string.h>
+
+static const uint8_t command[] = { 0x05, 0x04, 0x08, 0x00, 0x00, 0x00, 0x0F, 0x00 };
+static int faults = 0;
+
+static void wants(const char *call, uint32_t refused, uint32_t wanted) {
+    if (refused == wanted) return;
+    printf("%s: %u %s, not %u\n", call, refused, plane_refusal_name(refused), wanted);
+    faults++;
+}
+
+int main(void) {
+    const struct plane_item_fields sample = { .item_class = PLANE_SAMPLE };
+    const struct plane_correction correction = { 11, 1, 1, 1 };
+    uint8_t buffer[64];
+
+    wants("read", plane_read(NULL, 0).refused, PLANE_REFUSED_LENGTH);
+    wants("item", plane_item(NULL, 0, 0).refused, PLANE_REFUSED_LENGTH);
+    if (plane_text(NULL, 0, 0).length) wants("text", 1, 0);
+    wants("event", plane_event(NULL, 0, 0).refused, PLANE_REFUSED_LENGTH);
+    wants("samples", plane_samples(NULL, 0, 0, 0, 0, NULL, 0).refused, PLANE_REFUSED_LENGTH);
+    wants("samples, no room", plane_samples(command, sizeof command, 0, 0, 0, NULL, 0).refused, PLANE_REFUSED_ROOM);
+    wants("counts", plane_counts(NULL, 0, 0, 0, NULL, 0).refused, PLANE_REFUSED_LENGTH);
+    wants("counts, no room", plane_counts(command, sizeof command, 0, 0, NULL, 0).refused, PLANE_REFUSED_ROOM);
+    wants("begin", plane_begin(NULL, 0, PLANE_COMMAND, 5, 0).refused, PLANE_REFUSED_ROOM);
+    wants("add", plane_add(NULL, 0, 0, sample).refused, PLANE_REFUSED_LENGTH);
+    wants("add behind 6 bytes", plane_add(NULL, 0, 6, sample).refused, PLANE_REFUSED_LENGTH);
+    wants("add text", plane_add_text(NULL, 0, 6, NULL, 0).refused, PLANE_REFUSED_LENGTH);
+    wants("close", plane_close(NULL, 0, 6).refused, PLANE_REFUSED_LENGTH);
+    wants("record", plane_record(NULL, 0).refused, PLANE_REFUSED_HEADER);
+    wants("entry", plane_entry(NULL, 0, 1).refused, PLANE_REFUSED_HEADER);
+    wants("open", plane_open(NULL, 0, NULL, 0).refused, PLANE_REFUSED_LENGTH);
+    wants("open, no room", plane_open(NULL, 0, command, sizeof command).refused, PLANE_REFUSED_ROOM);
+    wants("edit", plane_edit(NULL, 0, correction).refused, PLANE_REFUSED_HEADER);
+    wants("restore", plane_restore(NULL, 0, 0, NULL, 0).refused, PLANE_REFUSED_HEADER);
+
+    /* An empty text is accepted, and a record is restored to no room. */
+    struct plane_written w = plane_begin(buffer, sizeof buffer, PLANE_COMMAND, 5, 0);
+    w = plane_add_text(buffer, sizeof buffer, w.length, NULL, 0);
+    wants("an empty text", w.refused, PLANE_ACCEPTED);
+    w = plane_close(buffer, sizeof buffer, w.length);
+    wants("its frame", plane_read(buffer, w.length).refused, PLANE_ACCEPTED);
+    memset(buffer, 0, sizeof buffer);
+    wants("a record", plane_open(buffer, sizeof buffer, command, sizeof command).refused, PLANE_ACCEPTED);
+    wants("restore, no room", plane_restore(buffer, sizeof buffer, 0, NULL, 0).refused, PLANE_REFUSED_ROOM);
+    if (!faults) printf("a null pointer with length 0: taken by every call\n");
+    return faults != 0;
+}

@@ -1,0 +1,63 @@
+/* The header as a program uses it, in C and in C++: included twice, every struct and enum by its name, every call, every constant. */
+#include "plane_record.h"
+#include "plane_record.h"
+
+#if PLANE_RECORD_VERSION != 1
+#error "the version is not the one that this test was written for"
+#endif
+
+/* No name of a struct is the name of a function, so that C++ can leave the word `struct` away. */
+#ifdef __cplusplus
+#define STRUCT
+#define ENUM
+#else
+#define STRUCT struct
+#define ENUM enum
+#endif
+
+static int accepted(uint32_t refused, size_t place) { return refused == PLANE_ACCEPTED && place == 0; }
+
+int use_reading(const uint8_t *frame, size_t length, uint16_t *samples, uint32_t *counts);
+int use_reading(const uint8_t *frame, size_t length, uint16_t *samples, uint32_t *counts) {
+    const STRUCT plane_frame f = plane_read(frame, length);
+    const STRUCT plane_found found = plane_item(frame, length, 0);
+    const STRUCT plane_item_fields item = found.item;
+    const STRUCT plane_text_part text = plane_text(frame, length, 0);
+    const STRUCT plane_event_found event = plane_event(frame, length, 0);
+    const STRUCT plane_done sampled = plane_samples(frame, length, 0, 1, 2, samples, PLANE_SAMPLES);
+    const STRUCT plane_done counted = plane_counts(frame, length, 1, 2, counts, PLANE_COUNTS);
+    const ENUM plane_kind kind = PLANE_MONITOR;
+    const ENUM plane_class item_class = PLANE_BIN;
+    const ENUM plane_sizes first = PLANE_FIRST_ITEM;
+    return accepted(f.refused, f.place) && f.kind == kind && accepted(found.refused, found.place) && item.item_class == item_class &&
+           found.next > (size_t)first && text.offset + text.length <= length && accepted(event.refused, event.place) &&
+           accepted(sampled.refused, sampled.place) && samples[0] != PLANE_NO_SAMPLE && accepted(counted.refused, counted.place) &&
+           plane_classify(0x0100) == PLANE_TEXT;
+}
+
+int use_writing(uint8_t *buffer, size_t room, const uint8_t *text, size_t text_length, STRUCT plane_item_fields item);
+int use_writing(uint8_t *buffer, size_t room, const uint8_t *text, size_t text_length, STRUCT plane_item_fields item) {
+    const STRUCT plane_written begun = plane_begin(buffer, room, PLANE_COMMAND, 5, 0x0100);
+    const STRUCT plane_written added = plane_add(buffer, room, begun.length, item);
+    const STRUCT plane_written worded = plane_add_text(buffer, room, added.length, text, text_length);
+    const STRUCT plane_written closed = plane_close(buffer, room, worded.length);
+    STRUCT plane_follower follower = { 0, 0 };
+    const STRUCT plane_followed followed = plane_follow(follower, 0x0100);
+    follower = followed.next;
+    return accepted(closed.refused, closed.place) && follower.expecting && follower.number == 1 && followed.lost == 0;
+}
+
+int use_records(uint8_t *buffer, const uint8_t *frame, size_t length, uint8_t *out);
+int use_records(uint8_t *buffer, const uint8_t *frame, size_t length, uint8_t *out) {
+    const size_t room = PLANE_MOST_RECORD;
+    const STRUCT plane_correction correction = { 11, 260, 9, 2 };
+    const STRUCT plane_done opened = plane_open(buffer, room, frame, length);
+    const STRUCT plane_done edited = plane_edit(buffer, room, correction);
+    const STRUCT plane_record_found record = plane_record(buffer, room);
+    const STRUCT plane_entry_found entry = plane_entry(buffer, room, record.count);
+    const STRUCT plane_done restored = plane_restore(buffer, room, 0, out, PLANE_MOST_FRAME);
+    const ENUM plane_corrected kind = PLANE_CORRECTED_SAMPLE;
+    const ENUM plane_refusal refusal = PLANE_REFUSED_ROOM;
+    return opened.refused != (uint32_t)refusal && accepted(edited.refused, edited.place) && record.total == PLANE_HEADER_BYTES + length + PLANE_ENTRY_BYTES &&
+           record.count < PLANE_MOST_ENTRIES && entry.kind == kind && accepted(restored.refused, restored.place) && plane_refusal_name(restored.refused) != 0;
+}
