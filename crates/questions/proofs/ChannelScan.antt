@@ -1,0 +1,155 @@
+-- The search for a Channel header of an event, by its chip and channel.
+-- Assumes nothing.
+use Prim.Native.Nat.{ℕ, _+_, _/_, _%_, _<_, _≤_}
+use mathlib.Core.Path.{_≡_, refl, sym, ap, _∙_}
+use mathlib.Core.List.{List, [], _∷_}
+use mathlib.Core.Bool.{Bool, true, false, _&&_, true≢false}
+use mathlib.Core.Option.{none, some}
+use native.Mathlib.Omega.{arith}
+use lib.Dec.{eqb, lit<}
+use Rattle.format.specs.Words.{wordAt}
+use Rattle.format.specs.Book.{channel, endEvent}
+use Rattle.format.specs.Items.{ItemOf, Item, Channel, Histogram, HitCount, Sample, Bin, LastCell, TimeBin, Text, StartEvent, EndEvent, classFor}
+use Rattle.format.specs.Rules.{dataKind, same}
+use Rattle.format.specs.Frames.{behind, lastOf}
+use Rattle.format.specs.Cursor.{standingAt, shownBy, unshown, itemsFrom, On}
+use Rattle.format.specs.Questions.{shown, until, past, isChannel}
+use Rattle.format.proofs.WordLaws.{word-below}
+use Rattle.format.proofs.BookLaws.{ranged, in-range}
+use Rattle.format.proofs.CursorLaws.{Turn, channel-turn, answered, shown-class, run-out}
+use Rattle.book.specs.Fields.{channelOf}
+use Rattle.book.specs.declared.items.Channel as ch
+use Rattle.questions.specs.Sought.{Amid, ChannelAt}
+use Rattle.questions.proofs.PastLaws.{past-hit, past-miss, until-other, until-end}
+use Rattle.questions.proofs.Turns.{amid-next, one-turn}
+
+pub record Seeking (s : List ℕ) (from chip c at : ℕ) : Type 0 where
+  pub amid : Amid s dataKind at
+  pub still : past (isChannel chip c) (until endEvent (itemsFrom s at)) ≡ past (isChannel chip c) (until endEvent (itemsFrom s from))
+
+pub seeking-start : (s : List ℕ) (from chip c : ℕ) → Amid s dataKind from → Seeking s from chip c from
+seeking-start s from chip c a = record { amid = a; still = refl }
+
+module _ (chip c : ℕ) where
+  -- only a Channel passes the test
+  other-class : (x : Item) → (channel ≡ classFor x → ⊥) → isChannel chip c x ≡ false
+  other-class (Channel a b d) f = absurd (f refl)
+  other-class (Histogram a b d) f = refl
+  other-class (HitCount a b d) f = refl
+  other-class (Sample v) f = refl
+  other-class (Bin b n) f = refl
+  other-class (LastCell a b) f = refl
+  other-class (TimeBin t) f = refl
+  other-class (Text s) f = refl
+  other-class (StartEvent t ts n) f = refl
+  other-class (EndEvent n) f = refl
+
+  pub record Header (x : Item) : Type 0 where
+    pub card : ℕ
+    pub chip-is : ℕ
+    pub channel-is : ℕ
+    pub is : x ≡ Channel card chip-is channel-is
+
+  header-of : (x : Item) → isChannel chip c x ≡ true → Header x
+  header-of (Channel a b d) e = record { card = a; chip-is = b; channel-is = d; is = refl }
+  header-of (Histogram a b d) e = absurd (true≢false (sym e))
+  header-of (HitCount a b d) e = absurd (true≢false (sym e))
+  header-of (Sample v) e = absurd (true≢false (sym e))
+  header-of (Bin b n) e = absurd (true≢false (sym e))
+  header-of (LastCell a b) e = absurd (true≢false (sym e))
+  header-of (TimeBin t) e = absurd (true≢false (sym e))
+  header-of (Text s) e = absurd (true≢false (sym e))
+  header-of (StartEvent t ts n) e = absurd (true≢false (sym e))
+  header-of (EndEvent n) e = absurd (true≢false (sym e))
+
+  -- and the answer tells whether it does
+  as-shown : (x : Item) → isChannel chip c x ≡ isChannel chip c (unshown (shown x))
+  as-shown (Channel a b d) = refl
+  as-shown (Histogram a b d) = refl
+  as-shown (HitCount a b d) = refl
+  as-shown (Sample v) = refl
+  as-shown (Bin b n) = refl
+  as-shown (LastCell a b) = refl
+  as-shown (TimeBin t) = refl
+  as-shown (Text s) = refl
+  as-shown (StartEvent t ts n) = refl
+  as-shown (EndEvent n) = refl
+
+module _ (s : List ℕ) (from chip c at : ℕ) (k : Seeking s from chip c at) where
+  abbrev g : On s at
+  g = k .amid .on
+
+  here : (x : Item) (n : ℕ) → Turn s at g x n → same endEvent (classFor x) ≡ false
+      → past (isChannel chip c) (until endEvent (itemsFrom s from)) ≡ past (isChannel chip c) (x ∷ until endEvent (itemsFrom s n))
+  here x n t e =
+      sym (k .still) ∙ ap (λ (xs : List Item). past (isChannel chip c) (until endEvent xs)) (t .split) ∙ ap (past (isChannel chip c)) (until-other x (itemsFrom s n) e)
+
+  past-item : (x : Item) (n : ℕ) → Turn s at g x n → same endEvent (classFor x) ≡ false → isChannel chip c x ≡ false → Seeking s from chip c n
+  past-item x n t e f = record {
+    amid = amid-next s dataKind at (k .amid) x n t;
+    still = sym (here x n t e ∙ past-miss (isChannel chip c) x _ f);
+  }
+
+  hit-item : (x : Item) (n : ℕ) → Turn s at g x n → same endEvent (classFor x) ≡ false → isChannel chip c x ≡ true → ChannelAt s from chip c n
+  hit-item x n t e f =
+      let h = header-of chip c x f in
+      record {
+        passed = here x n t e ∙ past-hit (isChannel chip c) x _ f;
+        headed = record {
+          on = t .next;
+          card = h .card;
+          chip = h .chip-is;
+          channel = h .channel-is;
+          before = behind [] (g .before);
+          header = t .latest ∙ ap (λ (y : Item). y ∷ behind [] (g .before)) (h .is);
+        };
+      }
+
+  -- ---- a word that tells it
+
+  module _ (h : at < lastOf s) (w : ℕ) (i : w ≡ wordAt s at) where
+    module _ (l : 0xC000 ≤ w) (y : ch.Channel) (q : y ≡ channelOf w) where
+      header-turn : Turn s at g (Channel (wordAt s at / 512 % 32) (wordAt s at / 128 % 4) (wordAt s at % 128)) (at + 1)
+      header-turn = channel-turn s at g h (sym (in-range (wordAt s at) 0 (lit< tt) (omega arith, omega (arith, word-below s (g .bytes) at))))
+
+      fields : (b : Bool) → eqb (y .chip) chip && eqb (y .channel) c ≡ b → eqb (wordAt s at / 128 % 4) chip && eqb (wordAt s at % 128) c ≡ b
+      fields b e = ap (λ (v : ℕ). eqb (v / 128 % 4) chip && eqb (v % 128) c) (sym i) ∙ ap (λ (z : ch.Channel). eqb (z .chip) chip && eqb (z .channel) c) (sym q) ∙ e
+
+      pub seeking-header : eqb (y .chip) chip && eqb (y .channel) c ≡ false → Seeking s from chip c (at + 1)
+      seeking-header e = past-item _ (at + 1) header-turn refl (fields false e)
+
+      pub seeking-hit : eqb (y .chip) chip && eqb (y .channel) c ≡ true → ChannelAt s from chip c (at + 1)
+      seeking-hit e = hit-item _ (at + 1) header-turn refl (fields true e)
+
+    pub seeking-one : 0x0100 ≤ w → w < 0xC000 → Seeking s from chip c (at + 1)
+    seeking-one a b =
+        let o = one-turn s at (k .amid) h w i a in
+        past-item (o .x) (at + 1) (o .turn) (o .plain .no-end)
+        (other-class chip c (o .x) (λ e. let (u, v) = ranged (wordAt s at) channel (sym (e ∙ o .turn .class)) refl in omega arith))
+
+  -- ---- an item that the cursor answers
+
+  module _ (z : ItemOf ℕ) (n : ℕ) (r : some (record { item = z; next = n }) ≡ shownBy (standingAt s at)) where
+    pub seeking-end : same endEvent (classFor z) ≡ true → past (isChannel chip c) (until endEvent (itemsFrom s from)) ≡ none
+    unfolding past
+    seeking-end f =
+        let (x, i, t) = answered s at g z n (sym r) in
+        let e : same endEvent (classFor x) ≡ true = ap (same endEvent) (sym (shown-class x) ∙ ap (λ (y : ItemOf ℕ). classFor y) i) ∙ f in
+        sym (k .still) ∙ ap (λ (xs : List Item). past (isChannel chip c) (until endEvent xs)) (t .split) ∙ ap (past (isChannel chip c)) (until-end x _ e)
+
+    module _ (f : same endEvent (classFor z) ≡ false) where
+      pub seeking-next : isChannel chip c (unshown z) ≡ false → Seeking s from chip c n
+      seeking-next e =
+          let (x, i, t) = answered s at g z n (sym r) in
+          past-item x n t (ap (same endEvent) (sym (shown-class x) ∙ ap (λ (y : ItemOf ℕ). classFor y) i) ∙ f)
+          (as-shown chip c x ∙ ap (λ (y : ItemOf ℕ). isChannel chip c (unshown y)) i ∙ e)
+
+      pub seeking-found : isChannel chip c (unshown z) ≡ true → ChannelAt s from chip c n
+      seeking-found e =
+          let (x, i, t) = answered s at g z n (sym r) in
+          hit-item x n t (ap (same endEvent) (sym (shown-class x) ∙ ap (λ (y : ItemOf ℕ). classFor y) i) ∙ f)
+          (as-shown chip c x ∙ ap (λ (y : ItemOf ℕ). isChannel chip c (unshown y)) i ∙ e)
+
+  pub seeking-none : lastOf s ≤ at → past (isChannel chip c) (until endEvent (itemsFrom s from)) ≡ none
+  unfolding past until
+  seeking-none l = sym (k .still) ∙ ap (λ (xs : List Item). past (isChannel chip c) (until endEvent xs)) (run-out s at g l .0)
