@@ -16,12 +16,12 @@ use Rattle.format.specs.Cursor.{standingAt, shownBy, unshown, itemsFrom, On}
 use Rattle.format.specs.Questions.{shown, until, past, isChannel}
 use Rattle.format.proofs.WordLaws.{word-below}
 use Rattle.format.proofs.BookLaws.{ranged, in-range}
-use Rattle.format.proofs.CursorLaws.{Turn, channel-turn, answered, shown-class, run-out}
+use Rattle.format.proofs.CursorLaws.{Turn, channel-turn, answered, run-out}
 use Rattle.book.specs.Fields.{channelOf}
 use Rattle.book.specs.declared.items.Channel as ch
-use Rattle.questions.specs.Sought.{Amid, ChannelAt}
+use Rattle.questions.specs.Sought.{Amid, endsEvent, ChannelAt}
 use Rattle.questions.proofs.PastLaws.{past-hit, past-miss, until-other, until-end}
-use Rattle.questions.proofs.Turns.{amid-next, one-turn}
+use Rattle.questions.proofs.Turns.{ends-shown, amid-next, one-turn}
 
 pub record Seeking (s : List ℕ) (from chip c at : ℕ) : Type 0 where
   pub amid : Amid s dataKind at
@@ -130,24 +130,23 @@ module _ (s : List ℕ) (from chip c at : ℕ) (k : Seeking s from chip c at) wh
   -- ---- an item that the cursor answers
 
   module _ (z : ItemOf ℕ) (n : ℕ) (r : some (record { item = z; next = n }) ≡ shownBy (standingAt s at)) where
-    pub seeking-end : same endEvent (classFor z) ≡ true → past (isChannel chip c) (until endEvent (itemsFrom s from)) ≡ none
+    pub seeking-end : endsEvent z ≡ true → past (isChannel chip c) (until endEvent (itemsFrom s from)) ≡ none
     unfolding past
     seeking-end f =
         let (x, i, t) = answered s at g z n (sym r) in
-        let e : same endEvent (classFor x) ≡ true = ap (same endEvent) (sym (shown-class x) ∙ ap (λ (y : ItemOf ℕ). classFor y) i) ∙ f in
-        sym (k .still) ∙ ap (λ (xs : List Item). past (isChannel chip c) (until endEvent xs)) (t .split) ∙ ap (past (isChannel chip c)) (until-end x _ e)
+        sym (k .still) ∙ ap (λ (xs : List Item). past (isChannel chip c) (until endEvent xs)) (t .split) ∙ ap (past (isChannel chip c)) (until-end x _ (ends-shown x z i ∙ f))
 
-    module _ (f : same endEvent (classFor z) ≡ false) where
+    module _ (f : endsEvent z ≡ false) where
       pub seeking-next : isChannel chip c (unshown z) ≡ false → Seeking s from chip c n
       seeking-next e =
           let (x, i, t) = answered s at g z n (sym r) in
-          past-item x n t (ap (same endEvent) (sym (shown-class x) ∙ ap (λ (y : ItemOf ℕ). classFor y) i) ∙ f)
+          past-item x n t (ends-shown x z i ∙ f)
           (as-shown chip c x ∙ ap (λ (y : ItemOf ℕ). isChannel chip c (unshown y)) i ∙ e)
 
       pub seeking-found : isChannel chip c (unshown z) ≡ true → ChannelAt s from chip c n
       seeking-found e =
           let (x, i, t) = answered s at g z n (sym r) in
-          hit-item x n t (ap (same endEvent) (sym (shown-class x) ∙ ap (λ (y : ItemOf ℕ). classFor y) i) ∙ f)
+          hit-item x n t (ends-shown x z i ∙ f)
           (as-shown chip c x ∙ ap (λ (y : ItemOf ℕ). isChannel chip c (unshown y)) i ∙ e)
 
   pub seeking-none : lastOf s ≤ at → past (isChannel chip c) (until endEvent (itemsFrom s from)) ≡ none

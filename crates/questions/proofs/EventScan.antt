@@ -16,9 +16,9 @@ use Rattle.format.specs.Cursor.{standingAt, shownBy, itemsFrom, On}
 use Rattle.format.specs.Questions.{Opened, opens, endSize, events, pickNth}
 use Rattle.format.proofs.ClassLaws.{same-class}
 use Rattle.format.proofs.SoundLaws.{Seen, starts, ends, other, seen}
-use Rattle.format.proofs.CursorLaws.{Turn, start-turn, end-turn, answered, shown-class, run-out}
-use Rattle.questions.specs.Sought.{Amid, openedAt, EventAt}
-use Rattle.questions.proofs.Turns.{amid-next, one-turn}
+use Rattle.format.proofs.CursorLaws.{Turn, start-turn, end-turn, answered, run-out}
+use Rattle.questions.specs.Sought.{Amid, startsEvent, endsEvent, openedAt, EventAt}
+use Rattle.questions.proofs.Turns.{starts-shown, ends-shown, amid-next, one-turn}
 
 -- ---- the search for event e
 
@@ -60,16 +60,16 @@ module _ (s : List ℕ) (e left at : ℕ) (k : Seeking s e left at) where
   seeking-one h w i l = let o = one-turn s at (k .amid) h w i l in past-item (o .x) (at + 1) (o .turn) (o .plain .no-event at)
 
   module _ (z : ItemOf ℕ) (n : ℕ) (r : some (record { item = z; next = n }) ≡ shownBy (standingAt s at)) where
-    pub seeking-next : same startEvent (classFor z) ≡ false → Seeking s e left n
+    pub seeking-next : startsEvent z ≡ false → Seeking s e left n
     seeking-next f =
         let (x, i, t) = answered s at g z n (sym r) in
-        past-item x n t (λ xs. no-opening at x xs (ap (same startEvent) (sym (shown-class x) ∙ ap (λ (y : ItemOf ℕ). classFor y) i) ∙ f))
+        past-item x n t (λ xs. no-opening at x xs (starts-shown x z i ∙ f))
 
-    module _ (f : same startEvent (classFor z) ≡ true) where
+    module _ (f : startsEvent z ≡ true) where
       starting : Turn s at g (StartEvent (wordAt s at % 16) (timeAt s (at + 1)) (longAt s (at + 4))) (at + 6)
       starting =
           let (x, i, t) = answered s at g z n (sym r) in
-          let c : startEvent ≡ classOf (wordAt s at) = same-class startEvent (classFor z) f ∙ ap (λ (y : ItemOf ℕ). classFor y) (sym i) ∙ shown-class x ∙ t .class in
+          let c : startEvent ≡ classOf (wordAt s at) = same-class startEvent (classFor x) (starts-shown x z i ∙ f) ∙ t .class in
           start-turn s at g (let a = t .further in let b = t .within in omega arith) c
 
       pub starts-next : n ≡ at + 6
@@ -138,15 +138,15 @@ module _ (s : List ℕ) (from at : ℕ) (k : Sizing s from at) where
   sizing-one h w i l = let o = one-turn s at (k .amid) h w i l in past-size (o .x) (at + 1) (o .turn) (o .plain .no-size)
 
   module _ (z : ItemOf ℕ) (n : ℕ) (r : some (record { item = z; next = n }) ≡ shownBy (standingAt s at)) where
-    pub sizing-next : same endEvent (classFor z) ≡ false → Sizing s from n
+    pub sizing-next : endsEvent z ≡ false → Sizing s from n
     sizing-next f =
         let (x, i, t) = answered s at (k .amid .on) z n (sym r) in
-        past-size x n t (no-end x (ap (same endEvent) (sym (shown-class x) ∙ ap (λ (y : ItemOf ℕ). classFor y) i) ∙ f))
+        past-size x n t (no-end x (ends-shown x z i ∙ f))
 
-    pub sizing-found : same endEvent (classFor z) ≡ true → (m : ℕ) → m ≡ longAt s (at + 1) → m ≡ first (gather endSize (itemsFrom s from))
+    pub sizing-found : endsEvent z ≡ true → (m : ℕ) → m ≡ longAt s (at + 1) → m ≡ first (gather endSize (itemsFrom s from))
     sizing-found f m e =
         let (x, i, t) = answered s at (k .amid .on) z n (sym r) in
-        let c : endEvent ≡ classOf (wordAt s at) = same-class endEvent (classFor z) f ∙ ap (λ (y : ItemOf ℕ). classFor y) (sym i) ∙ shown-class x ∙ t .class in
+        let c : endEvent ≡ classOf (wordAt s at) = same-class endEvent (classFor x) (ends-shown x z i ∙ f) ∙ t .class in
         let u = end-turn s at (k .amid .on) (let a = t .further in let b = t .within in omega arith) c in
         e ∙ sym (ap (λ (xs : List Item). first (gather endSize xs)) (u .split) ∙ its-size _ _) ∙ k .still
 

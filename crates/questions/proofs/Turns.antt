@@ -15,11 +15,45 @@ use Rattle.format.specs.Rules.{Kind, dataKind, monitorKind, same, latest, inEve
 use Rattle.format.specs.Frames.{Frame, behind, lastOf}
 use Rattle.format.specs.Steps.{nextAt}
 use Rattle.format.specs.Cursor.{standingAt, shownBy, On}
+use Rattle.format.specs.Questions.{shown}
 use Rattle.format.proofs.BookLaws.{ranged}
 use Rattle.format.proofs.ClassLaws.{same-class}
 use Rattle.format.proofs.SoundLaws.{Plain, Seen, starts, ends, other, seen, monitor-place}
-use Rattle.format.proofs.CursorLaws.{Turn, turn, on-range, answered, nothing-answered}
-use Rattle.questions.specs.Sought.{Amid}
+use Rattle.format.proofs.CursorLaws.{Turn, turn, on-range, shown-class, answered, nothing-answered}
+use Rattle.questions.specs.Sought.{Amid, startsEvent, endsEvent}
+
+-- ---- what an answer tells of events
+
+told-start : (z : ItemOf ℕ) → same startEvent (classFor z) ≡ startsEvent z
+told-start (Channel a b c) = refl
+told-start (Histogram a b c) = refl
+told-start (HitCount a b c) = refl
+told-start (Sample v) = refl
+told-start (Bin b n) = refl
+told-start (LastCell a b) = refl
+told-start (TimeBin t) = refl
+told-start (Text n) = refl
+told-start (StartEvent t ts n) = refl
+told-start (EndEvent n) = refl
+
+told-end : (z : ItemOf ℕ) → same endEvent (classFor z) ≡ endsEvent z
+told-end (Channel a b c) = refl
+told-end (Histogram a b c) = refl
+told-end (HitCount a b c) = refl
+told-end (Sample v) = refl
+told-end (Bin b n) = refl
+told-end (LastCell a b) = refl
+told-end (TimeBin t) = refl
+told-end (Text n) = refl
+told-end (StartEvent t ts n) = refl
+told-end (EndEvent n) = refl
+
+-- the answer z shows the item x
+pub starts-shown : (x : Item) (z : ItemOf ℕ) → shown x ≡ z → same startEvent (classFor x) ≡ startsEvent z
+starts-shown x z i = ap (same startEvent) (sym (shown-class x) ∙ ap (λ (y : ItemOf ℕ). classFor y) i) ∙ told-start z
+
+pub ends-shown : (x : Item) (z : ItemOf ℕ) → shown x ≡ z → same endEvent (classFor x) ≡ endsEvent z
+ends-shown x z i = ap (same endEvent) (sym (shown-class x) ∙ ap (λ (y : ItemOf ℕ). classFor y) i) ∙ told-end z
 
 -- ---- a class that has no place in a data frame
 

@@ -3,12 +3,13 @@
 use Prim.Native.Nat.{ℕ, _+_, _%_, _<_}
 use mathlib.Core.Path.{_≡_}
 use mathlib.Core.List.{List, [], _∷_}
+use mathlib.Core.Bool.{Bool, true, false}
 use mathlib.Core.Option.{none, some}
 use lib.ListN.{length}
 use Rattle.format.specs.Words.{wordAt, timeAt, longAt}
 use Rattle.format.specs.Answers.{Outcome, accepted, refused, andThen, Done}
 use Rattle.format.specs.Book.{endEvent}
-use Rattle.format.specs.Items.{Item, Channel}
+use Rattle.format.specs.Items.{ItemOf, Item, Channel, Histogram, HitCount, Sample, Bin, LastCell, TimeBin, Text, StartEvent, EndEvent}
 use Rattle.format.specs.Rules.{Kind, dataKind, gather, first}
 use Rattle.format.specs.Frames.{behind}
 use Rattle.format.specs.Cursor.{itemsFrom, On}
@@ -20,6 +21,31 @@ use Rattle.questions.specs.declared.answers.Place.the-variants as place
 pub record Amid (s : List ℕ) (kind : Kind) (at : ℕ) : Type 0 where
   pub on : On s at
   pub kind-is : on .frame .kind ≡ kind
+
+-- an item, as it is answered, that starts an event, and one that ends it
+abbrev pub startsEvent : ItemOf ℕ → Bool
+startsEvent (Channel a b c) = false
+startsEvent (Histogram a b c) = false
+startsEvent (HitCount a b c) = false
+startsEvent (Sample v) = false
+startsEvent (Bin b n) = false
+startsEvent (LastCell a b) = false
+startsEvent (TimeBin t) = false
+startsEvent (Text n) = false
+startsEvent (StartEvent t ts n) = true
+startsEvent (EndEvent n) = false
+
+abbrev pub endsEvent : ItemOf ℕ → Bool
+endsEvent (Channel a b c) = false
+endsEvent (Histogram a b c) = false
+endsEvent (HitCount a b c) = false
+endsEvent (Sample v) = false
+endsEvent (Bin b n) = false
+endsEvent (LastCell a b) = false
+endsEvent (TimeBin t) = false
+endsEvent (Text n) = false
+endsEvent (StartEvent t ts n) = false
+endsEvent (EndEvent n) = true
 
 -- the event whose Start event stands at word q
 abbrev pub openedAt : List ℕ → ℕ → Opened

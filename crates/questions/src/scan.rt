@@ -4,13 +4,11 @@ ghost use mathlib.Core.Path.{_≡_};
 ghost use Prim.Native.Nat.{_+_, _*_, _<_};
 ghost use lib.ListN.{length};
 ghost use Rattle.format.specs.Words.{wordAt, longAt};
-ghost use Rattle.format.specs.Book.{startEvent, endEvent};
-ghost use Rattle.format.specs.Items.{classFor};
-ghost use Rattle.format.specs.Rules.{dataKind, monitorKind, same, first, gather};
+ghost use Rattle.format.specs.Rules.{dataKind, monitorKind, first, gather};
 ghost use Rattle.format.specs.Cursor.{itemsFrom, unshown};
 ghost use Rattle.format.specs.Questions.{endSize, isChannel, isHistogram};
 ghost use Rattle.book.specs.Views.{viewItem};
-ghost use Rattle.questions.specs.Sought.{Amid, EventSought, ChannelSought, HistogramSought};
+ghost use Rattle.questions.specs.Sought.{Amid, startsEvent, endsEvent, EventSought, ChannelSought, HistogramSought};
 use crate::answers::Place;
 use book::class::Class;
 use book::items::Channel;
@@ -50,7 +48,7 @@ pub(crate) fn long_in(s: &[u8], i: usize) -> u32
 }
 
 fn is_start(item: Item) -> bool
-    ensures { λ r. ⌜ r ≡ same startEvent (classFor (viewItem item)) ⌝ }
+    ensures { λ r. ⌜ r ≡ startsEvent (viewItem item) ⌝ }
 {
     match item {
         Item::Channel(_) => false,
@@ -67,7 +65,7 @@ fn is_start(item: Item) -> bool
 }
 
 fn is_end(item: Item) -> bool
-    ensures { λ r. ⌜ r ≡ same endEvent (classFor (viewItem item)) ⌝ }
+    ensures { λ r. ⌜ r ≡ endsEvent (viewItem item) ⌝ }
 {
     match item {
         Item::Channel(_) => false,
