@@ -8,3 +8,4 @@ pub mod reader
 pub mod questions
 pub mod writer
 pub mod spots
+pub mod CursorLaws

@@ -1,83 +1,29 @@
 -- A scan of an accepted frame, item by item: each word it stops at begins an item, and that item's kind, value and key are read off the words
 -- there.
 -- Assumes nothing.
-use Prim.Native.Nat.{ℕ, zero, suc, _+_, _-_, _*_, _/_, _%_, _<_, _≤_}
-use mathlib.Core.Path.{_≡_, refl, sym, ap, ap₂, subst, _∙_}
+use Prim.Native.Nat.{ℕ, zero, suc, _+_, _-_, _*_, _%_, _<_, _≤_}
+use mathlib.Core.Path.{_≡_, refl, sym, ap, ap₂, _∙_}
 use mathlib.Core.List.{List, [], _∷_, _++_, append-assoc, append-nil}
 use mathlib.Core.Bool.{Bool, true, false}
 use mathlib.Core.Option.{Option, none, some}
 use native.Mathlib.Omega.{arith}
 use lib.Dec.{eqb}
-use lib.ListN.{length, getD, take, drop, length-append}
-use lib.Seq.{take-at, drop-at}
-use borrow.Author.Tests.{eqb-true, eqb-false, eq-eqb, ne-eqb}
+use lib.ListN.{length, take, drop}
+use borrow.Author.Tests.{eq-eqb, ne-eqb}
 use Rattle.format.specs.Words.{pick, Bytes, words, bytes, wordAt, longAt, longOf}
-use Rattle.format.specs.Answers.{Outcome, accepted, refused}
+use Rattle.format.specs.Answers.{accepted}
 use Rattle.format.specs.Book.{Class, channel, histogram, hitCount, sample, bin, lastCell, timeBin, dataFrame, monitorFrame, commandFrame, text, startEvent, endEvent, frameEnd, unassigned, classOf, after}
-use Rattle.format.specs.Items.{Item, Text, EndEvent, wordsOf, fits, closed, decode, Token, whole, tokens, inRange}
-use Rattle.format.specs.Rules.{sized}
-use Rattle.format.specs.Frames.{Frame, behind, Sound, startWord, allWords, frameWords, encode, lastOf, verdict}
-use Rattle.format.specs.Steps.{tokenAt, nextAt, rest}
-use Rattle.format.specs.Spots.{Spot, spotOf, under, spotIn, spot, SpotIs, underAll}
-use Rattle.format.specs.Scans.{kindBy, valueAt, spotFrom, underBy, kindFound}
-use Rattle.format.proofs.book.PrefixLaws.{and-left}
-use Rattle.format.proofs.items.WordLaws.{words-bytes}
-use Rattle.format.proofs.items.ItemLaws.{read-written, token-passed}
-use Rattle.format.proofs.verdict.WalkLaws.{allowed-fits}
-use Rattle.format.proofs.rules.SoundLaws.{sound-right, sound-head}
-use Rattle.format.proofs.reader.StepLaws.{rest-at, Next, next-at, left-after}
+use Rattle.format.specs.Items.{Item, Text, EndEvent, wordsOf, closed, decode, whole}
+use Rattle.format.specs.Frames.{Frame, allWords, lastOf, verdict}
+use Rattle.format.specs.Steps.{tokenAt, nextAt}
+use Rattle.format.specs.Spots.{Spot, spotOf, under, spotIn, spot, underAll}
+use Rattle.format.specs.Scans.{kindBy, valueAt, spotFrom, underBy}
+use Rattle.format.proofs.items.ItemLaws.{token-passed}
+use Rattle.format.proofs.reader.StepLaws.{left-after}
 use Rattle.format.proofs.reader.TurnLaws.{long-after}
-use Rattle.format.proofs.questions.ItemQuestions.{no-some, some-is, some-word, all-words}
-use Rattle.format.proofs.spots.PutLaws.{length-encode, Stands, stands, spot-in}
-use Rattle.format.proofs.verdict.Acceptance.{sound}
-
--- ---- an item stands where the words before it end
-
-module _ (s : List ℕ) (y : Bytes s) (f : Frame) (a : verdict s ≡ accepted f) where
-  pub last-is : lastOf s ≡ 3 + length (allWords (f .items))
-  last-is = let n = length-encode f in let m : length s ≡ length (encode f) = ap length (sound s y f a .1) in omega arith
-
-  pub room : 2 * lastOf s ≤ length s + 1
-  room = let n = length-encode f in let m : length s ≡ length (encode f) = ap length (sound s y f a .1) in omega arith
-
-  front-is : take (lastOf s) (words s) ≡ startWord (f .kind) (f .card) ∷ (2 * (4 + length (allWords (f .items)))) ∷ f .sequence ∷ allWords (f .items)
-  unfolding encode frameWords
-  front-is =
-      ap (take (lastOf s)) (ap words (sound s y f a .1) ∙ words-bytes (frameWords f))
-      ∙ take-at (startWord (f .kind) (f .card) ∷ (2 * (4 + length (allWords (f .items)))) ∷ f .sequence ∷ allWords (f .items)) (0x000F ∷ []) (lastOf s) (let l = last-is in omega arith)
-
-  module _ (before : List Item) (x : Item) (after : List Item) (i : f .items ≡ before ++ (x ∷ after)) (at : ℕ) (e : at ≡ 3 + length (allWords before)) where
-    fits-there : fits x ≡ true
-    fits-there =
-        let l = sound s y f a .0 in
-        let h : Sound (f .kind) (f .card) [] (before ++ (x ∷ after)) = subst (Sound (f .kind) (f .card) []) i (l .sound) in
-        allowed-fits (f .kind) (f .card) (behind [] before) x (sound-head (f .kind) (f .card) (behind [] before) x after (sound-right (f .kind) (f .card) [] before (x ∷ after) h))
-
-    words-there : drop at (take (lastOf s) (words s)) ≡ wordsOf x ++ allWords after
-    unfolding allWords
-    words-there =
-        ap (drop at) (front-is ∙ ap (λ (l : List ℕ). startWord (f .kind) (f .card) ∷ (2 * (4 + length (allWords (f .items)))) ∷ f .sequence ∷ l) (ap allWords i ∙ all-words before (x ∷ after)))
-        ∙ drop-at (startWord (f .kind) (f .card) ∷ (2 * (4 + length (allWords (f .items)))) ∷ f .sequence ∷ allWords before) (wordsOf x ++ allWords after) at (omega arith)
-
-    pub before-last : at < lastOf s
-    unfolding allWords
-    before-last =
-        let l = last-is in
-        let n = some-word x in
-        let m : length (allWords (f .items)) ≡ length (allWords before ++ (wordsOf x ++ allWords after)) = ap length (ap allWords i ∙ all-words before (x ∷ after)) in
-        let p = length-append (allWords before) (wordsOf x ++ allWords after) in
-        let q = length-append (wordsOf x) (allWords after) in
-        omega arith
-
-    head-is : (u v : Token) (us vs : List Token) → u ∷ us ≡ v ∷ vs → u ≡ v
-    head-is u v us vs q = cc
-
-    pub token-there : tokenAt s (lastOf s) at ≡ whole x
-    token-there =
-        head-is _ _ _ _ (sym (rest-at s (lastOf s) room at before-last) ∙ ap (tokens 0) words-there ∙ read-written x (allWords after) fits-there)
-
-    pub next-there : Next s (lastOf s) room at x
-    next-there = next-at s (lastOf s) room at x before-last token-there
+use Rattle.format.proofs.questions.ItemQuestions.{no-some, some-is}
+use Rattle.format.proofs.spots.PutLaws.{stands, spot-in}
+use Rattle.format.proofs.CursorLaws.{last-is, room, before-last, token-there, next-there, no-words, more-words}
 
 -- ---- what its words tell
 
@@ -173,14 +119,6 @@ spot-later k at x xs u h = rw (ne-eqb u at (λ e. omega arith))
 spot-none : (k at u : ℕ) → spotIn k at [] u ≡ none
 unfolding spotIn
 spot-none k at u = refl
-
-no-words : length (allWords []) ≡ 0
-unfolding allWords
-no-words = refl
-
-more-words : (before : List Item) (x : Item) → length (allWords (before ++ (x ∷ []))) ≡ length (allWords before) + length (wordsOf x)
-unfolding allWords
-more-words before x = ap length (all-words before (x ∷ [])) ∙ length-append (allWords before) (wordsOf x ++ []) ∙ ap (λ (l : List ℕ). length (allWords before) + length l) (append-nil (wordsOf x))
 
 -- the scan of an accepted frame stands at word `at`, under a header of key k: from there on its items are still to come
 pub record Ahead (s : List ℕ) (at k : ℕ) : Type 0 where
