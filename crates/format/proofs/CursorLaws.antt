@@ -20,7 +20,7 @@ use Rattle.format.specs.Frames.{Frame, behind, Allowed, Sound, startWord
 use Rattle.format.specs.Steps.{tokenAt, nextAt, rest}
 use Rattle.format.specs.Questions.{Found, Shown, shown}
 use Rattle.format.specs.Cursor.{standingBy, standingAt, shownBy, unshown, wholes, itemsFrom, Meets, ended, met, On}
-use Rattle.format.proofs.book.PrefixLaws.{and-left, and-right}
+use Rattle.format.proofs.book.PrefixLaws.{and-left, and-right, and-both}
 use Rattle.format.proofs.items.WordLaws.{words-bytes, words-below, below-take, below-drop}
 use Rattle.format.proofs.items.ItemLaws.{read-written, written-read}
 use Rattle.format.proofs.verdict.WalkLaws.{allowed-fits}
@@ -97,18 +97,20 @@ items-of kind card p (x ∷ xs) h =
 
 pub standing-in : (s : List ℕ) (at : ℕ) (t : Token) (n : ℕ) → 3 ≤ at → at < lastOf s → Stands s (lastOf s) at t n → standingAt s at ≡ standingBy t n
 unfolding standingAt
-standing-in s at t n a b w = rw (le-leb 3 at a, lt-ltb at (lastOf s) b, w .token, w .follow)
+standing-in s at t n a b w =
+    ap (λ (c : Bool). pick c (standingBy (tokenAt s (lastOf s) at) (nextAt s at)) none) (and-both (leb 3 at) (ltb at (lastOf s)) (le-leb 3 at a) (lt-ltb at (lastOf s) b))
+    ∙ ap₂ standingBy (w .token) (w .follow)
 
 pub standing-early : (s : List ℕ) (at : ℕ) → at < 3 → standingAt s at ≡ none
 unfolding standingAt
-standing-early s at a = rw (lt-leb 3 at a)
+standing-early s at a = ap (λ (c : Bool). pick (c && ltb at (lastOf s)) (standingBy (tokenAt s (lastOf s) at) (nextAt s at)) none) (lt-leb 3 at a)
 
 pub standing-late : (s : List ℕ) (at : ℕ) → lastOf s ≤ at → standingAt s at ≡ none
 unfolding standingAt
 standing-late s at a = go (leb 3 at)
   where
     go : (b : Bool) → pick (b && ltb at (lastOf s)) (standingBy (tokenAt s (lastOf s) at) (nextAt s at)) none ≡ none
-    go true = rw (le-ltb at (lastOf s) a)
+    go true = ap (λ (c : Bool). pick c (standingBy (tokenAt s (lastOf s) at) (nextAt s at)) none) (le-ltb at (lastOf s) a)
     go false = refl
 
 pub standing-flawed : (s : List ℕ) (at k : ℕ) → tokenAt s (lastOf s) at ≡ flawed k → standingAt s at ≡ none
