@@ -14,7 +14,9 @@ use Rattle.format.specs.Items.{Item, Text, StartEvent, EndEvent, classFo
 use Rattle.format.specs.Rules.{dataKind, same, count}
 use Rattle.format.specs.Frames.{Frame, allWords, verdict}
 use Rattle.format.specs.Questions.{Event, itemAt, shown, shownAt, textAt, eventAt, samplesAt, samplesLeft, countsAt, countsLeft}
+use Rattle.format.specs.Cursor.{Meets}
 use Rattle.format.specs.Stands.{ItemIs, indexOf, EventIn, ChannelIn, HistogramIn, SampleIn, BinIn, Fill, sampleOrdinal, binOrdinal}
+use Rattle.format.proofs.CursorLaws as cursor
 use Rattle.format.proofs.questions.ItemQuestions as items
 use Rattle.format.proofs.questions.EventQuestions as events
 use Rattle.format.proofs.questions.FillQuestions as fill
@@ -50,6 +52,14 @@ pub counts-kept : (s : List ℕ) (chip c k p : ℕ) (found : List ℕ) → count
 counts-kept = fill.counts-kept
 
 module _ (s : List ℕ) (bytes : Bytes s) (f : Frame) (v : verdict s ≡ accepted f) where
+  -- from word 3 the cursor, which only decodes, meets the frame's items in order, each at its index and the last followed by the end word; and
+  -- nothing else
+  pub cursor-meets : Meets s 3 (f .items)
+  cursor-meets = cursor.accepted-meets s bytes f v
+
+  pub cursor-meets-only : (xs : List Item) → Meets s 3 xs → xs ≡ f .items
+  cursor-meets-only xs m = cursor.met-once s 3 xs (f .items) m cursor-meets
+
   -- T10. "The item at ordinal n (from 0) answers with its class and content, and the index of the next item or end word."
   pub item-answer : (n : ℕ) (x : Item) → ItemIs (f .items) n x → itemAt s n ≡ accepted (record { item = x; next = indexOf (f .items) (suc n) })
   item-answer = items.item-there s f v
