@@ -7,7 +7,7 @@ use mathlib.Core.Bool.{Bool}
 use mathlib.Core.List.{List}
 use lib.Seq.{sets}
 use Rattle.format.specs.Words.{wordAt, longAt, timeAt}
-use Rattle.format.specs.Book.{classOf, after, textWords}
+use Rattle.format.specs.Book.{classOf, rowOf, after, textWords}
 use Rattle.format.specs.Items.{inRange}
 use Rattle.book.specs.declared.class.Class.{Class}
 use Rattle.book.specs.declared.items.Channel.{Channel}
@@ -21,13 +21,16 @@ use Rattle.book.specs.declared.items.Text.{Text}
 use Rattle.book.specs.declared.items.StartEvent.{StartEvent}
 use Rattle.book.specs.Fields.{channelOf, histogramOf, hitsOf, binOf, cellOf, typeOf, channelWord, histogramWord, hitsWord, sampleWord, binWord, cellWord, timeBinWord, textWord, startWord, channelItem, histogramItem, hitsItem, sampleItem, binItem, cellItem, timeItem, startItem}
 use Rattle.book.specs.Views.{view}
-use Rattle.book.specs.Promises.{Classified, TextLong, WordsAfter, ChannelRead, ChannelWord, ChannelValid, HistogramRead, HistogramWord, HistogramValid, HitCountRead, HitCountWord, HitCountValid, SampleRead, SampleWord, SampleValid, BinRead, BinWord, BinValid, LastCellRead, LastCellWord, LastCellValid, TimeBinRead, TimeBinWord, TimeBinValid, TextRead, TextWord, StartEventRead, StartEventWord, StartEventValid, EndEventLow, WordRead, LongRead, TimeRead, Copied}
+use Rattle.book.specs.Promises.{Classified, RowTold, TextLong, WordsAfter, ChannelRead, ChannelWord, ChannelValid, HistogramRead, HistogramWord, HistogramValid, HitCountRead, HitCountWord, HitCountValid, SampleRead, SampleWord, SampleValid, BinRead, BinWord, BinValid, LastCellRead, LastCellWord, LastCellValid, TimeBinRead, TimeBinWord, TimeBinValid, TextRead, TextWord, StartEventRead, StartEventWord, StartEventValid, EndEventLow, WordRead, LongRead, TimeRead, Copied}
 use Rattle.book.proofs.Unique.{one, undone, same-class, equal-once}
 
 -- ---- the class of a word, and the words that come after it
 
 pub classify-once : (w : ℕ) (r q : Class) → Classified w r → Classified w q → r ≡ q
 classify-once w = one view same-class (classOf w)
+
+pub row-once : (c : Class) (r q : ℕ) → RowTold c r → RowTold c q → r ≡ q
+row-once c = equal-once (rowOf (view c))
 
 pub text-words-once : (w r q : ℕ) → TextLong w r → TextLong w q → r ≡ q
 text-words-once w = equal-once (textWords w)

@@ -7,7 +7,7 @@ use mathlib.Core.Bool.{Bool}
 use mathlib.Core.List.{List}
 use lib.Seq.{sets}
 use Rattle.format.specs.Words.{wordAt, longAt, timeAt}
-use Rattle.format.specs.Book.{classOf, after, textWords}
+use Rattle.format.specs.Book.{classOf, rowOf, after, textWords}
 use Rattle.format.specs.Items.{inRange}
 use Rattle.book.specs.declared.class.Class.{Class}
 use Rattle.book.specs.declared.items.Channel.{Channel}
@@ -26,6 +26,10 @@ use Rattle.book.specs.Views.{view}
 
 abbrev pub Classified : ℕ → Class → Type 0
 Classified w r = view r ≡ classOf w
+
+-- its row in document 01's table
+abbrev pub RowTold : Class → ℕ → Type 0
+RowTold c r = r ≡ rowOf (view c)
 
 abbrev pub TextLong : ℕ → ℕ → Type 0
 TextLong w r = r ≡ textWords w

@@ -6,14 +6,14 @@ use mathlib.Core.Path.{_≡_}
 use mathlib.Core.Logic.{_↔_}
 use mathlib.Core.Bool.{true, false}
 use mathlib.Core.Option.{none, some}
-use mathlib.Core.List.{List, _∷_, _++_, map, flatten, List·Memᴰ}
+use mathlib.Core.List.{List, [], _∷_, _++_, map, flatten, List·Memᴰ}
 use lib.ListN.{length, getD, take, drop}
 use Rattle.format.specs.Prefix.{Row, matches, find, prefixFree}
-use Rattle.format.specs.Book.{Class, unassigned, book, classOf, after, assigned, printed}
+use Rattle.format.specs.Book.{Class, unassigned, book, classOf, rowOf, classAt, after, assigned, printed}
 use Rattle.format.specs.Items.{Item, classFor, three, wordsOf, fits, inRange, whole, tokenOf, tokens, key}
 use Rattle.format.specs.Tree.{Limits}
 use Rattle.format.proofs.BookFigures as figure
-use Rattle.format.proofs.BookFigures.{figures, figureWords}
+use Rattle.format.proofs.BookFigures.{tabled, figures, figureWords}
 use Rattle.format.proofs.PrefixLaws as prefix
 use Rattle.format.proofs.BookLaws as ranges
 use Rattle.format.proofs.BookLaws.{Within, nth}
@@ -67,6 +67,13 @@ book-unassigned = table.class-none
 -- "3,807 of them", of the 65,536 words from 0 on.
 pub book-unassigned-count : sum unread 0 65536 ≡ 3807
 book-unassigned-count = count.unassigned-count
+
+-- The rows are numbered from 1 in the table's order (proofs/BookFigures, `tabled`), 0 is no row's, and the book has its rows in that order.
+pub book-rows : map rowOf tabled ≡ 1 ∷ 2 ∷ 3 ∷ 4 ∷ 5 ∷ 6 ∷ 7 ∷ 8 ∷ 9 ∷ 10 ∷ 11 ∷ 12 ∷ 13 ∷ 14 ∷ 0 ∷ []
+book-rows = figure.rows-numbered
+
+pub book-row-stands : (c : Class) → classAt (rowOf c) ≡ c
+book-row-stands = figure.row-stands
 
 -- T3. "The fields are cut from the word by position", "high bits first" (proofs/FieldLaws, `widths`: the printed widths), and go in the same way.
 

@@ -13,7 +13,7 @@ use lib.ListN.{length, getD, take, drop, length-drop}
 use lib.Seq.{take-all}
 use borrow.Author.Tests.{leb-true}
 use Rattle.format.specs.Words.{words, bytes, longOf, longWords, timeWords, nonZero}
-use Rattle.format.specs.Book.{Class, channel, histogram, hitCount, sample, bin, lastCell, timeBin, dataFrame, monitorFrame, commandFrame, text, startEvent, endEvent, frameEnd, unassigned, classOf, after}
+use Rattle.format.specs.Book.{Class, channel, histogram, hitCount, sample, bin, lastCell, timeBin, dataFrame, monitorFrame, commandFrame, text, startEvent, endEvent, frameEnd, unassigned, classOf, rowOf, after}
 use Rattle.format.specs.Items.{ItemOf, Item, Channel, Histogram, HitCount, Sample, Bin, LastCell, TimeBin, Text, StartEvent, EndEvent, classFor, wordsOf, fits, closed, decode, Token, whole, tokenOf, tokens}
 use Rattle.format.proofs.PrefixLaws.{and-left, and-right}
 use Rattle.format.proofs.BookLaws.{nth}
@@ -34,18 +34,9 @@ content (Text s) = (length s + 1) ∷ []
 content (StartEvent t ts n) = t ∷ []
 content (EndEvent n) = 0 ∷ []
 
--- the item's row of the book
+-- the item's row of the book, from 0
 abbrev pub rowFor : {T : Type 0} → ItemOf T → ℕ
-rowFor (Channel a b c) = 0
-rowFor (Histogram a b c) = 1
-rowFor (HitCount a b c) = 2
-rowFor (Sample v) = 3
-rowFor (Bin b n) = 4
-rowFor (LastCell a b) = 5
-rowFor (TimeBin t) = 6
-rowFor (Text s) = 10
-rowFor (StartEvent t ts n) = 11
-rowFor (EndEvent n) = 12
+rowFor x = rowOf (classFor x) - 1
 
 pub row-class : {T : Type 0} (x : ItemOf T) → nth (rowFor x) .class ≡ classFor x
 row-class (Channel a b c) = refl
