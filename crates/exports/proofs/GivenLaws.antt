@@ -1,7 +1,7 @@
 -- A flat item that is no item: its number, and that nothing is written.
 -- Assumes nothing.
 use Prim.Native.Nat.{ℕ, zero, suc, _/_, _≤_}
-use mathlib.Core.Path.{_≡_, refl, sym, ap, subst, _∙_}
+use mathlib.Core.Path.{_≡_, refl, sym, ap, subst}
 use mathlib.Core.List.{List, [], _∷_, map}
 use native.Mathlib.Omega.{arith}
 use lib.Seq.{sets}
@@ -11,7 +11,7 @@ use Rattle.format.specs.Prefix.{Row}
 use Rattle.format.specs.Book.{Class, unassigned, book, classAt}
 use Rattle.format.specs.Items.{Token, flawed}
 use Rattle.format.specs.Rules.{check}
-use Rattle.format.specs.Writing.{Partial, partialVerdict, addChecked, addAnswer, addLeft}
+use Rattle.format.specs.Writing.{Partial, partialVerdict, addAnswer, addLeft}
 use Rattle.format.specs.PartialSteps.{PartialOverview, partialReadOf}
 use Rattle.format.proofs.PartialJudging.{add-refused, contained}
 use Rattle.exports.specs.declared.answers.PlaneItem.{PlaneItem}

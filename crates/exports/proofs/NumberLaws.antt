@@ -1,27 +1,25 @@
 -- No call refuses by 0.
 -- Assumes nothing.
 use Prim.Native.Nat.{ℕ, zero, suc, _≤_}
-use mathlib.Core.Path.{_≡_, refl, sym, ap, subst, _∙_}
+use mathlib.Core.Path.{_≡_, refl, sym, subst, _∙_}
 use mathlib.Core.Logic.{_⊎_, inl, inr, ⊎-elim}
-use mathlib.Core.Bool.{Bool, true, false, _&&_}
+use mathlib.Core.Bool.{Bool, true, false}
 use mathlib.Core.List.{List, [], _∷_}
 use mathlib.Core.Option.{Option, none, some}
 use native.Mathlib.Omega.{arith}
 use lib.Dec.{leb}
-use lib.ListN.{getD}
 use Rattle.format.specs.Words.{Bytes, pick}
-use Rattle.format.specs.Answers.{Outcome, accepted, refused, andThen, Done}
+use Rattle.format.specs.Answers.{Outcome, accepted, refused, andThen}
 use Rattle.format.specs.Book.{Class, channel, histogram, hitCount, sample, bin, lastCell, timeBin, dataFrame, monitorFrame, commandFrame, text, startEvent, endEvent, frameEnd, unassigned, classAt}
-use Rattle.format.specs.Items.{Item, Text, wordsOf, Token, whole, flawed}
+use Rattle.format.specs.Items.{Item, Text, Token, whole, flawed}
 use Rattle.format.specs.Rules.{Kind, check}
-use Rattle.format.specs.Frames.{Frame, verdict}
+use Rattle.format.specs.Frames.{verdict}
 use Rattle.format.specs.Steps.{readOf}
 use Rattle.format.specs.Questions.{nth, itemAt, shownAt, present, events, pickNth, eventAt, until, past, isChannel, isHistogram, channelIn, samplesAt, countsAt, done}
-use Rattle.format.specs.Writing.{partialVerdict, beginAnswer, addAnswer, closeAnswer}
+use Rattle.format.specs.Writing.{partialVerdict, addAnswer, closeAnswer}
 use Rattle.format.specs.WriterCases.{oneOf, handed}
 use Rattle.format.proofs.Refusals.{places}
 use Rattle.format.proofs.Writing.{partial-list, begin-list, add-list, close-list}
-use Rattle.ledger.specs.Formats.{Correction}
 use Rattle.ledger.specs.Calls.{recordAnswer, entryAnswer, openAnswer, editAnswer, restoreAnswer}
 use Rattle.ledger.specs.First.{first}
 use Rattle.ledger.specs.House.{house, house-judge}

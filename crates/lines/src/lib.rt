@@ -30,7 +30,7 @@ fn record_lines(lines: &mut [u8], buf: &[u8], size: usize, count: usize) -> usiz
     ensures { λ r. ⌜ Put 82240 (now (lines .entry)) 0 (listings.listing (now (buf .entry))) (now (lines .exit)) r ⌝ }
 {
     let end = Record::HEADER + size;
-    let reading = read(&buf[16..end]);
+    let reading = read(&buf[Record::HEADER..end]);
     match reading {
         Reading::Refused(_r) => 0,
         Reading::Accepted(f) => {
