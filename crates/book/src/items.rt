@@ -246,7 +246,7 @@ impl Bin {
     pub fn valid(self) -> bool
         ensures { λ r. ⌜ BinValid self r ⌝ }
     {
-        (self.bin <= Bin::LAST) & (Bin::LEAST_COUNT <= self.count)
+        (Bin::LEAST_COUNT <= self.count) & (self.bin <= Bin::LAST)
     }
 }
 

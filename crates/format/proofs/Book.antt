@@ -151,11 +151,11 @@ pub figures-read : tokens 0 figureWords ≡ map (λ (x : Item). whole x) figures
 figures-read = figure.figures-read
 
 -- T36. "The ranges of card, chip, channel and the rest belong to their item classes and are named there once." The crate `book` has each limit
--- as a constant of its item; the numeral here is the one of `inRange` (specs/Items), written apart from it, and once more in `Limits` (specs/Tree).
+-- as a constant of its item; the numeral here is the one of `fits` or `obeys` (specs/Items), written apart from it, and once more in `Limits` (specs/Tree).
 -- The promise of the item's `valid` says that constant and numeral agree; a text's bytes are judged by the function that adds them.
 --
---   limit                          constant of the code                                            numeral of `inRange`
---   card                           Channel, Histogram, HitCount ::LAST_CARD                        31
+--   limit                          constant of the code                                            numeral of `fits`, `obeys`
+--   card                           LAST_CARD, that of Channel, Histogram, HitCount                 31
 --   chip                           Channel, Histogram, HitCount, LastCell ::LAST_CHIP              3
 --   channel                        Channel, Histogram ::LAST                                       78
 --   hit count                      HitCount::MOST                                                  79

@@ -6,16 +6,17 @@ use mathlib.Core.List.{List, [], _∷_}
 use mathlib.Core.Bool.{Bool, true, false, _&&_, true≢false}
 use mathlib.Core.Option.{Option, none, some}
 use native.Mathlib.Omega.{arith}
-use lib.Dec.{leb, eqb}
+use lib.Dec.{eqb}
 use lib.ListN.{length, getD}
-use borrow.Author.Tests.{leb-true, eqb-true, eqb-false, eq-eqb}
+use borrow.Author.Tests.{eqb-true, eq-eqb}
 use Rattle.format.specs.Words.{pick}
 use Rattle.format.specs.Book.{Class, channel, histogram, endEvent}
 use Rattle.format.specs.Items.{Item, Channel, Histogram, HitCount, Sample, Bin, LastCell, TimeBin, Text, StartEvent, EndEvent, classFor, wordsOf, three, inRange}
 use Rattle.format.specs.Rules.{Kind, dataKind, monitorKind, commandKind, same, place}
 use Rattle.format.specs.Frames.{Allowed, Sound}
 use Rattle.format.specs.Questions.{until, past, isChannel, isHistogram}
-use Rattle.format.proofs.PrefixLaws.{and-left, and-right, and-both}
+use Rattle.format.proofs.PrefixLaws.{and-left, and-both}
+use Rattle.format.proofs.Book.{item-limits}
 use Rattle.format.proofs.SoundLaws.{sound-head, sound-tail}
 use Rattle.questions.specs.Standing.{Header}
 use Rattle.questions.proofs.DataScan.{never-in-data}
@@ -58,17 +59,13 @@ module _ (f : Item → Bool) (kind : Kind) (card : ℕ) (never : (p : List Item)
 -- ---- headers by their words
 
 -- the fields of a valid header, and its word
-pub header-fits : (card a b c : ℕ) → eqb a card && leb a 31 && leb b 3 && leb c 78 ≡ true → (a ≡ card) × (b ≤ 3) × (c ≤ 78)
-header-fits card a b c e =
-    let f = and-left (eqb a card && leb a 31 && leb b 3) (leb c 78) e in
-    let g = and-left (eqb a card && leb a 31) (leb b 3) f in
-    (eqb-true a card (and-left (eqb a card) (leb a 31) g), leb-true b 3 (and-right (eqb a card && leb a 31) (leb b 3) f), leb-true c 78 (and-right (eqb a card && leb a 31 && leb b 3) (leb c 78) e))
+pub header-fits : (card a b c : ℕ) → inRange card (Channel a b c) ≡ true → (a ≡ card) × (b ≤ 3) × (c ≤ 78)
+header-fits card a b c e = let (f, _, i, j) = item-limits card (Channel a b c) .0 e in (f, i, j)
 
 -- the word of a valid header has its fields, of which none is cut
-pub valid-word : (prefix w card chip c : ℕ) → eqb card card && leb card 31 && leb chip 3 && leb c 78 ≡ true → w ≡ prefix + three (card % 32) (chip % 4) (c % 128) → Header prefix w card chip c
+pub valid-word : (prefix w card chip c : ℕ) → inRange card (Channel card chip c) ≡ true → w ≡ prefix + three (card % 32) (chip % 4) (c % 128) → Header prefix w card chip c
 valid-word prefix w card chip c e f =
-    let (_, i, j) = header-fits card card chip c e in
-    let k : card ≤ 31 = leb-true card 31 (and-right (eqb card card) (leb card 31) (and-left (eqb card card && leb card 31) (leb chip 3) (and-left (eqb card card && leb card 31 && leb chip 3) (leb c 78) e))) in
+    let (_, k, i, j) = item-limits card (Channel card chip c) .0 e in
     record { word = omega arith; chip-fits = i; channel-fits = omega arith }
 
 -- the fields that were asked for, where the word is that of the header
@@ -94,7 +91,7 @@ other-fields prefix w card chip c b d h n = go (eqb b chip) (eqb d c) refl refl
         absurd (n (omega arith))
 
 -- a header of the frame's card that is not valid is none of its items
-wrong-fields : (card chip c a b d : ℕ) → eqb card card && leb card 31 && leb chip 3 && leb c 78 ≡ false → eqb a card && leb a 31 && leb b 3 && leb d 78 ≡ true → eqb b chip && eqb d c ≡ false
+wrong-fields : (card chip c a b d : ℕ) → inRange card (Channel card chip c) ≡ false → inRange card (Channel a b d) ≡ true → eqb b chip && eqb d c ≡ false
 wrong-fields card chip c a b d n e = go (eqb b chip) (eqb d c) refl refl
   where
     go : (p q : Bool) → eqb b chip ≡ p → eqb d c ≡ q → p && q ≡ false
