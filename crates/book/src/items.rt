@@ -3,7 +3,7 @@
 // card, which a frame start has too, before them.
 ghost use mathlib.Core.Path.{_≡_};
 ghost use Rattle.book.specs.Fields.{threeCut};
-ghost use Rattle.book.specs.Promises.{ChannelRead, ChannelWord, ChannelValid, HistogramRead, HistogramWord, HistogramValid, HitCountRead, HitCountWord, HitCountValid, SampleRead, SampleWord, SampleValid, BinRead, BinWord, BinValid, LastCellRead, LastCellWord, LastCellValid, TimeBinRead, TimeBinWord, TimeBinValid, TextRead, TextWord, StartEventRead, StartEventWord, StartEventValid, EndEventLow};
+ghost use Rattle.book.specs.Promises.{KeyTold, ChannelRead, ChannelWord, ChannelValid, HistogramRead, HistogramWord, HistogramValid, HitCountRead, HitCountWord, HitCountValid, SampleRead, SampleWord, SampleValid, BinRead, BinWord, BinValid, LastCellRead, LastCellWord, LastCellValid, TimeBinRead, TimeBinWord, TimeBinValid, TextRead, TextWord, StartEventRead, StartEventWord, StartEventValid, EndEventLow};
 use crate::class::Class;
 
 // The last card: five bits of a word.
@@ -84,6 +84,13 @@ fn three(card: u16, chip: u16, low: u16) -> u16
     ensures { λ r. ⌜ r ≡ threeCut card chip low ⌝ }
 {
     (card & 0x1F) << 9 | (chip & 3) << 7 | low & 0x7F
+}
+
+// The order key by which Channel headers rise in an event, and Histogram headers in a frame.
+pub fn key(card: u16, chip: u16, channel: u16) -> u32
+    ensures { λ r. ⌜ KeyTold card chip channel r ⌝ }
+{
+    card as u32 * 2048 + chip as u32 * 128 + channel as u32
 }
 
 impl Channel {
