@@ -45,6 +45,7 @@ pub mod PartialLaws
 pub mod PartialRefusals
 pub mod JoinLaws
 pub mod WriterLaws
+pub mod StoringLaws
 pub mod StoreLaws
 pub mod WriterSteps
 pub mod WriterNumbers

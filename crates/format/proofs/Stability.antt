@@ -22,7 +22,8 @@ use Rattle.format.proofs.PrefixLaws.{and-left, and-right, and-both}
 use Rattle.format.proofs.WordLaws.{bytes-below}
 use Rattle.format.proofs.ItemQuestions.{all-words}
 use Rattle.format.proofs.SpotLaws.{valued, replaced-elsewhere, replaced-apart, replaced-again, replaced-words}
-use Rattle.format.proofs.PutLaws.{sets-outside, sets-bytes, length-encode, changed, split, standing-legal, stands, spot-in, spot-is, put-stores, put-encode, put-changed}
+use Rattle.format.proofs.StoringLaws.{sets-outside, sets-bytes}
+use Rattle.format.proofs.PutLaws.{length-encode, changed, split, standing-legal, stands, spot-in, spot-is, put-stores, put-encode, put-changed}
 use Rattle.format.proofs.Acceptance.{sound}
 
 -- ---- legal values, in document 01's words

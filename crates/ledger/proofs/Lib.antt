@@ -1,4 +1,3 @@
-pub mod Stores
 pub mod Answering
 pub mod Due
 pub mod Codecs

@@ -1,34 +1,19 @@
--- A word stored as far as there is room, and a legal value stored in the words of its item.
+-- A legal value stored in the words of its item.
 -- Assumes nothing.
 use Prim.Native.Nat.{ℕ, suc, _+_, _*_, _/_, _%_, _≤_, _<_}
 use mathlib.Core.Path.{_≡_, refl, sym, ap, _∙_}
 use mathlib.Core.Bool.{Bool, true, false}
 use mathlib.Core.List.{List, [], _∷_}
 use native.Mathlib.Omega.{arith}
-use lib.ListN.{length, set}
-use lib.Seq.{sets, set-out}
+use lib.ListN.{length}
+use lib.Seq.{sets}
 use borrow.Author.Tests.{eq-eqb, ne-eqb}
 use lib.Dec.{eqb}
 use Rattle.format.specs.Words.{pick, bytes}
 use Rattle.format.specs.Spots.{legalValue, valueWord, valueWords}
+use Rattle.format.proofs.StoringLaws.{sets-out}
 use Rattle.format.proofs.Stability.{legal-sample}
 use Rattle.plane.specs.Stored.{stored}
-
--- ---- a word
-
-pub sets-out : (vs f : List ℕ) (at : ℕ) → length f ≤ at → sets f at vs ≡ f
-sets-out [] f at h = refl
-sets-out (v ∷ vs) f at h = rw (set-out f at v h) (sets-out vs f (suc at) (omega arith))
-
-pub word-out : (f : List ℕ) (at w : ℕ) → length f ≤ at → f ≡ sets f at (bytes (w ∷ []))
-word-out f at w h = sym (sets-out (bytes (w ∷ [])) f at h)
-
--- of the last byte only the low one
-pub word-half : (f : List ℕ) (at w : ℕ) → length (set f at (w % 256)) ≤ at + 1 → set f at (w % 256) ≡ sets f at (bytes (w ∷ []))
-unfolding bytes
-word-half f at w h = sym (set-out (set f at (w % 256)) (suc at) (w / 256) (omega arith))
-
--- ---- a value
 
 pub sample-fits : (kind v : ℕ) → legalValue kind v ≡ true → kind ≡ 1 → v ≤ 4095
 sample-fits kind v l e = legal-sample v .0 (ap (λ (k : ℕ). legalValue k v) (sym e) ∙ l)

@@ -32,7 +32,7 @@ use Rattle.ledger.specs.First.{first}
 use Rattle.ledger.specs.House.{toldOf, house, house-spot}
 use Rattle.ledger.specs.Judged.{heldOf}
 use Rattle.ledger.proofs.Judging.{fits-right}
-use Rattle.ledger.proofs.Stores.{sets-whole}
+use Rattle.format.proofs.StoringLaws.{sets-whole}
 use Rattle.ledger.proofs.Walking.{judge-none, judge-back, judge-stop}
 use Rattle.ledger.proofs.House.{own, stands-there, kind-is, house-lawful}
 use Rattle.plane.specs.Views.{unfit}
