@@ -1,5 +1,4 @@
 pub mod Orders
-pub mod Storing
 pub mod OpenLaws
 pub mod KnownLaws
 pub mod EditLaws
