@@ -5,3 +5,4 @@ pub mod Figures
 pub mod Unique
 pub mod Splits
 pub mod NothingHidden
+pub mod Room

@@ -18,9 +18,6 @@ use frame::state::Kind;
 use plane::answers::Entry;
 use plane::entries::entry_of;
 
-// A line has at most 160 bytes: at most 36 of text and six numbers of 20 digits.
-pub const MOST: usize = 160;
-
 // The start of a frame's line, with its kind's letter.
 fn kind_start(line: &mut [u8], kind: Kind) -> usize
     requires { ⌜ 160 ≤ length (now line) ⌝ }
