@@ -15,7 +15,7 @@ use borrow.Rule.Slice.PartMut.{putMid, same-len-mid}
 use Rattle.format.specs.Words.{pick, Bytes, bytes}
 use Rattle.format.specs.Answers.{Done, accepted, refused, need, firstOf}
 use Rattle.format.specs.Spots.{legalValue, valueWord, valueWords}
-use Rattle.format.proofs.ItemQuestions.{no-some, some-is}
+use Rattle.format.proofs.questions.ItemQuestions.{no-some, some-is}
 use Rattle.ledger.specs.Frames.{Spot, Settable}
 use Rattle.ledger.specs.Formats as formats
 use Rattle.ledger.specs.Records.{countIn, frameIn, entryBytes, entriesIn, length-entries, signed, recordVerdict}
@@ -24,9 +24,9 @@ use Rattle.ledger.specs.Chains.{Allowed}
 use Rattle.ledger.specs.First.{first}
 use Rattle.ledger.specs.House.{house}
 use Rattle.ledger.specs.Judged.{Held, heldOf}
-use Rattle.ledger.proofs.Editing.{edit-exactly, exit-written, exit-found}
-use Rattle.ledger.proofs.FirstLaws.{full-limit}
-use Rattle.ledger.proofs.House.{house-lawful}
+use Rattle.ledger.proofs.calls.Editing.{edit-exactly, exit-written, exit-found}
+use Rattle.ledger.proofs.house.FirstLaws.{full-limit}
+use Rattle.ledger.proofs.house.House.{house-lawful}
 use Rattle.plane.specs.Stored.{stored}
 use Rattle.plane.proofs.UndoLaws.{stored-put}
 use Rattle.editor.specs.declared.editing.Correction.{Correction}

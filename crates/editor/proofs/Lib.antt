@@ -1,3 +1,4 @@
+pub mod front
 pub mod Orders
 pub mod OpenLaws
 pub mod KnownLaws
@@ -7,4 +8,3 @@ pub mod Unique
 pub mod Effects
 pub mod CallLaws
 pub mod SequenceLaws
-pub mod Demand3

@@ -11,7 +11,7 @@ use lib.ListN.{getD}
 use Rattle.format.specs.Words.{pick}
 use Rattle.format.specs.Answers.{Outcome, accepted, refused, andThen}
 use Rattle.format.specs.Book.{Class, rowOf, classAt}
-use Rattle.format.proofs.Book.{book-row-stands}
+use Rattle.format.proofs.front.Book.{book-row-stands}
 use Rattle.format.specs.Items.{ItemOf, Channel, Histogram, HitCount, Sample, Bin, LastCell, TimeBin, Text, StartEvent, EndEvent}
 use Rattle.format.specs.Rules.{Kind, dataKind, monitorKind, commandKind}
 use Rattle.format.specs.Questions.{Shown}

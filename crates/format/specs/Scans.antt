@@ -1,5 +1,5 @@
 -- What the words of an accepted frame tell where an item begins: its kind as a spot, its value, and the key that the next item stands under.
--- The rules of a frame are not asked again. That this is what the items are is in proofs/ScanLaws.
+-- The rules of a frame are not asked again. That this is what the items are is in proofs/spots/ScanLaws.
 -- Assumes nothing.
 use Prim.Native.Nat.{ℕ, zero, suc, _+_, _*_, _/_, _%_}
 use mathlib.Core.List.{List}

@@ -17,11 +17,11 @@ use Rattle.format.specs.Items.{Item, Channel, Histogram, HitCount, Sample, Bin,
 use Rattle.format.specs.Frames.{lastOf}
 use Rattle.format.specs.Steps.{tokenAt, nextAt}
 use Rattle.format.specs.Questions.{shown}
-use Rattle.format.proofs.ItemLaws.{token-passed}
-use Rattle.format.proofs.ItemQuestions.{no-some, some-is}
-use Rattle.format.proofs.StepLaws.{next-at}
-use Rattle.format.proofs.TurnLaws.{Stands, alone, no-class, bin-there, start-there, end-there, end-broken}
-use Rattle.format.proofs.TextPlaced.{texted}
+use Rattle.format.proofs.items.ItemLaws.{token-passed}
+use Rattle.format.proofs.questions.ItemQuestions.{no-some, some-is}
+use Rattle.format.proofs.reader.StepLaws.{next-at}
+use Rattle.format.proofs.reader.TurnLaws.{Stands, alone, no-class, bin-there, start-there, end-there, end-broken}
+use Rattle.format.proofs.reader.TextPlaced.{texted}
 use Rattle.book.specs.Fields.{channelOf, histogramOf, hitsOf, cellOf, channelItem, histogramItem, hitsItem, cellItem}
 use Rattle.book.specs.Views.{view}
 use Rattle.book.specs.declared.class.Class as declared

@@ -1,8 +1,7 @@
+pub mod front
 pub mod Decimals
 pub mod Putting
 pub mod Listings
-pub mod Figures
 pub mod Unique
 pub mod Splits
-pub mod NothingHidden
 pub mod Room

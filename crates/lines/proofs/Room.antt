@@ -16,16 +16,16 @@ use Rattle.format.specs.Items.{Item}
 use Rattle.format.specs.Rules.{Kind, dataKind, monitorKind, commandKind}
 use Rattle.format.specs.Frames.{Frame, allWords, verdict}
 use Rattle.format.specs.Questions.{done}
-use Rattle.format.proofs.WordLaws.{below-drop}
-use Rattle.format.proofs.WrittenLaws.{first-word, laterWords}
-use Rattle.format.proofs.PutLaws.{length-encode}
-use Rattle.format.proofs.Acceptance.{exactly}
-use Rattle.format.proofs.Refusals.{Placed, places}
+use Rattle.format.proofs.items.WordLaws.{below-drop}
+use Rattle.format.proofs.items.WrittenLaws.{first-word, laterWords}
+use Rattle.format.proofs.spots.PutLaws.{length-encode}
+use Rattle.format.proofs.verdict.Acceptance.{exactly}
+use Rattle.format.proofs.front.Refusals.{Placed, places}
 use Rattle.ledger.specs.Formats.{Entry}
 use Rattle.ledger.specs.Records.{lengthIn, countIn, frameIn, entryOf, numbered, recordVerdict}
 use Rattle.ledger.specs.First.{first}
 use Rattle.ledger.specs.House.{house, house-judge}
-use Rattle.ledger.proofs.Refusals.{record-refusals}
+use Rattle.ledger.proofs.answers.Refusals.{record-refusals}
 use Rattle.plane.proofs.RecordLaws.{frame-bytes}
 use Rattle.lines.specs.Ascii.{ascii}
 use Rattle.lines.specs.Text.{decimal, hex}

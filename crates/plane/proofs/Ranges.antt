@@ -7,7 +7,7 @@ use lib.Dec.{ltb}
 use borrow.Author.Tests.{ltb-true, ltb-false}
 use Rattle.format.specs.Book.{Class, channel, histogram, hitCount, sample, bin, classOf, after}
 use Rattle.format.specs.Scans.{kindBy, underBy, headerKey}
-use Rattle.format.proofs.RangeLaws.{bin-is, sample-is, hits-is, histogram-is, channel-is}
+use Rattle.format.proofs.book.RangeLaws.{bin-is, sample-is, hits-is, histogram-is, channel-is}
 
 -- what holds of the four classes from 0x3000 on
 high : (P : Class → Type 0) → P sample → P hitCount → P histogram → P channel → (w : ℕ) → 0x3000 ≤ w → w < 65536 → P (classOf w)

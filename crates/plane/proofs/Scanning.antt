@@ -18,11 +18,11 @@ use Rattle.format.specs.Steps.{nextAt}
 use Rattle.format.specs.Questions.{done}
 use Rattle.format.specs.Spots.{Spot, spot}
 use Rattle.format.specs.Scans.{kindBy, valueAt, spotFrom, underBy, kindFound}
-use Rattle.format.proofs.HeadLaws.{head-of}
-use Rattle.format.proofs.ScanLaws.{last-is, Ahead, ahead-start, none-first, Turn, turn, ahead-end}
+use Rattle.format.proofs.verdict.HeadLaws.{head-of}
+use Rattle.format.proofs.spots.ScanLaws.{last-is, Ahead, ahead-start, none-first, Turn, turn, ahead-end}
 use Rattle.ledger.specs.Frames.{Accepted}
 use Rattle.ledger.specs.House.{house, house-judge}
-use Rattle.ledger.proofs.House.{house-lawful}
+use Rattle.ledger.proofs.house.House.{house-lawful}
 use Rattle.plane.specs.Undoing.{Kinds}
 use Rattle.plane.proofs.Ranges.{high-after, bin-kind, bin-after, bin-under}
 

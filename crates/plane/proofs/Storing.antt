@@ -12,7 +12,7 @@ use lib.Dec.{eqb}
 use Rattle.format.specs.Words.{pick, bytes, longWords}
 use Rattle.format.specs.Spots.{legalValue, valueWord, valueWords}
 use Rattle.format.proofs.StoringLaws.{sets-out, sets-next}
-use Rattle.format.proofs.Stability.{legal-sample}
+use Rattle.format.proofs.front.Stability.{legal-sample}
 use Rattle.ledger.specs.Formats.{Entry}
 use Rattle.ledger.specs.Records.{entryBytes}
 use Rattle.ledger.specs.First.{first}

@@ -19,9 +19,9 @@ use Rattle.format.specs.Frames.{lastOf}
 use Rattle.format.specs.Spots.{spotOf, underAll, spot, put, legalValue}
 use Rattle.format.specs.Spots as spots
 use Rattle.format.specs.Scans.{valueAt, kindFound}
-use Rattle.format.proofs.PutLaws.{stands, put-stores}
-use Rattle.format.proofs.ItemQuestions.{no-some}
-use Rattle.format.proofs.ScanLaws.{next-there, value-read}
+use Rattle.format.proofs.spots.PutLaws.{stands, put-stores}
+use Rattle.format.proofs.questions.ItemQuestions.{no-some}
+use Rattle.format.proofs.spots.ScanLaws.{next-there, value-read}
 use Rattle.ledger.specs.Tests.{all}
 use Rattle.ledger.specs.Frames.{Spot, Accepted, Settable}
 use Rattle.ledger.specs.Formats.{Entry}
@@ -31,10 +31,10 @@ use Rattle.ledger.specs.Chains.{Fits}
 use Rattle.ledger.specs.First.{first}
 use Rattle.ledger.specs.House.{toldOf, house, house-spot}
 use Rattle.ledger.specs.Judged.{heldOf}
-use Rattle.ledger.proofs.Judging.{fits-right}
+use Rattle.ledger.proofs.records.Judging.{fits-right}
 use Rattle.format.proofs.StoringLaws.{sets-whole}
-use Rattle.ledger.proofs.Walking.{judge-none, judge-back, judge-stop}
-use Rattle.ledger.proofs.House.{own, stands-there, kind-is, house-lawful}
+use Rattle.ledger.proofs.records.Walking.{judge-none, judge-back, judge-stop}
+use Rattle.ledger.proofs.house.House.{own, stands-there, kind-is, house-lawful}
 use Rattle.plane.specs.Views.{unfit}
 use Rattle.plane.specs.Stored.{stored, Inside}
 use Rattle.plane.specs.Undoing.{Kinds, Undoing}

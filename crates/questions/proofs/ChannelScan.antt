@@ -17,10 +17,10 @@ use Rattle.format.specs.Items.{Item, Channel, Histogram, HitCount, Sample, Bin,
 use Rattle.format.specs.Rules.{dataKind}
 use Rattle.format.specs.Frames.{Allowed, Sound}
 use Rattle.format.specs.Questions.{until, past, isChannel, fillSamples}
-use Rattle.format.proofs.PrefixLaws.{and-left, and-right}
-use Rattle.format.proofs.WalkLaws.{allowed-fits}
-use Rattle.format.proofs.MarkLaws.{Rise}
-use Rattle.format.proofs.FillLaws.{sampleMarks, samples-rise}
+use Rattle.format.proofs.book.PrefixLaws.{and-left, and-right}
+use Rattle.format.proofs.verdict.WalkLaws.{allowed-fits}
+use Rattle.format.proofs.questions.MarkLaws.{Rise}
+use Rattle.format.proofs.questions.FillLaws.{sampleMarks, samples-rise}
 use Rattle.questions.specs.Standing.{itemsFrom, Standing, Header, Headed, ChannelAt}
 use Rattle.questions.proofs.Scanning.{nothing-left}
 use Rattle.questions.proofs.DataScan.{never-in-data, Single, Wide, single, started, ended}

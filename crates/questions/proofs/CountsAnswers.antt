@@ -13,7 +13,7 @@ use Rattle.format.specs.Items.{Item, Histogram, inRange}
 use Rattle.format.specs.Rules.{Kind, dataKind, monitorKind, commandKind}
 use Rattle.format.specs.Frames.{verdict}
 use Rattle.format.specs.Questions.{present, past, isHistogram, done, cleared, fillCounts, countsAt, countsLeft, Counted}
-use Rattle.format.proofs.FillQuestions.{counts-of, counts-room, counts-refused}
+use Rattle.format.proofs.questions.FillQuestions.{counts-of, counts-room, counts-refused}
 use Rattle.questions.specs.Standing.{itemsFrom, Standing, HistogramAt, Filling}
 use Rattle.questions.proofs.Reading.{Accepted, items-stand}
 use Rattle.questions.proofs.PastLaws.{none-past, wrong-histogram, no-histogram}

@@ -15,9 +15,9 @@ use Rattle.format.specs.Items.{Item, Channel, Histogram, HitCount, Sample, Bin,
 use Rattle.format.specs.Rules.{Kind, dataKind, same, latest, inEvent, first, gather, within, outside, inside, afterChannel, afterTime, afterSample, allowed, among, place}
 use Rattle.format.specs.Frames.{Allowed, Sound, allWords}
 use Rattle.format.specs.Questions.{Opened, opens, endSize, events, pickNth, until, past, isChannel}
-use Rattle.format.proofs.PrefixLaws.{and-left, and-right}
-use Rattle.format.proofs.WalkLaws.{allowed-fits}
-use Rattle.format.proofs.SoundLaws.{Plain, Seen, starts, ends, other, seen}
+use Rattle.format.proofs.book.PrefixLaws.{and-left, and-right}
+use Rattle.format.proofs.verdict.WalkLaws.{allowed-fits}
+use Rattle.format.proofs.rules.SoundLaws.{Plain, Seen, starts, ends, other, seen}
 use Rattle.questions.specs.Standing.{itemsFrom, Standing, openedAt, EventAt}
 use Rattle.questions.proofs.Scanning.{Here, here, nothing-left, reads-at, reads-first}
 

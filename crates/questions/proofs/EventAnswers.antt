@@ -12,8 +12,8 @@ use Rattle.format.specs.Items.{Item}
 use Rattle.format.specs.Rules.{Kind, dataKind, monitorKind, commandKind, first, gather}
 use Rattle.format.specs.Frames.{verdict}
 use Rattle.format.specs.Questions.{Event, Opened, endSize, events, pickNth, present, eventAt}
-use Rattle.format.proofs.SoundLaws.{no-starts}
-use Rattle.format.proofs.EventQuestions.{event-absent, event-of, event-refused}
+use Rattle.format.proofs.rules.SoundLaws.{no-starts}
+use Rattle.format.proofs.questions.EventQuestions.{event-absent, event-of, event-refused}
 use Rattle.questions.specs.Standing.{itemsFrom, Standing, Stands, openedAt, EventAt, eventIn}
 use Rattle.questions.proofs.Reading.{Accepted, read-refused, items-stand}
 

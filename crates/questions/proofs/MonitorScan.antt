@@ -15,9 +15,9 @@ use Rattle.format.specs.Items.{Item, Channel, Histogram, HitCount, Sample, Bin,
 use Rattle.format.specs.Rules.{monitorKind}
 use Rattle.format.specs.Frames.{Allowed}
 use Rattle.format.specs.Questions.{past, isHistogram, fillCounts}
-use Rattle.format.proofs.PrefixLaws.{and-left, and-right}
-use Rattle.format.proofs.WalkLaws.{allowed-fits}
-use Rattle.format.proofs.SoundLaws.{monitor-place}
+use Rattle.format.proofs.book.PrefixLaws.{and-left, and-right}
+use Rattle.format.proofs.verdict.WalkLaws.{allowed-fits}
+use Rattle.format.proofs.rules.SoundLaws.{monitor-place}
 use Rattle.questions.specs.Standing.{itemsFrom, Standing, Stands, Header, HistogramAt}
 use Rattle.questions.proofs.Scanning.{Here, here, nothing-left, reads-at, reads-first}
 use Rattle.questions.proofs.PastLaws.{past-hit, past-miss, header-fits, same-fields, other-fields}

@@ -15,9 +15,9 @@ use Rattle.format.specs.Items.{Item, Channel, Histogram, HitCount, Sample, Bin,
 use Rattle.format.specs.Rules.{Kind, dataKind, monitorKind, commandKind, same, place}
 use Rattle.format.specs.Frames.{Allowed, Sound}
 use Rattle.format.specs.Questions.{until, past, isChannel, isHistogram}
-use Rattle.format.proofs.PrefixLaws.{and-left, and-both}
-use Rattle.format.proofs.Book.{item-limits}
-use Rattle.format.proofs.SoundLaws.{sound-head, sound-tail}
+use Rattle.format.proofs.book.PrefixLaws.{and-left, and-both}
+use Rattle.format.proofs.front.Book.{item-limits}
+use Rattle.format.proofs.rules.SoundLaws.{sound-head, sound-tail}
 use Rattle.questions.specs.Standing.{Header}
 use Rattle.questions.proofs.DataScan.{never-in-data}
 

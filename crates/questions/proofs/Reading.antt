@@ -12,8 +12,8 @@ use Rattle.format.specs.Items.{Item}
 use Rattle.format.specs.Rules.{Kind}
 use Rattle.format.specs.Frames.{Frame, Sound, allWords, frameWords, encode, Legal, verdict}
 use Rattle.format.specs.Steps.{Overview, overview, readOf}
-use Rattle.format.proofs.WordLaws.{bytes-append, length-bytes}
-use Rattle.format.proofs.Acceptance.{exactly, length-s, verdict-of}
+use Rattle.format.proofs.items.WordLaws.{bytes-append, length-bytes}
+use Rattle.format.proofs.verdict.Acceptance.{exactly, length-s, verdict-of}
 use Rattle.questions.specs.Standing.{itemsFrom, Standing}
 use Rattle.questions.proofs.Scanning.{standing-start}
 

@@ -14,7 +14,7 @@ use Rattle.format.specs.Items.{Item, Channel, Histogram, HitCount, Sample, Bin,
 use Rattle.format.specs.Rules.{Kind, dataKind}
 use Rattle.format.specs.Frames.{verdict}
 use Rattle.format.specs.Questions.{Opened, events, pickNth, present, until, past, isChannel, done, cleared, fillSamples, channelIn, samplesAt, samplesLeft, Sampled}
-use Rattle.format.proofs.FillQuestions.{samples-of, samples-room, samples-refused}
+use Rattle.format.proofs.questions.FillQuestions.{samples-of, samples-room, samples-refused}
 use Rattle.questions.specs.Standing.{itemsFrom, Standing, openedAt, EventAt, EventSought, Headed, ChannelAt, ChannelFound, ChannelSought, SamplesSought, Filling}
 use Rattle.questions.specs.declared.answers.Place.{Place}
 use Rattle.questions.specs.declared.answers.Place.the-variants as place

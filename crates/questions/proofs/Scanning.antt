@@ -12,10 +12,10 @@ use Rattle.format.specs.Words.{words, bytes, wordAt}
 use Rattle.format.specs.Items.{Item, wordsOf, Token, whole, tokens}
 use Rattle.format.specs.Rules.{Kind}
 use Rattle.format.specs.Frames.{Allowed, Sound, allWords}
-use Rattle.format.proofs.WordLaws.{length-words, length-bytes, words-bytes, word-at}
-use Rattle.format.proofs.ItemLaws.{read-written}
-use Rattle.format.proofs.WalkLaws.{allowed-fits}
-use Rattle.format.proofs.SoundLaws.{sound-head, sound-tail}
+use Rattle.format.proofs.items.WordLaws.{length-words, length-bytes, words-bytes, word-at}
+use Rattle.format.proofs.items.ItemLaws.{read-written}
+use Rattle.format.proofs.verdict.WalkLaws.{allowed-fits}
+use Rattle.format.proofs.rules.SoundLaws.{sound-head, sound-tail}
 use Rattle.questions.specs.Standing.{wholes, itemsFrom, Standing}
 
 -- what is read in the words of items is those items

@@ -5,7 +5,7 @@ use native.Mathlib.Omega.{arith}
 use denote.Ref.{now}
 use Prim.Native.Nat.{_+_}
 use Rattle.format.specs.Steps.{nextAt}
-use Rattle.format.proofs.Placed.{Placed}
+use Rattle.format.proofs.reader.Placed.{Placed}
 use Rattle.frame.specs.Views.{viewIndexed}
 use Rattle.frame.proofs.Finding.{shown-refused, shown-absent, placed, next-here, shown-found}
 use borrow.Author.Needs.{needs}

@@ -1,7 +1,7 @@
 -- `book::items::Channel::valid` meets its contract. Written out, so that a wrong limit shows beside the right one. Assumes nothing.
 use native.Mathlib.Omega.{arith}
 use borrow.Author.Tests.{ne-eqb}
-use Rattle.format.proofs.LimitLaws.{header-valid}
+use Rattle.format.proofs.rules.LimitLaws.{header-valid}
 use Rattle.book.proofs.items.Channel.valid.Statement.{statement}
 use Rattle.book.proofs.items.Channel.valid.Tie as tie
 
