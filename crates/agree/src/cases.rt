@@ -1,6 +1,7 @@
 // A case's head: 72 bytes, numbers low byte first; and what each op allows in it.
 ghost use Prim.Native.Nat.{_+_, _*_, _%_};
 ghost use mathlib.Core.Path.{_≡_};
+use book::class::Class;
 
 // The head, taken apart.
 pub(crate) struct Case {
@@ -86,6 +87,8 @@ impl Case {
     const WORD: u64 = 65535;
     // And of 32 bits.
     const LONG: u64 = 4294967295;
+    // The last row of the word book that an item has.
+    const LAST_ROW: u64 = Class::ROW_END_EVENT as u64;
 
     // Whether each argument is at most what stands here for it, the others are zero, and only a payload that is named has bytes.
     fn within(self, a0: u64, a1: u64, a2: u64, a3: u64, a4: u64, p: bool, q: bool) -> bool {
@@ -121,7 +124,15 @@ impl Case {
             ),
             6 => self.within(Case::WORD, Case::WORD, 4200, Case::LONG, 0, true, false),
             7 => self.within(2, Case::WORD, Case::WORD, 0, 0, true, false),
-            8 => self.within(u64::MAX, 13, u64::MAX, u64::MAX, u64::MAX, true, false),
+            8 => self.within(
+                u64::MAX,
+                Case::LAST_ROW,
+                u64::MAX,
+                u64::MAX,
+                u64::MAX,
+                true,
+                false,
+            ),
             9 => self.within(u64::MAX, 0, 0, 0, 0, true, true),
             10 => self.within(u64::MAX, 0, 0, 0, 0, true, false),
             11 => self.within(256, Case::WORD, 0, 0, 0, false, false),

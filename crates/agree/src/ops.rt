@@ -16,7 +16,7 @@ pub(crate) fn answer(case: Case, p: &mut [u8], q: &mut [u8], line: &mut [u8]) ->
     }
     let op = case.op;
     match op {
-        0 => ops_book::classify(case.a0, line),
+        0 => ops_book::class(case.a0, line),
         1 => ops_frame::read(p, line),
         2 => ops_frame::item(p, case.a0, line),
         3 => ops_frame::text(p, case.a0, line),

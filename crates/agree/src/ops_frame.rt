@@ -1,6 +1,7 @@
 // The ops over a frame: its verdict, an item, a text.
 use crate::reply;
 use crate::sums;
+use book::class::Class;
 use book::items::Item;
 use frame::items::Found;
 use frame::items::FoundItem;
@@ -37,14 +38,14 @@ pub(crate) fn read(p: &[u8], line: &mut [u8]) -> usize {
 
 // An item's class as its row in document 01's word book, how many fields it has, and the fields in the book's order.
 struct Fields {
-    class: u64,
+    class: u32,
     many: u8,
     a: u64,
     b: u64,
     c: u64,
 }
 
-fn row(class: u64, many: u8, a: u64, b: u64, c: u64) -> Fields {
+fn row(class: u32, many: u8, a: u64, b: u64, c: u64) -> Fields {
     Fields {
         class,
         many,
@@ -56,25 +57,50 @@ fn row(class: u64, many: u8, a: u64, b: u64, c: u64) -> Fields {
 
 fn fields_of(item: Item) -> Fields {
     match item {
-        Item::Channel(x) => row(1, 3, x.card as u64, x.chip as u64, x.channel as u64),
-        Item::Histogram(x) => row(2, 3, x.card as u64, x.chip as u64, x.channel as u64),
-        Item::HitCount(x) => row(3, 3, x.card as u64, x.chip as u64, x.count as u64),
-        Item::Sample(x) => row(4, 1, x.value as u64, 0, 0),
-        Item::Bin(x) => row(5, 2, x.bin as u64, x.count as u64, 0),
-        Item::LastCell(x) => row(6, 2, x.chip as u64, x.cell as u64, 0),
-        Item::TimeBin(x) => row(7, 1, x.time as u64, 0, 0),
-        Item::Text(x) => row(11, 1, x.length as u64, 0, 0),
-        Item::StartEvent(x) => row(12, 3, x.kind as u64, x.timestamp, x.number as u64),
-        Item::EndEvent(x) => row(13, 1, x.size as u64, 0, 0),
+        Item::Channel(x) => row(
+            Class::ROW_CHANNEL,
+            3,
+            x.card as u64,
+            x.chip as u64,
+            x.channel as u64,
+        ),
+        Item::Histogram(x) => row(
+            Class::ROW_HISTOGRAM,
+            3,
+            x.card as u64,
+            x.chip as u64,
+            x.channel as u64,
+        ),
+        Item::HitCount(x) => row(
+            Class::ROW_HIT_COUNT,
+            3,
+            x.card as u64,
+            x.chip as u64,
+            x.count as u64,
+        ),
+        Item::Sample(x) => row(Class::ROW_SAMPLE, 1, x.value as u64, 0, 0),
+        Item::Bin(x) => row(Class::ROW_BIN, 2, x.bin as u64, x.count as u64, 0),
+        Item::LastCell(x) => row(Class::ROW_LAST_CELL, 2, x.chip as u64, x.cell as u64, 0),
+        Item::TimeBin(x) => row(Class::ROW_TIME_BIN, 1, x.time as u64, 0, 0),
+        Item::Text(x) => row(Class::ROW_TEXT, 1, x.length as u64, 0, 0),
+        Item::StartEvent(x) => row(
+            Class::ROW_START_EVENT,
+            3,
+            x.kind as u64,
+            x.timestamp,
+            x.number as u64,
+        ),
+        Item::EndEvent(x) => row(Class::ROW_END_EVENT, 1, x.size as u64, 0, 0),
     }
 }
 
 fn content(x: Fields, line: &mut [u8]) -> usize {
     let many = x.many;
+    let class = x.class as u64;
     match many {
-        1 => reply::ok2(line, x.class, x.a),
-        2 => reply::ok3(line, x.class, x.a, x.b),
-        _ => reply::ok4(line, x.class, x.a, x.b, x.c),
+        1 => reply::ok2(line, class, x.a),
+        2 => reply::ok3(line, class, x.a, x.b),
+        _ => reply::ok4(line, class, x.a, x.b, x.c),
     }
 }
 

@@ -2,6 +2,7 @@
 use crate::cases;
 use crate::reply;
 use crate::sums;
+use book::class::Class;
 use book::items::Bin;
 use book::items::Channel;
 use book::items::EndEvent;
@@ -61,60 +62,62 @@ struct Three {
     c: u16,
 }
 
-fn narrow_item(class: u64, f: Three) -> Asked {
+fn narrow_item(class: u32, f: Three) -> Asked {
     match class {
-        1 => Asked::Item(Item::Channel(Channel {
+        Class::ROW_CHANNEL => Asked::Item(Item::Channel(Channel {
             card: f.a,
             chip: f.b,
             channel: f.c,
         })),
-        2 => Asked::Item(Item::Histogram(Histogram {
+        Class::ROW_HISTOGRAM => Asked::Item(Item::Histogram(Histogram {
             card: f.a,
             chip: f.b,
             channel: f.c,
         })),
-        3 => Asked::Item(Item::HitCount(HitCount {
+        Class::ROW_HIT_COUNT => Asked::Item(Item::HitCount(HitCount {
             card: f.a,
             chip: f.b,
             count: f.c,
         })),
-        4 => Asked::Item(Item::Sample(Sample { value: f.a })),
-        6 => Asked::Item(Item::LastCell(LastCell {
+        Class::ROW_SAMPLE => Asked::Item(Item::Sample(Sample { value: f.a })),
+        Class::ROW_LAST_CELL => Asked::Item(Item::LastCell(LastCell {
             chip: f.a,
             cell: f.b,
         })),
-        7 => Asked::Item(Item::TimeBin(TimeBin { time: f.a })),
+        Class::ROW_TIME_BIN => Asked::Item(Item::TimeBin(TimeBin { time: f.a })),
         _ => Asked::Nothing,
     }
 }
 
 // Whether the class has only fields of 16 bits, the fields are within them, and those that it does not have are zero.
-fn narrow(class: u64, a2: u64, a3: u64, a4: u64) -> bool {
-    let three = (class == 1) | (class == 2) | (class == 3);
-    let two = three | (class == 6);
-    let one = two | (class == 4) | (class == 7);
+fn narrow(class: u32, a2: u64, a3: u64, a4: u64) -> bool {
+    let three = (class == Class::ROW_CHANNEL)
+        | (class == Class::ROW_HISTOGRAM)
+        | (class == Class::ROW_HIT_COUNT);
+    let two = three | (class == Class::ROW_LAST_CELL);
+    let one = two | (class == Class::ROW_SAMPLE) | (class == Class::ROW_TIME_BIN);
     one
         & (a2 <= 65535)
         & ((two & (a3 <= 65535)) | (a3 == 0))
         & ((three & (a4 <= 65535)) | (a4 == 0))
 }
 
-fn wide_item(class: u64, a2: u64, a3: u64, a4: u64) -> Asked {
+fn wide_item(class: u32, a2: u64, a3: u64, a4: u64) -> Asked {
     let kind = cases::low16(a2);
-    if (class == 5) & (a2 <= 65535) & (a3 <= 4294967295) & (a4 == 0) {
+    if (class == Class::ROW_BIN) & (a2 <= 65535) & (a3 <= 4294967295) & (a4 == 0) {
         return Asked::Item(Item::Bin(Bin {
             bin: kind,
             count: cases::low32(a3),
         }));
     }
-    if (class == 12) & (a2 <= 65535) & (a4 <= 4294967295) {
+    if (class == Class::ROW_START_EVENT) & (a2 <= 65535) & (a4 <= 4294967295) {
         return Asked::Item(Item::StartEvent(StartEvent {
             kind,
             timestamp: a3,
             number: cases::low32(a4),
         }));
     }
-    if (class == 13) & (a2 <= 4294967295) & (a3 == 0) & (a4 == 0) {
+    if (class == Class::ROW_END_EVENT) & (a2 <= 4294967295) & (a3 == 0) & (a4 == 0) {
         return Asked::Item(Item::EndEvent(EndEvent {
             size: cases::low32(a2),
         }));
@@ -122,7 +125,7 @@ fn wide_item(class: u64, a2: u64, a3: u64, a4: u64) -> Asked {
     Asked::Nothing
 }
 
-fn item_asked(class: u64, a2: u64, a3: u64, a4: u64) -> Asked {
+fn item_asked(class: u32, a2: u64, a3: u64, a4: u64) -> Asked {
     if narrow(class, a2, a3, a4) {
         let f = Three {
             a: cases::low16(a2),
@@ -144,7 +147,7 @@ pub(crate) fn add(
     a4: u64,
     line: &mut [u8],
 ) -> usize {
-    let asked = item_asked(a1, a2, a3, a4);
+    let asked = item_asked(cases::low32(a1), a2, a3, a4);
     match asked {
         Asked::Item(x) => add_item(p, a0, x, line),
         Asked::Nothing => 0,

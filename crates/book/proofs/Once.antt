@@ -7,8 +7,8 @@ use mathlib.Core.Bool.{Bool}
 use mathlib.Core.List.{List}
 use lib.Seq.{sets}
 use Rattle.format.specs.Words.{wordAt, longAt, timeAt}
-use Rattle.format.specs.Book.{classOf, after, textWords}
-use Rattle.format.specs.Items.{inRange}
+use Rattle.format.specs.Book.{classOf, rowOf, after, textWords}
+use Rattle.format.specs.Items.{inRange, key}
 use Rattle.book.specs.declared.class.Class.{Class}
 use Rattle.book.specs.declared.items.Channel.{Channel}
 use Rattle.book.specs.declared.items.Histogram.{Histogram}
@@ -21,13 +21,16 @@ use Rattle.book.specs.declared.items.Text.{Text}
 use Rattle.book.specs.declared.items.StartEvent.{StartEvent}
 use Rattle.book.specs.Fields.{channelOf, histogramOf, hitsOf, binOf, cellOf, typeOf, channelWord, histogramWord, hitsWord, sampleWord, binWord, cellWord, timeBinWord, textWord, startWord, channelItem, histogramItem, hitsItem, sampleItem, binItem, cellItem, timeItem, startItem}
 use Rattle.book.specs.Views.{view}
-use Rattle.book.specs.Promises.{Classified, TextLong, WordsAfter, ChannelRead, ChannelWord, ChannelValid, HistogramRead, HistogramWord, HistogramValid, HitCountRead, HitCountWord, HitCountValid, SampleRead, SampleWord, SampleValid, BinRead, BinWord, BinValid, LastCellRead, LastCellWord, LastCellValid, TimeBinRead, TimeBinWord, TimeBinValid, TextRead, TextWord, StartEventRead, StartEventWord, StartEventValid, EndEventLow, WordRead, LongRead, TimeRead, Copied}
+use Rattle.book.specs.Promises.{Classified, RowTold, TextLong, WordsAfter, KeyTold, ChannelRead, ChannelWord, ChannelValid, HistogramRead, HistogramWord, HistogramValid, HitCountRead, HitCountWord, HitCountValid, SampleRead, SampleWord, SampleValid, BinRead, BinWord, BinValid, LastCellRead, LastCellWord, LastCellValid, TimeBinRead, TimeBinWord, TimeBinValid, TextRead, TextWord, StartEventRead, StartEventWord, StartEventValid, EndEventLow, WordRead, LongRead, TimeRead, Copied}
 use Rattle.book.proofs.Unique.{one, undone, same-class, equal-once}
 
 -- ---- the class of a word, and the words that come after it
 
 pub classify-once : (w : ℕ) (r q : Class) → Classified w r → Classified w q → r ≡ q
 classify-once w = one view same-class (classOf w)
+
+pub row-once : (c : Class) (r q : ℕ) → RowTold c r → RowTold c q → r ≡ q
+row-once c = equal-once (rowOf (view c))
 
 pub text-words-once : (w r q : ℕ) → TextLong w r → TextLong w q → r ≡ q
 text-words-once w = equal-once (textWords w)
@@ -36,6 +39,9 @@ pub words-after-once : (w r q : ℕ) → WordsAfter w r → WordsAfter w q → r
 words-after-once w = equal-once (after (classOf w) w)
 
 -- ---- the items
+
+pub key-once : (card chip channel r q : ℕ) → KeyTold card chip channel r → KeyTold card chip channel q → r ≡ q
+key-once card chip channel = equal-once (key card chip channel)
 
 pub channel-read-once : (w : ℕ) (r q : Channel) → ChannelRead w r → ChannelRead w q → r ≡ q
 channel-read-once w = equal-once (channelOf w)

@@ -7,8 +7,8 @@ use mathlib.Core.Bool.{Bool}
 use mathlib.Core.List.{List}
 use lib.Seq.{sets}
 use Rattle.format.specs.Words.{wordAt, longAt, timeAt}
-use Rattle.format.specs.Book.{classOf, after, textWords}
-use Rattle.format.specs.Items.{inRange}
+use Rattle.format.specs.Book.{classOf, rowOf, after, textWords}
+use Rattle.format.specs.Items.{inRange, key}
 use Rattle.book.specs.declared.class.Class.{Class}
 use Rattle.book.specs.declared.items.Channel.{Channel}
 use Rattle.book.specs.declared.items.Histogram.{Histogram}
@@ -27,6 +27,10 @@ use Rattle.book.specs.Views.{view}
 abbrev pub Classified : ℕ → Class → Type 0
 Classified w r = view r ≡ classOf w
 
+-- its row in document 01's table
+abbrev pub RowTold : Class → ℕ → Type 0
+RowTold c r = r ≡ rowOf (view c)
+
 abbrev pub TextLong : ℕ → ℕ → Type 0
 TextLong w r = r ≡ textWords w
 
@@ -34,6 +38,10 @@ abbrev pub WordsAfter : ℕ → ℕ → Type 0
 WordsAfter w r = r ≡ after (classOf w) w
 
 -- ---- the items
+
+-- the order key of a header with these fields
+abbrev pub KeyTold : ℕ → ℕ → ℕ → ℕ → Type 0
+KeyTold card chip channel r = r ≡ key card chip channel
 
 abbrev pub ChannelRead : ℕ → Channel → Type 0
 ChannelRead w r = r ≡ channelOf w

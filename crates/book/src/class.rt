@@ -3,7 +3,7 @@ ghost use mathlib.Core.Path.{_≡_};
 ghost use Prim.Native.Nat.{_<_};
 ghost use Rattle.format.specs.Book.{classOf, after, textWords};
 ghost use Rattle.book.specs.Views.{view};
-ghost use Rattle.book.specs.Promises.{Classified, TextLong, WordsAfter};
+ghost use Rattle.book.specs.Promises.{Classified, RowTold, TextLong, WordsAfter};
 
 // A class of document 01's word book, in its order, or none.
 pub enum Class {
@@ -42,6 +42,61 @@ impl Class {
     pub const HISTOGRAM: u16 = 0x8000;
 
     pub const CHANNEL: u16 = 0xC000;
+}
+
+// The row of each class in document 01's table, from 1 on, named here once.
+impl Class {
+    pub const ROW_NONE: u32 = 0; // of a word that no row has
+
+    pub const ROW_CHANNEL: u32 = 1;
+
+    pub const ROW_HISTOGRAM: u32 = 2;
+
+    pub const ROW_HIT_COUNT: u32 = 3;
+
+    pub const ROW_SAMPLE: u32 = 4;
+
+    pub const ROW_BIN: u32 = 5;
+
+    pub const ROW_LAST_CELL: u32 = 6;
+
+    pub const ROW_TIME_BIN: u32 = 7;
+
+    pub const ROW_DATA_FRAME: u32 = 8;
+
+    pub const ROW_MONITOR_FRAME: u32 = 9;
+
+    pub const ROW_COMMAND_FRAME: u32 = 10;
+
+    pub const ROW_TEXT: u32 = 11;
+
+    pub const ROW_START_EVENT: u32 = 12;
+
+    pub const ROW_END_EVENT: u32 = 13;
+
+    pub const ROW_FRAME_END: u32 = 14;
+
+    pub fn row(self) -> u32
+        ensures { λ r. ⌜ RowTold self r ⌝ }
+    {
+        match self {
+            Class::Channel => Class::ROW_CHANNEL,
+            Class::Histogram => Class::ROW_HISTOGRAM,
+            Class::HitCount => Class::ROW_HIT_COUNT,
+            Class::Sample => Class::ROW_SAMPLE,
+            Class::Bin => Class::ROW_BIN,
+            Class::LastCell => Class::ROW_LAST_CELL,
+            Class::TimeBin => Class::ROW_TIME_BIN,
+            Class::DataFrame => Class::ROW_DATA_FRAME,
+            Class::MonitorFrame => Class::ROW_MONITOR_FRAME,
+            Class::CommandFrame => Class::ROW_COMMAND_FRAME,
+            Class::Text => Class::ROW_TEXT,
+            Class::StartEvent => Class::ROW_START_EVENT,
+            Class::EndEvent => Class::ROW_END_EVENT,
+            Class::FrameEnd => Class::ROW_FRAME_END,
+            Class::Unassigned => Class::ROW_NONE,
+        }
+    }
 }
 
 // The class of a word below 0x1800, by the prefixes of seven bits and more.

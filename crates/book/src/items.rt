@@ -1,8 +1,13 @@
 // The ten items: what each holds, its limits, its fields cut out of a word by shifts and masks and put in the same way. The fields are wide
-// enough that a content too wide for the word can be handed to the writer, which refuses it. Each limit is named in its item, once.
+// enough that a content too wide for the word can be handed to the writer, which refuses it. Each limit is named in its item, once; that of a
+// card, which a frame start has too, before them.
 ghost use mathlib.Core.Path.{_≡_};
 ghost use Rattle.book.specs.Fields.{threeCut};
-ghost use Rattle.book.specs.Promises.{ChannelRead, ChannelWord, ChannelValid, HistogramRead, HistogramWord, HistogramValid, HitCountRead, HitCountWord, HitCountValid, SampleRead, SampleWord, SampleValid, BinRead, BinWord, BinValid, LastCellRead, LastCellWord, LastCellValid, TimeBinRead, TimeBinWord, TimeBinValid, TextRead, TextWord, StartEventRead, StartEventWord, StartEventValid, EndEventLow};
+ghost use Rattle.book.specs.Promises.{KeyTold, ChannelRead, ChannelWord, ChannelValid, HistogramRead, HistogramWord, HistogramValid, HitCountRead, HitCountWord, HitCountValid, SampleRead, SampleWord, SampleValid, BinRead, BinWord, BinValid, LastCellRead, LastCellWord, LastCellValid, TimeBinRead, TimeBinWord, TimeBinValid, TextRead, TextWord, StartEventRead, StartEventWord, StartEventValid, EndEventLow};
+use crate::class::Class;
+
+// The last card: five bits of a word.
+pub const LAST_CARD: u16 = 31;
 
 // A channel of a chip of a card, whose samples follow.
 pub struct Channel {
@@ -82,8 +87,16 @@ fn three(card: u16, chip: u16, low: u16) -> u16
     (card & 0x1F) << 9 | (chip & 3) << 7 | low & 0x7F
 }
 
+// The order key by which Channel headers rise in an event, and Histogram headers in a frame. It is not the 14-bit content itself: there is
+// room for sixteen chips (docs/DECISIONS.md).
+pub fn key(card: u16, chip: u16, channel: u16) -> u32
+    ensures { λ r. ⌜ KeyTold card chip channel r ⌝ }
+{
+    card as u32 * 2048 + chip as u32 * 128 + channel as u32
+}
+
 impl Channel {
-    pub const LAST_CARD: u16 = 31; // five bits of a Channel's word
+    pub const LAST_CARD: u16 = LAST_CARD; // that a Channel may have
 
     pub const LAST_CHIP: u16 = 3; // two bits of a Channel's word
 
@@ -104,7 +117,7 @@ impl Channel {
     pub fn word(self) -> u16
         ensures { λ r. ⌜ ChannelWord self r ⌝ }
     {
-        three(self.card, self.chip, self.channel) | 0xC000
+        three(self.card, self.chip, self.channel) | Class::CHANNEL
     }
 
     // The value rules in a frame of the card. Here and in the two items below the card has a branch of its own: it costs less than all the
@@ -122,11 +135,11 @@ impl Channel {
 }
 
 impl Histogram {
-    pub const LAST_CARD: u16 = 31; // five bits of a Histogram's word
+    pub const LAST_CARD: u16 = LAST_CARD; // that a Histogram may have
 
     pub const LAST_CHIP: u16 = 3; // two bits of a Histogram's word
 
-    pub const LAST: u16 = 78; // the last channel that has a histogram
+    pub const LAST: u16 = Channel::LAST; // every channel may have a histogram
 
     // The fields of a word, high bits first: card 5, chip 2, channel 7.
     pub fn of_word(w: u16) -> Histogram
@@ -143,7 +156,7 @@ impl Histogram {
     pub fn word(self) -> u16
         ensures { λ r. ⌜ HistogramWord self r ⌝ }
     {
-        three(self.card, self.chip, self.channel) | 0x8000
+        three(self.card, self.chip, self.channel) | Class::HISTOGRAM
     }
 
     // The value rules in a frame of the card.
@@ -160,7 +173,7 @@ impl Histogram {
 }
 
 impl HitCount {
-    pub const LAST_CARD: u16 = 31; // five bits of a Hit count's word
+    pub const LAST_CARD: u16 = LAST_CARD; // that a Hit count may have
 
     pub const LAST_CHIP: u16 = 3; // two bits of a Hit count's word
 
@@ -181,7 +194,7 @@ impl HitCount {
     pub fn word(self) -> u16
         ensures { λ r. ⌜ HitCountWord self r ⌝ }
     {
-        three(self.card, self.chip, self.count) | 0x4000
+        three(self.card, self.chip, self.count) | Class::HIT_COUNT
     }
 
     // The value rules in a frame of the card.
@@ -210,7 +223,7 @@ impl Sample {
     pub fn word(self) -> u16
         ensures { λ r. ⌜ SampleWord self r ⌝ }
     {
-        self.value & 0xFFF | 0x3000
+        self.value & 0xFFF | Class::SAMPLE
     }
 
     pub fn valid(self) -> bool
@@ -236,13 +249,13 @@ impl Bin {
     pub fn word(self) -> u16
         ensures { λ r. ⌜ BinWord self r ⌝ }
     {
-        self.bin & 0xFFF | 0x2000
+        self.bin & 0xFFF | Class::BIN
     }
 
     pub fn valid(self) -> bool
         ensures { λ r. ⌜ BinValid self r ⌝ }
     {
-        (self.bin <= Bin::LAST) & (Bin::LEAST_COUNT <= self.count)
+        (Bin::LEAST_COUNT <= self.count) & (self.bin <= Bin::LAST)
     }
 }
 
@@ -265,7 +278,7 @@ impl LastCell {
     pub fn word(self) -> u16
         ensures { λ r. ⌜ LastCellWord self r ⌝ }
     {
-        (self.chip & 3) << 9 | self.cell & 0x1FF | 0x1800
+        (self.chip & 3) << 9 | self.cell & 0x1FF | Class::LAST_CELL
     }
 
     pub fn valid(self) -> bool

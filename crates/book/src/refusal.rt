@@ -1,11 +1,12 @@
 // A refusal: the number and the place that document 01 gives it.
+use follower::Followed;
 
 pub struct Refusal {
     pub number: u32,
     pub place: usize,
 }
 
-// The numbers of document 01's table of refusals, each named here once.
+// The numbers of document 01's table of refusals, each named here once; the follower, which depends on nothing, has its own two.
 impl Refusal {
     pub const LENGTH: u32 = 1;
 
@@ -13,7 +14,7 @@ impl Refusal {
 
     pub const SIZE: u32 = 3;
 
-    pub const SEQUENCE: u32 = 4;
+    pub const SEQUENCE: u32 = Followed::SEQUENCE;
 
     pub const END: u32 = 5;
 
@@ -33,7 +34,7 @@ impl Refusal {
 
     pub const ABSENT: u32 = 13;
 
-    pub const NO_START: u32 = 14;
+    pub const NO_START: u32 = Followed::NO_START;
 
     pub const HEADER: u32 = 20;
 

@@ -34,7 +34,7 @@ use Rattle.editor.specs.Views.{also, refusing, asked, itemTests}
 use Rattle.editor.specs.Promises.{Edited}
 use Rattle.editor.specs.Writes.{Known, Editable}
 use Rattle.editor.proofs.Orders.{ordered}
-use Rattle.editor.proofs.Storing.{part-whole}
+use Rattle.format.proofs.StoringLaws.{part-whole}
 use Rattle.editor.proofs.KnownLaws.{frame-long, sum, inside, standing}
 
 -- ---- tests

@@ -1,6 +1,5 @@
 pub mod front
 pub mod Orders
-pub mod Storing
 pub mod OpenLaws
 pub mod KnownLaws
 pub mod EditLaws

@@ -17,7 +17,7 @@ use Rattle.ledger.specs.Calls.{openAnswer, openExit}
 use Rattle.ledger.specs.First.{first}
 use Rattle.ledger.specs.House.{house, house-judge}
 use Rattle.ledger.proofs.answers.Answering.{leaves-found, leaves-written}
-use Rattle.ledger.proofs.records.Stores.{part-stores}
+use Rattle.format.proofs.StoringLaws.{part-stores}
 use Rattle.ledger.proofs.calls.Opening.{open-exactly, open-refused, open-no-room}
 use Rattle.ledger.proofs.house.House.{house-first}
 use Rattle.editor.specs.Promises.{Opened}
@@ -34,7 +34,7 @@ pub opened-stores : (b f l₁ l₂ : List ℕ) → 16 + length f ≤ length b �
 unfolding header bytes
 opened-stores b f l₁ l₂ h e₁ e₂ =
     let k : 16 + length f ≤ length l₁ = rw (e₁, length-sets b 0 (header first (length f) 0)) h in
-    rw e₂ (part-stores l₁ 16 (16 + length f) 0 f (omega arith) k (omega arith) ∙ ap (λ (x : List ℕ). sets x 16 f) e₁)
+    part-stores l₁ 16 (16 + length f) l₂ f (omega arith) k (omega arith) e₂ ∙ ap (λ (x : List ℕ). sets x 16 f) e₁
 
 -- what reading a frame answers is the book's verdict on it
 read-judged : (f : List ℕ) (o : Outcome Overview) → o ≡ readOf f → house .judge f ≡ done o

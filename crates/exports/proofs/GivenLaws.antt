@@ -1,15 +1,17 @@
 -- A flat item that is no item: its number, and that nothing is written.
 -- Assumes nothing.
 use Prim.Native.Nat.{ℕ, zero, suc, _/_, _≤_}
-use mathlib.Core.Path.{_≡_, refl, sym, subst, _∙_}
-use mathlib.Core.List.{List, []}
+use mathlib.Core.Path.{_≡_, refl, sym, ap, subst}
+use mathlib.Core.List.{List, [], _∷_, map}
 use native.Mathlib.Omega.{arith}
 use lib.Seq.{sets}
-use lib.ListN.{getD, List·getD-eq-default}
+use lib.ListN.{List·getD-eq-default}
 use Rattle.format.specs.Answers.{Outcome, accepted, refused, andThen, leaves}
+use Rattle.format.specs.Prefix.{Row}
+use Rattle.format.specs.Book.{Class, unassigned, book, classAt}
 use Rattle.format.specs.Items.{Token, flawed}
 use Rattle.format.specs.Rules.{check}
-use Rattle.format.specs.Writing.{Partial, partialVerdict, addChecked, addAnswer, addLeft}
+use Rattle.format.specs.Writing.{Partial, partialVerdict, addAnswer, addLeft}
 use Rattle.format.specs.PartialSteps.{PartialOverview, partialReadOf}
 use Rattle.format.proofs.reader.PartialJudging.{add-refused, contained}
 use Rattle.exports.specs.declared.answers.PlaneItem.{PlaneItem}
@@ -35,9 +37,9 @@ pub unnamed : (x : PlaneItem) → NoneTo 14 (x .«item_class») → flawed 6 ≡
 unfolding tokenOf
 unnamed x n = go (x .«item_class») n
   where
-    go : (k : ℕ) → NoneTo 14 k → flawed 6 ≡ getD (said x) k (flawed 6)
+    go : (k : ℕ) → NoneTo 14 k → flawed 6 ≡ said x (classAt k)
     go zero n = refl
-    go (suc k) n = let h : 15 ≤ suc k = above 14 (suc k) (omega arith) n in sym (List·getD-eq-default (said x) (flawed 6) h)
+    go (suc k) n = let h : 15 ≤ suc k = above 14 (suc k) (omega arith) n in ap (said x) (sym (List·getD-eq-default (unassigned ∷ map (λ (r : Row Class). r .class) book) unassigned h))
 
 module _ (buf : List ℕ) (n k : ℕ) where
   pub flawed-refused : (j p : ℕ) → refused j p ≡ partialReadOf buf n → record { refused = j; place = p; length = 0 } ≡ flatWritten (addAnswer buf n (flawed k))

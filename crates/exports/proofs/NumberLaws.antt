@@ -1,27 +1,25 @@
 -- No call refuses by 0.
 -- Assumes nothing.
 use Prim.Native.Nat.{ℕ, zero, suc, _≤_}
-use mathlib.Core.Path.{_≡_, refl, sym, ap, subst, _∙_}
+use mathlib.Core.Path.{_≡_, refl, sym, subst, _∙_}
 use mathlib.Core.Logic.{_⊎_, inl, inr, ⊎-elim}
-use mathlib.Core.Bool.{Bool, true, false, _&&_}
+use mathlib.Core.Bool.{Bool, true, false}
 use mathlib.Core.List.{List, [], _∷_}
 use mathlib.Core.Option.{Option, none, some}
 use native.Mathlib.Omega.{arith}
 use lib.Dec.{leb}
-use lib.ListN.{getD}
 use Rattle.format.specs.Words.{Bytes, pick}
-use Rattle.format.specs.Answers.{Outcome, accepted, refused, andThen, Done}
-use Rattle.format.specs.Book.{endEvent}
-use Rattle.format.specs.Items.{Item, Text, wordsOf, Token, whole, flawed}
+use Rattle.format.specs.Answers.{Outcome, accepted, refused, andThen}
+use Rattle.format.specs.Book.{Class, channel, histogram, hitCount, sample, bin, lastCell, timeBin, dataFrame, monitorFrame, commandFrame, text, startEvent, endEvent, frameEnd, unassigned, classAt}
+use Rattle.format.specs.Items.{Item, Text, Token, whole, flawed}
 use Rattle.format.specs.Rules.{Kind, check}
-use Rattle.format.specs.Frames.{Frame, verdict}
+use Rattle.format.specs.Frames.{verdict}
 use Rattle.format.specs.Steps.{readOf}
 use Rattle.format.specs.Questions.{nth, itemAt, shownAt, present, events, pickNth, eventAt, until, past, isChannel, isHistogram, channelIn, samplesAt, countsAt, done}
-use Rattle.format.specs.Writing.{partialVerdict, beginAnswer, addAnswer, closeAnswer}
+use Rattle.format.specs.Writing.{partialVerdict, addAnswer, closeAnswer}
 use Rattle.format.specs.WriterCases.{oneOf, handed}
 use Rattle.format.proofs.front.Refusals.{places}
 use Rattle.format.proofs.front.Writing.{partial-list, begin-list, add-list, close-list}
-use Rattle.ledger.specs.Formats.{Correction}
 use Rattle.ledger.specs.Calls.{recordAnswer, entryAnswer, openAnswer, editAnswer, restoreAnswer}
 use Rattle.ledger.specs.First.{first}
 use Rattle.ledger.specs.House.{house, house-judge}
@@ -109,29 +107,22 @@ begin-numbered (some k) buf card sequence =
 abbrev Sayable : Token → Type 0
 Sayable t = (handed t ≡ true) ⊎ ((k : ℕ) × (t ≡ flawed k) × (1 ≤ k))
 
-data AllSayable : List Token → Type 0 where
-  no : AllSayable []
-  also : {t : Token} {ts : List Token} → Sayable t → AllSayable ts → AllSayable (t ∷ ts)
-
-in-list : (ts : List Token) (d : Token) → AllSayable ts → Sayable d → (k : ℕ) → Sayable (getD ts k d)
-in-list [] d a h k = h
-in-list (t ∷ ts) d (also a rest) h zero = a
-in-list (t ∷ ts) d (also a rest) h (suc k) = in-list ts d rest h k
-
-no-class : Sayable (flawed 6)
-no-class = inr (6, refl, omega arith)
-
-no-item : Sayable (flawed 8)
-no-item = inr (8, refl, omega arith)
-
-sayable : (x : PlaneItem) → Sayable (tokenOf x)
-unfolding tokenOf
-sayable x =
-    in-list (said x) (flawed 6)
-    (also no-class (also (inl refl) (also (inl refl) (also (inl refl) (also (inl refl) (also (inl refl) (also (inl refl) (also (inl refl)
-    (also no-item (also no-item (also no-item (also (inl refl) (also (inl refl) (also (inl refl) (also no-item no)))))))))))))))
-    no-class
-    (x .«item_class»)
+sayable : (x : PlaneItem) (c : Class) → Sayable (said x c)
+sayable x channel = inl refl
+sayable x histogram = inl refl
+sayable x hitCount = inl refl
+sayable x sample = inl refl
+sayable x bin = inl refl
+sayable x lastCell = inl refl
+sayable x timeBin = inl refl
+sayable x dataFrame = inr (8, refl, omega arith)
+sayable x monitorFrame = inr (8, refl, omega arith)
+sayable x commandFrame = inr (8, refl, omega arith)
+sayable x text = inl refl
+sayable x startEvent = inl refl
+sayable x endEvent = inl refl
+sayable x frameEnd = inr (8, refl, omega arith)
+sayable x unassigned = inr (6, refl, omega arith)
 
 module _ (buf : List ℕ) (bs : Bytes buf) (n : ℕ) where
   handed-numbered : (t : Token) → handed t ≡ true → Numbered (addAnswer buf n t)
@@ -144,8 +135,9 @@ module _ (buf : List ℕ) (bs : Bytes buf) (n : ℕ) where
       (record { least = λ k p e. from-one (1 ∷ 2 ∷ 3 ∷ 4 ∷ 6 ∷ 7 ∷ 8 ∷ 9 ∷ 10 ∷ []) refl k (partial-list buf bs n k p e) }) (λ f. by j _ h)
 
   pub add-numbered : (x : PlaneItem) → Numbered (addAnswer buf n (tokenOf x))
+  unfolding tokenOf
   add-numbered x =
-      ⊎-elim (handed-numbered (tokenOf x)) (λ w. subst (λ (t : Token). Numbered (addAnswer buf n t)) (sym (w .1)) (flawed-numbered (w .0) (w .2))) (sayable x)
+      ⊎-elim (handed-numbered (tokenOf x)) (λ w. subst (λ (t : Token). Numbered (addAnswer buf n t)) (sym (w .1)) (flawed-numbered (w .0) (w .2))) (sayable x (classAt (x .«item_class»)))
 
   pub add-text-numbered : (s : List ℕ) → Numbered (addAnswer buf n (whole (Text s)))
   add-text-numbered s = handed-numbered (whole (Text s)) refl

@@ -4,7 +4,7 @@
 use Prim.Native.Nat.{ℕ}
 use mathlib.Core.Path.{_≡_, sym, _∙_}
 use mathlib.Core.List.{List}
-use Rattle.format.specs.Book.{classOf}
+use Rattle.format.specs.Book.{classOf, rowOf}
 use Rattle.format.specs.Steps.{readOf}
 use Rattle.format.specs.Questions.{shownAt, eventAt}
 use Rattle.follower.specs.Follow.{follow}
@@ -24,14 +24,14 @@ use Rattle.exports.specs.declared.answers.PlaneFollowed.{PlaneFollowed}
 use Rattle.exports.specs.declared.answers.PlaneRecord.{PlaneRecord}
 use Rattle.exports.specs.declared.answers.PlaneEntry.{PlaneEntry}
 use Rattle.exports.specs.declared.answers.PlaneWritten.{PlaneWritten}
-use Rattle.exports.specs.Flat.{classNumber, flatFrame, flatFound, flatEvent, flatFollowed, flatRecord, flatEntry}
+use Rattle.exports.specs.Flat.{flatFrame, flatFound, flatEvent, flatFollowed, flatRecord, flatEntry}
 use Rattle.exports.specs.Given.{followerOf}
 use Rattle.exports.specs.Promises.{ClassNumbered, FrameTold, ItemTold, TextPart, EventTold, FollowTold, RecordTold, EntryTold, Leaves, Sampled, Counted, Begun, Added, AddedText, Closed, Opened, Edited, Restored}
 
 -- ---- an answer alone
 
 pub classify-once : (word r q : ℕ) → ClassNumbered word r → ClassNumbered word q → r ≡ q
-classify-once word = equal-once (classNumber (classOf word))
+classify-once word = equal-once (rowOf (classOf word))
 
 pub read-once : (s : List ℕ) (r q : PlaneFrame) → FrameTold s r → FrameTold s q → r ≡ q
 read-once s = equal-once (flatFrame (readOf s))

@@ -3,17 +3,18 @@
 use Prim.Native.Nat.{ℕ, _≤_}
 use mathlib.Core.Path.{_≡_, refl, sym, ap, ap₂, _∙_}
 use mathlib.Core.Logic.{_↔_}
-use mathlib.Core.List.{List, [], _∷_}
+use mathlib.Core.List.{[], _∷_}
 use mathlib.Core.Option.{some}
 use native.Mathlib.Omega.{arith}
 use lib.Dec.{eqb}
 use lib.ListN.{getD}
 use Rattle.format.specs.Words.{pick}
 use Rattle.format.specs.Answers.{Outcome, accepted, refused, andThen}
-use Rattle.format.specs.Book as book
+use Rattle.format.specs.Book.{Class, rowOf, classAt}
+use Rattle.format.proofs.front.Book.{book-row-stands}
 use Rattle.format.specs.Items.{ItemOf, Channel, Histogram, HitCount, Sample, Bin, LastCell, TimeBin, Text, StartEvent, EndEvent}
 use Rattle.format.specs.Rules.{Kind, dataKind, monitorKind, commandKind}
-use Rattle.format.specs.Questions.{Shown, Event}
+use Rattle.format.specs.Questions.{Shown}
 use Rattle.format.specs.Writing.{given}
 use Rattle.follower.specs.Follow as follow
 use Rattle.ledger.specs.Formats.{Correction}
@@ -23,39 +24,14 @@ use Rattle.exports.specs.declared.answers.PlaneItem.{PlaneItem}
 use Rattle.exports.specs.declared.answers.PlaneFound.{PlaneFound}
 use Rattle.exports.specs.declared.answers.PlaneFollower.{PlaneFollower}
 use Rattle.exports.specs.declared.answers.PlaneCorrection.{PlaneCorrection}
-use Rattle.exports.specs.Flat.{classNumber, kindNumber, flatDone, flatFrame, flatItem, flatFound, flatEvent, flatWritten, flatFollower, flatFollowed, flatRecord, flatEntry}
+use Rattle.exports.specs.Flat.{kindNumber, flatDone, flatFrame, flatItem, flatFound, flatEvent, flatWritten, flatFollower, flatFollowed, flatRecord, flatEntry}
 use Rattle.exports.specs.Given.{asked, followerOf, kindOf, tokenOf}
 use Rattle.exports.specs.Told.{Numbered, Tells, FrameSeen, seenFrame, seenEntry}
 
 -- ---- numbers of classes and kinds
 
-abbrev classBack : ℕ → book.Class
-classBack n =
-    getD
-    (book.unassigned ∷ book.channel ∷ book.histogram ∷ book.hitCount ∷ book.sample ∷ book.bin ∷ book.lastCell ∷ book.timeBin ∷ book.dataFrame
-    ∷ book.monitorFrame ∷ book.commandFrame ∷ book.text ∷ book.startEvent ∷ book.endEvent ∷ book.frameEnd ∷ [])
-    n
-    book.unassigned
-
-class-back : (c : book.Class) → classBack (classNumber c) ≡ c
-class-back book.channel = refl
-class-back book.histogram = refl
-class-back book.hitCount = refl
-class-back book.sample = refl
-class-back book.bin = refl
-class-back book.lastCell = refl
-class-back book.timeBin = refl
-class-back book.dataFrame = refl
-class-back book.monitorFrame = refl
-class-back book.commandFrame = refl
-class-back book.text = refl
-class-back book.startEvent = refl
-class-back book.endEvent = refl
-class-back book.frameEnd = refl
-class-back book.unassigned = refl
-
-pub same-class : (c d : book.Class) → classNumber c ≡ classNumber d → c ≡ d
-same-class = undone classNumber classBack class-back
+pub same-class : (c d : Class) → rowOf c ≡ rowOf d → c ≡ d
+same-class = undone rowOf classAt book-row-stands
 
 abbrev kindBack : ℕ → Kind
 kindBack n = pick (eqb n 1) dataKind (pick (eqb n 2) monitorKind commandKind)

@@ -5,6 +5,7 @@ use Prim.Native.Nat.{ℕ}
 use Rattle.format.specs.Answers as answers
 use Rattle.format.specs.Answers.{Outcome}
 use Rattle.format.specs.Book as book
+use Rattle.format.specs.Book.{rowOf}
 use Rattle.format.specs.Items.{ItemOf, Channel, Histogram, HitCount, Sample, Bin, LastCell, TimeBin, Text, StartEvent, EndEvent}
 use Rattle.format.specs.Rules.{Kind, dataKind, monitorKind, commandKind}
 use Rattle.format.specs.Steps.{Overview}
@@ -22,24 +23,6 @@ use Rattle.exports.specs.declared.answers.PlaneFollower.{PlaneFollower}
 use Rattle.exports.specs.declared.answers.PlaneFollowed.{PlaneFollowed}
 use Rattle.exports.specs.declared.answers.PlaneRecord.{PlaneRecord}
 use Rattle.exports.specs.declared.answers.PlaneEntry.{PlaneEntry}
-
--- the row of a class in document 01's word book
-abbrev pub classNumber : book.Class → ℕ
-classNumber book.channel = 1
-classNumber book.histogram = 2
-classNumber book.hitCount = 3
-classNumber book.sample = 4
-classNumber book.bin = 5
-classNumber book.lastCell = 6
-classNumber book.timeBin = 7
-classNumber book.dataFrame = 8
-classNumber book.monitorFrame = 9
-classNumber book.commandFrame = 10
-classNumber book.text = 11
-classNumber book.startEvent = 12
-classNumber book.endEvent = 13
-classNumber book.frameEnd = 14
-classNumber book.unassigned = 0
 
 abbrev pub kindNumber : Kind → ℕ
 kindNumber dataKind = 1
@@ -79,20 +62,20 @@ blank class = row class 0 0 0 0 0 0 0 0 0 0 0 0 0 0
 
 -- class, card, chip, channel, hits, value, bin, cell, time, length, kind, count, number, size, timestamp
 unfoldable pub flatItem : ItemOf ℕ → PlaneItem
-flatItem (Channel a b c) = row 1 a b c 0 0 0 0 0 0 0 0 0 0 0
-flatItem (Histogram a b c) = row 2 a b c 0 0 0 0 0 0 0 0 0 0 0
-flatItem (HitCount a b n) = row 3 a b 0 n 0 0 0 0 0 0 0 0 0 0
-flatItem (Sample v) = row 4 0 0 0 0 v 0 0 0 0 0 0 0 0 0
-flatItem (Bin b n) = row 5 0 0 0 0 0 b 0 0 0 0 n 0 0 0
-flatItem (LastCell b c) = row 6 0 b 0 0 0 0 c 0 0 0 0 0 0 0
-flatItem (TimeBin t) = row 7 0 0 0 0 0 0 0 t 0 0 0 0 0 0
-flatItem (Text n) = row 11 0 0 0 0 0 0 0 0 n 0 0 0 0 0
-flatItem (StartEvent k ts n) = row 12 0 0 0 0 0 0 0 0 0 k 0 n 0 ts
-flatItem (EndEvent n) = row 13 0 0 0 0 0 0 0 0 0 0 0 0 n 0
+flatItem (Channel a b c) = row (rowOf book.channel) a b c 0 0 0 0 0 0 0 0 0 0 0
+flatItem (Histogram a b c) = row (rowOf book.histogram) a b c 0 0 0 0 0 0 0 0 0 0 0
+flatItem (HitCount a b n) = row (rowOf book.hitCount) a b 0 n 0 0 0 0 0 0 0 0 0 0
+flatItem (Sample v) = row (rowOf book.sample) 0 0 0 0 v 0 0 0 0 0 0 0 0 0
+flatItem (Bin b n) = row (rowOf book.bin) 0 0 0 0 0 b 0 0 0 0 n 0 0 0
+flatItem (LastCell b c) = row (rowOf book.lastCell) 0 b 0 0 0 0 c 0 0 0 0 0 0 0
+flatItem (TimeBin t) = row (rowOf book.timeBin) 0 0 0 0 0 0 0 t 0 0 0 0 0 0
+flatItem (Text n) = row (rowOf book.text) 0 0 0 0 0 0 0 0 n 0 0 0 0 0
+flatItem (StartEvent k ts n) = row (rowOf book.startEvent) 0 0 0 0 0 0 0 0 0 k 0 n 0 ts
+flatItem (EndEvent n) = row (rowOf book.endEvent) 0 0 0 0 0 0 0 0 0 0 0 0 n 0
 
 unfoldable pub flatFound : Outcome Shown → PlaneFound
 flatFound (answers.accepted x) = record { refused = 0; place = 0; next = x .next; item = flatItem (x .item) }
-flatFound (answers.refused n p) = record { refused = n; place = p; next = 0; item = blank 0 }
+flatFound (answers.refused n p) = record { refused = n; place = p; next = 0; item = blank (rowOf book.unassigned) }
 
 unfoldable pub flatEvent : Outcome Event → PlaneEvent
 flatEvent (answers.accepted v) = record { refused = 0; place = 0; kind = v .kind; timestamp = v .timestamp; number = v .number; size = v .size; index = v .index }

@@ -1,12 +1,12 @@
 -- What is handed to the exports flat: what an edit asks, a follower, the kind of a frame, an item.
 -- Assumes nothing.
 use Prim.Native.Nat.{ℕ}
-use mathlib.Core.List.{List, [], _∷_}
+use mathlib.Core.List.{List, []}
 use mathlib.Core.Option.{Option, none, some}
 use lib.Dec.{eqb}
-use lib.ListN.{getD}
 use Rattle.format.specs.Words.{pick}
 use Rattle.format.specs.Answers.{Outcome, refused}
+use Rattle.format.specs.Book.{Class, channel, histogram, hitCount, sample, bin, lastCell, timeBin, dataFrame, monitorFrame, commandFrame, text, startEvent, endEvent, frameEnd, unassigned, classAt}
 use Rattle.format.specs.Items.{Channel, Histogram, HitCount, Sample, Bin, LastCell, TimeBin, Text, StartEvent, EndEvent, Token, flawed}
 use Rattle.format.specs.Rules.{Kind, dataKind, monitorKind, commandKind}
 use Rattle.format.specs.Writing as writing
@@ -43,29 +43,26 @@ begunLeft (some k) buf card sequence = beginLeft buf k card sequence
 
 -- ---- add
 
--- by class number, from 0: "Frame starts and Frame end are never items", 8
-abbrev pub said : PlaneItem → List Token
-said x =
-    flawed 6
-    ∷ writing.given (Channel (x .card) (x .chip) (x .channel))
-    ∷ writing.given (Histogram (x .card) (x .chip) (x .channel))
-    ∷ writing.given (HitCount (x .card) (x .chip) (x .hits))
-    ∷ writing.given (Sample (x .value))
-    ∷ writing.given (Bin (x .bin) (x .count))
-    ∷ writing.given (LastCell (x .chip) (x .cell))
-    ∷ writing.given (TimeBin (x .time))
-    ∷ flawed 8
-    ∷ flawed 8
-    ∷ flawed 8
-    ∷ writing.given (Text (x .length))
-    ∷ writing.given (StartEvent (x .kind) (x .timestamp) (x .number))
-    ∷ writing.given (EndEvent (x .size))
-    ∷ flawed 8
-    ∷ []
+-- "Frame starts and Frame end are never items", 8; a number that no class has is 6, CLASS
+abbrev pub said : PlaneItem → Class → Token
+said x channel = writing.given (Channel (x .card) (x .chip) (x .channel))
+said x histogram = writing.given (Histogram (x .card) (x .chip) (x .channel))
+said x hitCount = writing.given (HitCount (x .card) (x .chip) (x .hits))
+said x sample = writing.given (Sample (x .value))
+said x bin = writing.given (Bin (x .bin) (x .count))
+said x lastCell = writing.given (LastCell (x .chip) (x .cell))
+said x timeBin = writing.given (TimeBin (x .time))
+said x dataFrame = flawed 8
+said x monitorFrame = flawed 8
+said x commandFrame = flawed 8
+said x text = writing.given (Text (x .length))
+said x startEvent = writing.given (StartEvent (x .kind) (x .timestamp) (x .number))
+said x endEvent = writing.given (EndEvent (x .size))
+said x frameEnd = flawed 8
+said x unassigned = flawed 6
 
--- a number that no class has is 6, CLASS
 unfoldable pub tokenOf : PlaneItem → Token
-tokenOf x = getD (said x) (x .«item_class») (flawed 6)
+tokenOf x = said x (classAt (x .«item_class»))
 
 abbrev pub viewGiven : Given → Token
 viewGiven (given.Item x) = writing.given (viewItem x)

@@ -5,7 +5,7 @@ use Prim.Native.Nat.{ℕ}
 use mathlib.Core.Path.{_≡_}
 use mathlib.Core.List.{List}
 use lib.ListN.{length, take, drop}
-use Rattle.format.specs.Book.{classOf}
+use Rattle.format.specs.Book.{classOf, rowOf}
 use Rattle.format.specs.Items.{Text, whole}
 use Rattle.format.specs.Steps.{readOf}
 use Rattle.format.specs.Questions.{shownAt, eventAt, textAt, done, samplesAt, samplesLeft, countsAt, countsLeft}
@@ -27,13 +27,13 @@ use Rattle.exports.specs.declared.answers.PlaneFollowed.{PlaneFollowed}
 use Rattle.exports.specs.declared.answers.PlaneRecord.{PlaneRecord}
 use Rattle.exports.specs.declared.answers.PlaneEntry.{PlaneEntry}
 use Rattle.exports.specs.declared.answers.PlaneWritten.{PlaneWritten}
-use Rattle.exports.specs.Flat.{classNumber, flatDone, flatFrame, flatFound, flatEvent, flatFollowed, flatRecord, flatEntry, flatWritten}
+use Rattle.exports.specs.Flat.{flatDone, flatFrame, flatFound, flatEvent, flatFollowed, flatRecord, flatEntry, flatWritten}
 use Rattle.exports.specs.Given.{followerOf, kindOf, begun, begunLeft, tokenOf}
 
 -- ---- an answer alone
 
 abbrev pub ClassNumbered : ℕ → ℕ → Type 0
-ClassNumbered word r = r ≡ classNumber (classOf word)
+ClassNumbered word r = r ≡ rowOf (classOf word)
 
 abbrev pub FrameTold : List ℕ → PlaneFrame → Type 0
 FrameTold s r = r ≡ flatFrame (readOf s)

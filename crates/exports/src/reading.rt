@@ -1,8 +1,8 @@
 // The class of a word, and the questions on a frame and its items.
 ghost use mathlib.Core.Path.{_≡_};
-ghost use Rattle.book.specs.Views.{view, viewItem};
+ghost use Rattle.book.specs.Views.{viewItem};
 ghost use Rattle.frame.specs.Views.{viewKind, viewReading, viewFound};
-ghost use Rattle.exports.specs.Flat.{classNumber, kindNumber, row, blank, flatItem, flatFrame, flatFound};
+ghost use Rattle.exports.specs.Flat.{kindNumber, row, blank, flatItem, flatFrame, flatFound};
 ghost use Rattle.exports.specs.Promises.{ClassNumbered, FrameTold, ItemTold, TextPart};
 use crate::answers::PlaneFound;
 use crate::answers::PlaneFrame;
@@ -17,35 +17,12 @@ use frame::reading::Reading;
 use frame::reading::read;
 use frame::state::Kind;
 
-// The row of a class in document 01's word book, from 1 on; 0 where a word has none.
-fn class_number(class: Class) -> u32
-    ensures { λ r. ⌜ r ≡ classNumber (view class) ⌝ }
-{
-    match class {
-        Class::Channel => 1,
-        Class::Histogram => 2,
-        Class::HitCount => 3,
-        Class::Sample => 4,
-        Class::Bin => 5,
-        Class::LastCell => 6,
-        Class::TimeBin => 7,
-        Class::DataFrame => 8,
-        Class::MonitorFrame => 9,
-        Class::CommandFrame => 10,
-        Class::Text => 11,
-        Class::StartEvent => 12,
-        Class::EndEvent => 13,
-        Class::FrameEnd => 14,
-        Class::Unassigned => 0,
-    }
-}
-
-// The class of a word.
+// The row of a word's class in document 01's word book, from 1 on; 0 where it has none.
 #[no_mangle]
 pub extern "C" fn plane_classify(word: u16) -> u32
     ensures { λ r. ⌜ ClassNumbered word r ⌝ }
 {
-    class_number(classify(word))
+    classify(word).row()
 }
 
 fn kind_number(kind: Kind) -> u16
@@ -160,16 +137,16 @@ fn flat_item(item: Item) -> PlaneItem
     ensures { λ r. ⌜ r ≡ flatItem (viewItem item) ⌝ }
 {
     match item {
-        Item::Channel(x) => chip_item(1, x.card, x.chip, x.channel, 0, 0),
-        Item::Histogram(x) => chip_item(2, x.card, x.chip, x.channel, 0, 0),
-        Item::HitCount(x) => chip_item(3, x.card, x.chip, 0, x.count, 0),
-        Item::Sample(x) => value_item(4, x.value, 0, 0, 0, 0),
-        Item::Bin(x) => value_item(5, 0, x.bin, x.count, 0, 0),
-        Item::LastCell(x) => chip_item(6, 0, x.chip, 0, 0, x.cell),
-        Item::TimeBin(x) => value_item(7, 0, 0, 0, x.time, 0),
-        Item::Text(x) => value_item(11, 0, 0, 0, 0, x.length),
-        Item::StartEvent(x) => event_item(12, x.kind, x.timestamp, x.number, 0),
-        Item::EndEvent(x) => event_item(13, 0, 0, 0, x.size),
+        Item::Channel(x) => chip_item(Class::ROW_CHANNEL, x.card, x.chip, x.channel, 0, 0),
+        Item::Histogram(x) => chip_item(Class::ROW_HISTOGRAM, x.card, x.chip, x.channel, 0, 0),
+        Item::HitCount(x) => chip_item(Class::ROW_HIT_COUNT, x.card, x.chip, 0, x.count, 0),
+        Item::Sample(x) => value_item(Class::ROW_SAMPLE, x.value, 0, 0, 0, 0),
+        Item::Bin(x) => value_item(Class::ROW_BIN, 0, x.bin, x.count, 0, 0),
+        Item::LastCell(x) => chip_item(Class::ROW_LAST_CELL, 0, x.chip, 0, 0, x.cell),
+        Item::TimeBin(x) => value_item(Class::ROW_TIME_BIN, 0, 0, 0, x.time, 0),
+        Item::Text(x) => value_item(Class::ROW_TEXT, 0, 0, 0, 0, x.length),
+        Item::StartEvent(x) => event_item(Class::ROW_START_EVENT, x.kind, x.timestamp, x.number, 0),
+        Item::EndEvent(x) => event_item(Class::ROW_END_EVENT, 0, 0, 0, x.size),
     }
 }
 
@@ -188,7 +165,7 @@ fn flat_found(found: Found) -> PlaneFound
             }
         }
         Found::Refused(r) => {
-            let flat = blank_item(0);
+            let flat = blank_item(Class::ROW_NONE);
             PlaneFound {
                 refused: r.number,
                 place: r.place,

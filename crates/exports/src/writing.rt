@@ -8,6 +8,7 @@ ghost use Rattle.exports.specs.Given.{viewGiven, tokenOf};
 ghost use Rattle.exports.specs.Promises.{Begun, Added, AddedText, Closed};
 use crate::answers::PlaneItem;
 use crate::answers::PlaneWritten;
+use book::class::Class;
 use book::items::Bin;
 use book::items::Channel;
 use book::items::EndEvent;
@@ -80,42 +81,42 @@ fn item_given(x: PlaneItem) -> Given
 {
     let class = x.item_class;
     match class {
-        1 => Given::Item(Item::Channel(Channel {
+        Class::ROW_CHANNEL => Given::Item(Item::Channel(Channel {
             card: x.card,
             chip: x.chip,
             channel: x.channel,
         })),
-        2 => Given::Item(Item::Histogram(Histogram {
+        Class::ROW_HISTOGRAM => Given::Item(Item::Histogram(Histogram {
             card: x.card,
             chip: x.chip,
             channel: x.channel,
         })),
-        3 => Given::Item(Item::HitCount(HitCount {
+        Class::ROW_HIT_COUNT => Given::Item(Item::HitCount(HitCount {
             card: x.card,
             chip: x.chip,
             count: x.hits,
         })),
-        4 => Given::Item(Item::Sample(Sample { value: x.value })),
-        5 => Given::Item(Item::Bin(Bin {
+        Class::ROW_SAMPLE => Given::Item(Item::Sample(Sample { value: x.value })),
+        Class::ROW_BIN => Given::Item(Item::Bin(Bin {
             bin: x.bin,
             count: x.count,
         })),
-        6 => Given::Item(Item::LastCell(LastCell {
+        Class::ROW_LAST_CELL => Given::Item(Item::LastCell(LastCell {
             chip: x.chip,
             cell: x.cell,
         })),
-        7 => Given::Item(Item::TimeBin(TimeBin { time: x.time })),
-        8 => Given::Flawed(Refusal::PLACE),
-        9 => Given::Flawed(Refusal::PLACE),
-        10 => Given::Flawed(Refusal::PLACE),
-        11 => Given::Item(Item::Text(Text { length: x.length })),
-        12 => Given::Item(Item::StartEvent(StartEvent {
+        Class::ROW_TIME_BIN => Given::Item(Item::TimeBin(TimeBin { time: x.time })),
+        Class::ROW_DATA_FRAME => Given::Flawed(Refusal::PLACE),
+        Class::ROW_MONITOR_FRAME => Given::Flawed(Refusal::PLACE),
+        Class::ROW_COMMAND_FRAME => Given::Flawed(Refusal::PLACE),
+        Class::ROW_TEXT => Given::Item(Item::Text(Text { length: x.length })),
+        Class::ROW_START_EVENT => Given::Item(Item::StartEvent(StartEvent {
             kind: x.kind,
             timestamp: x.timestamp,
             number: x.number,
         })),
-        13 => Given::Item(Item::EndEvent(EndEvent { size: x.size })),
-        14 => Given::Flawed(Refusal::PLACE),
+        Class::ROW_END_EVENT => Given::Item(Item::EndEvent(EndEvent { size: x.size })),
+        Class::ROW_FRAME_END => Given::Flawed(Refusal::PLACE),
         _ => Given::Flawed(Refusal::CLASS),
     }
 }

@@ -9,3 +9,4 @@ pub mod questions
 pub mod writer
 pub mod spots
 pub mod CursorLaws
+pub mod StoringLaws

@@ -1,7 +1,7 @@
 -- The house book of document 01, "The word book": its rows, shortest prefix first, the class of a word, and how many words come after it.
 -- Assumes nothing.
 use mathlib.Core.Bool.{Bool, true, false}
-use mathlib.Core.List.{List, [], _∷_}
+use mathlib.Core.List.{List, [], _∷_, map}
 use mathlib.Core.Option.{Option, none, some}
 use Prim.Native.Nat.{ℕ, zero, suc, _+_, _/_, _%_, _≤_}
 use lib.ListN.{getD}
@@ -39,6 +39,28 @@ named (some c) = c
 
 unfoldable pub classOf : ℕ → Class
 classOf w = named (find book w)
+
+-- the number of a class's row in document 01's table, from 1 on; 0 for a word that has none
+abbrev pub rowOf : Class → ℕ
+rowOf channel = 1
+rowOf histogram = 2
+rowOf hitCount = 3
+rowOf sample = 4
+rowOf bin = 5
+rowOf lastCell = 6
+rowOf timeBin = 7
+rowOf dataFrame = 8
+rowOf monitorFrame = 9
+rowOf commandFrame = 10
+rowOf text = 11
+rowOf startEvent = 12
+rowOf endEvent = 13
+rowOf frameEnd = 14
+rowOf unassigned = 0
+
+-- and the class of a row
+abbrev pub classAt : ℕ → Class
+classAt k = getD (unassigned ∷ map (λ (r : Row Class). r .class) book) k unassigned
 
 -- a text's n bytes, n in the low byte, take "n/2 rounded up" words
 abbrev pub textWords : ℕ → ℕ

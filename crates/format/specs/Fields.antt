@@ -1,13 +1,13 @@
 -- The fields of a word, by their widths: cut out by position, high bits first, and put in the same way; and an item's first word by its content
 -- (document 01, "The word book").
 -- Assumes nothing.
-use Prim.Native.Nat.{ℕ, _+_, _*_, _/_, _%_, _^_, _<_}
+use Prim.Native.Nat.{ℕ, _+_, _-_, _*_, _/_, _%_, _^_, _<_}
 use mathlib.Core.Path.{_≡_}
 use mathlib.Core.List.{List, [], _∷_, _++_}
 use mathlib.Core.Bool.{true}
 use lib.ListN.{length}
 use Rattle.format.specs.Words.{words, longWords, timeWords}
-use Rattle.format.specs.Book.{Class, channel, histogram, hitCount, sample, bin, lastCell, timeBin, dataFrame, monitorFrame, commandFrame, text, startEvent, endEvent, frameEnd, unassigned, classOf, nth}
+use Rattle.format.specs.Book.{Class, channel, histogram, hitCount, sample, bin, lastCell, timeBin, dataFrame, monitorFrame, commandFrame, text, startEvent, endEvent, frameEnd, unassigned, classOf, rowOf, nth}
 use Rattle.format.specs.Items.{ItemOf, Item, Channel, Histogram, HitCount, Sample, Bin, LastCell, TimeBin, Text, StartEvent, EndEvent, classFor, wordsOf, fits}
 
 -- how many bits fields of these widths take
@@ -66,16 +66,7 @@ content (EndEvent n) = 0 ∷ []
 
 -- the item's row of the book
 abbrev pub rowFor : {T : Type 0} → ItemOf T → ℕ
-rowFor (Channel a b c) = 0
-rowFor (Histogram a b c) = 1
-rowFor (HitCount a b c) = 2
-rowFor (Sample v) = 3
-rowFor (Bin b n) = 4
-rowFor (LastCell a b) = 5
-rowFor (TimeBin t) = 6
-rowFor (Text s) = 10
-rowFor (StartEvent t ts n) = 11
-rowFor (EndEvent n) = 12
+rowFor x = rowOf (classFor x) - 1
 
 -- the words after the first
 abbrev pub laterWords : Item → List ℕ

@@ -3,7 +3,14 @@
 use Prim.Native.Nat.{ℕ}
 use mathlib.Core.List.{List, [], _∷_}
 use Rattle.format.specs.Words.{bytes}
+use Rattle.format.specs.Book.{Class, channel, histogram, hitCount, sample, bin, lastCell, timeBin, dataFrame, monitorFrame, commandFrame, text, startEvent, endEvent, frameEnd, unassigned}
 use Rattle.format.specs.Items.{Item, Channel, Histogram, HitCount, Sample, Bin, LastCell, TimeBin, Text, StartEvent, EndEvent}
+
+-- document 01's table, in its order, and a word that is of no row
+abbrev pub tabled : List Class
+tabled =
+    channel ∷ histogram ∷ hitCount ∷ sample ∷ bin ∷ lastCell ∷ timeBin ∷ dataFrame ∷ monitorFrame ∷ commandFrame ∷ text ∷ startEvent ∷ endEvent ∷ frameEnd
+    ∷ unassigned ∷ []
 
 -- case 1 with its start word
 abbrev pub empty : ℕ → List ℕ

@@ -2,7 +2,7 @@
 -- Assumes nothing.
 use Prim.Native.Nat.{ℕ, zero, suc, _+_, _-_, _*_, _/_, _%_}
 use mathlib.Core.List.{List, [], _∷_, _++_}
-use mathlib.Core.Bool.{Bool, _&&_}
+use mathlib.Core.Bool.{Bool, true, _&&_}
 use mathlib.Core.Option.{Option, none, some}
 use lib.ListN.{length, take, drop}
 use lib.Dec.{leb, ltb, eqb}
@@ -123,19 +123,23 @@ tokens k [] = []
 tokens zero (w ∷ ws) = tokenOf w ws ∷ tokens (after (classOf w) w) ws
 tokens (suc k) (w ∷ ws) = tokens k ws
 
--- the value rules that look at the item and the frame's card alone: the card is the frame's, channel at most 78, hit count at most 79, bin
--- count at least 1, and nothing too wide for its field
+-- the value rules that look at the item and the frame's card alone, beyond the widths of the fields: "Card equals the frame's card; channel at most
+-- 78; hit count at most 79; bin count at least 1"
+abbrev pub obeys : ℕ → Item → Bool
+obeys card (Channel a b c) = eqb a card && leb c 78
+obeys card (Histogram a b c) = eqb a card && leb c 78
+obeys card (HitCount a b c) = eqb a card && leb c 79
+obeys card (Sample v) = true
+obeys card (Bin b n) = leb 1 n
+obeys card (LastCell a b) = true
+obeys card (TimeBin t) = true
+obeys card (Text s) = true
+obeys card (StartEvent t ts n) = true
+obeys card (EndEvent n) = true
+
+-- and nothing is too wide for its field
 abbrev pub inRange : ℕ → Item → Bool
-inRange card (Channel a b c) = eqb a card && leb a 31 && leb b 3 && leb c 78
-inRange card (Histogram a b c) = eqb a card && leb a 31 && leb b 3 && leb c 78
-inRange card (HitCount a b c) = eqb a card && leb a 31 && leb b 3 && leb c 79
-inRange card (Sample v) = leb v 4095
-inRange card (Bin b n) = leb b 4095 && leb 1 n && ltb n 4294967296
-inRange card (LastCell a b) = leb a 3 && leb b 511
-inRange card (TimeBin t) = leb t 511
-inRange card (Text s) = leb (length s) 254 && nonZero s && areBytes s
-inRange card (StartEvent t ts n) = leb t 15 && leb ts 281474976710655 && ltb n 4294967296
-inRange card (EndEvent n) = ltb n 4294967296
+inRange card x = obeys card x && fits x
 
 -- the order key of a header
 abbrev pub key : ℕ → ℕ → ℕ → ℕ

@@ -9,6 +9,7 @@ use book::class::Class;
 use book::class::classify;
 use book::refusal::Refusal;
 use book::words::word;
+use follower::Follower;
 
 // The fewest and the most bytes of a frame.
 pub const LEAST: usize = 8;
@@ -16,10 +17,7 @@ pub const LEAST: usize = 8;
 pub const MOST: usize = 8192;
 
 // The sequence word that starts the count, and the highest there is.
-pub const LAST_SEQUENCE: u16 = 0x0100;
-
-// The highest card that a start word can hold.
-pub const LAST_CARD: u16 = 31;
+pub const LAST_SEQUENCE: u16 = Follower::START;
 
 // The last word of a frame.
 pub const END: u16 = 0x000F;

@@ -12,6 +12,7 @@ use crate::head::is_start;
 use crate::head::kind_of;
 use crate::walk::Walked;
 use crate::walk::walk;
+use book::items::LAST_CARD;
 use book::refusal::Refusal;
 use book::words::word;
 
@@ -61,7 +62,7 @@ pub fn partial(buf: &[u8], n: usize) -> Partial
     let w = word(buf, 0);
     let last = n / 2;
     let kind = kind_of(w);
-    let card = w & 0x1F;
+    let card = w & LAST_CARD;
     // The walk notes where item 0 stands, which nobody asks here.
     let walked = walk(buf, last, kind, card, 0);
     match walked {

@@ -11,6 +11,7 @@ use crate::state::may_end;
 use crate::walk::Summary;
 use crate::walk::Walked;
 use crate::walk::walk;
+use book::items::LAST_CARD;
 use book::refusal::Refusal;
 use book::words::word;
 
@@ -70,7 +71,7 @@ pub(crate) fn judge(s: &[u8], n: usize) -> Indexed
     let w = word(s, 0);
     let last = s.len() / 2 - 1;
     let kind = kind_of(w);
-    let card = w & 0x1F;
+    let card = w & LAST_CARD;
     let walked = walk(s, last, kind, card, n);
     match walked {
         Walked::Refused(r) => Indexed::Refused(r),

@@ -2,7 +2,6 @@
 ghost use mathlib.Core.Path.{_≡_};
 ghost use Prim.Native.Nat.{_+_, _*_, _-_, _≤_, _<_};
 ghost use lib.Dec.{eqb};
-ghost use Rattle.format.specs.Items as items;
 ghost use Rattle.format.specs.Steps.{marked};
 ghost use Rattle.frame.specs.Views.{viewState, viewStep, tested};
 ghost use Rattle.frame.specs.Promises.{ChannelStep, HistogramStep, HitCountStep, LastCellStep, TimeBinStep, SampleStep, BinStep, StartEventStep, EndEventStep, TextStep};
@@ -25,6 +24,7 @@ use book::items::LastCell;
 use book::items::Sample;
 use book::items::StartEvent;
 use book::items::TimeBin;
+use book::items::key;
 use book::refusal::Refusal;
 
 // One turn: the state after the item and the index of the next, or a refusal's number.
@@ -48,13 +48,6 @@ fn judged(place: bool, value: bool, order: bool, after: State, next: usize) -> S
         return Step::Stopped(Refusal::VALUE);
     }
     Step::Stopped(Refusal::PLACE)
-}
-
-// The order key of a header. It is not the 14-bit content itself: there is room for sixteen chips (docs/DECISIONS.md).
-fn key(card: u16, chip: u16, channel: u16) -> u32
-    ensures { λ r. ⌜ r ≡ items.key card chip channel ⌝ }
-{
-    card as u32 * 2048 + chip as u32 * 128 + channel as u32
 }
 
 pub fn channel(card: u16, st: State, x: Channel, next: usize) -> Step

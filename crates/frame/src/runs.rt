@@ -9,6 +9,7 @@ ghost use mathlib.Core.Bool.{false, _&&_};
 ghost use Rattle.format.specs.Rules.{inside, afterSample, headed};
 ghost use Rattle.frame.specs.Views.{viewState};
 ghost use Rattle.frame.specs.Runs.{Turns, Ran};
+use crate::head::MOST;
 use crate::inside::long;
 use crate::inside::word;
 use crate::state::Mode;
@@ -25,7 +26,7 @@ const TIMES: u32 = TimeBin::LAST as u32 + 1;
 const BIN_WORDS: usize = 3;
 
 // The most items of a run, where none is asked for: a frame has no more words.
-const MANY: usize = 4096;
+const MANY: usize = MOST / 2;
 
 // A run: the index behind it, how many items it has, and the state's `next` behind it; nothing else of the state is changed by a run.
 pub(crate) struct Run {
@@ -64,11 +65,14 @@ fn times_left(time: u32) -> usize
     0
 }
 
+// A Sample's prefix, of four bits.
+const SAMPLE: u32 = Class::SAMPLE as u32 >> 12;
+
 // Two words, the first one low, are both Samples.
 fn two_samples(x: u32) -> bool
     ensures { λ r. ⌜ r ≡ (eqb (x / 4096 % 16) 3 && eqb (x / 268435456) 3) ⌝ }
 {
-    (x / 4096 % 16 == 3) & (x / 268435456 == 3)
+    (x / 4096 % 16 == SAMPLE) & (x / 268435456 == SAMPLE)
 }
 
 // Behind the Samples from here on, taken two at a time: it is half the work, since the compiler makes one load of the two words. They are split again

@@ -5,3 +5,4 @@ pub mod Listings
 pub mod Unique
 pub mod Splits
 pub mod SameListings
+pub mod Room

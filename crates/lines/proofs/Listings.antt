@@ -10,10 +10,10 @@ use lib.Dec.{leb}
 use lib.ListN.{length, take, drop, length-drop}
 use lib.Seq.{sets, sets-eq, take-all, take-at}
 use borrow.Author.Tests.{le-leb, lt-leb}
-use Rattle.format.specs.Words.{wordAt, longAt}
 use Rattle.format.specs.Answers.{Outcome, Done, accepted, refused, andThen}
 use Rattle.format.specs.Frames.{Frame, verdict}
 use Rattle.format.specs.Steps.{Overview, overview, readOf}
+use Rattle.ledger.specs.Formats.{Entry}
 use Rattle.ledger.specs.Records.{lengthIn, countIn, totalIn, frameIn, entryOf, numbered, recordVerdict}
 use Rattle.ledger.specs.Calls.{Summary, recordAnswer}
 use Rattle.ledger.specs.First.{first}
@@ -29,11 +29,11 @@ use Rattle.lines.proofs.Putting.{joined}
 
 -- ---- entries
 
--- the fields of an entry, read from the bytes that begin with it
-pub entry-text : (e : List ℕ) (j w k old new o r : ℕ) → w ≡ wordAt e 0 → k ≡ wordAt e 1 → old ≡ longAt e 2 → new ≡ longAt e 4 → o ≡ wordAt e 6 → r ≡ wordAt e 7
-    → changeText j w k old new ++ signerText o r ≡ entryLine j (entryOf first e)
-unfolding entryLine entryOf first
-entry-text e j w k old new o r ew ek eo en ep er = rw (ew, ek, eo, en, ep, er)
+-- the fields of the entry that some bytes begin with
+pub entry-text : (e : List ℕ) (j : ℕ) (x : Entry) → x ≡ entryOf first e
+    → changeText j (x .word) (x .kind) (x .old) (x .new) ++ signerText (x .operator) (x .reason) ≡ entryLine j (entryOf first e)
+unfolding entryLine
+entry-text e j x i = ap (entryLine j) i
 
 -- lines of no entry, of one more, and of all
 pub none-put : (b l : List ℕ) (at : ℕ) → Put (160 * 0) l at (entryLines b 0) l at

@@ -1,22 +1,17 @@
 -- Texts that are put one behind the other are one text.
 -- Assumes nothing.
-use Prim.Native.Nat.{ℕ, suc, _+_, _-_, _≤_}
-use mathlib.Core.Path.{_≡_, refl, sym, ap, _∙_}
-use mathlib.Core.List.{List, [], _∷_, _++_}
-use native.Mathlib.Nat.{add-zero}
+use Prim.Native.Nat.{ℕ, _+_, _-_, _≤_}
+use mathlib.Core.Path.{_≡_, refl, ap, _∙_}
+use mathlib.Core.List.{List, _++_}
 use native.Mathlib.Omega.{arith}
-use lib.ListN.{length, take, drop, set, length-append}
+use lib.ListN.{length, take, drop, length-append}
 use lib.Seq.{sets}
 use borrow.Rule.Slice.PartMut.{putMid}
-use Rattle.ledger.proofs.records.Stores.{part-stores}
+use Rattle.format.proofs.StoringLaws.{sets-append, part-stores}
 use Rattle.io.specs.Digits.{digits, Fewest}
 use Rattle.lines.specs.Text.{decimal}
 use Rattle.lines.specs.Writes.{Put}
 use Rattle.lines.proofs.Decimals.{spelt}
-
-sets-append : (l : List ℕ) (i : ℕ) (a b : List ℕ) → sets (sets l i a) (i + length a) b ≡ sets l i (a ++ b)
-sets-append l i [] b = rw (add-zero i)
-sets-append l i (v ∷ a) b = let z : i + suc (length a) ≡ suc i + length a = omega arith in rw z (sets-append (set l i v) (suc i) a b)
 
 pub joined : {m n : ℕ} {l k o : List ℕ} {at i j : ℕ} {a b : List ℕ} → Put m l at a k i → Put n k i b o j → Put (m + n) l at (a ++ b) o j
 joined {m} {n} {l} {k} {o} {at} {i} {j} {a} {b} p q =
@@ -33,9 +28,8 @@ wider n h p = record { stored = p .stored; behind = p .behind; few = let e = p .
 pub copied : (l : List ℕ) (at : ℕ) (s part : List ℕ) → part ≡ sets (take (length l - at) (drop at l)) 0 s → at + length s ≤ length l
     → Put (length s) l at s (putMid at (length l - at) l part) (at + length s)
 copied l at s part e h =
-    let z : at + 0 ≡ at = omega arith in
     record {
-      stored = ap (putMid at (length l - at) l) e ∙ part-stores l at (length l) 0 s (omega arith) (omega arith) (omega arith) ∙ ap (λ (x : ℕ). sets l x s) z;
+      stored = part-stores l at (length l) part s (omega arith) (omega arith) (omega arith) e;
       behind = refl;
       few = omega arith;
     }

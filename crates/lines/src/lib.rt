@@ -30,7 +30,7 @@ fn record_lines(lines: &mut [u8], buf: &[u8], size: usize, count: usize) -> usiz
     ensures { λ r. ⌜ Put 82240 (now (lines .entry)) 0 (listings.listing (now (buf .entry))) (now (lines .exit)) r ⌝ }
 {
     let end = Record::HEADER + size;
-    let reading = read(&buf[16..end]);
+    let reading = read(&buf[Record::HEADER..end]);
     match reading {
         // Never taken: an accepted record's frame is accepted.
         Reading::Refused(_r) => 0,
@@ -73,10 +73,11 @@ fn listing_in(scratch: &mut [u8], buf: &[u8], out: &mut [u8]) -> Listing
 }
 
 // Writes the listing of a buffer to the start of another, and answers its length; nothing beyond is written. A record that is refused is
-// listed as its refusal. Refuses by 12 where the second buffer is shorter than the listing, and then it is as found; 82,240 bytes hold any.
+// listed as its refusal. Refuses by 12 where the second buffer is shorter than the listing, and then it is as found; `Listing::MOST` bytes hold
+// any.
 pub fn listing(buf: &[u8], out: &mut [u8]) -> Listing
     ensures { λ r. ⌜ Listed (now (buf .entry)) (now (out .entry)) (viewListing r) (now (out .exit)) ⌝ }
 {
-    let mut scratch = [0u8; 82240];
+    let mut scratch = [0u8; Listing::MOST];
     listing_in(&mut scratch, buf, out)
 }

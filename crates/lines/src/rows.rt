@@ -14,13 +14,9 @@ use crate::pieces::field;
 use crate::pieces::hex;
 use crate::pieces::text;
 use book::refusal::Refusal;
-use book::words::long;
-use book::words::word;
 use frame::state::Kind;
 use plane::answers::Entry;
-
-// A line has at most 160 bytes: at most 36 of text and six numbers of 20 digits.
-pub const MOST: usize = 160;
+use plane::entries::entry_of;
 
 // The start of a frame's line, with its kind's letter.
 fn kind_start(line: &mut [u8], kind: Kind) -> usize
@@ -92,8 +88,9 @@ fn entry_line(line: &mut [u8], at: usize, j: usize, e: &[u8]) -> usize
     requires { ⌜ at + 160 ≤ length (now line) ⌝ }
     ensures { λ r. ⌜ Put 160 (now (line .entry)) at (entryLine j (entryOf first (now (e .entry)))) (now (line .exit)) r ⌝ }
 {
-    let next = change(line, at, j, word(e, 0), word(e, 1), long(e, 2), long(e, 4));
-    signer(line, next, word(e, 6), word(e, 7))
+    let x = entry_of(e);
+    let next = change(line, at, j, x.word, x.kind, x.old, x.new);
+    signer(line, next, x.operator, x.reason)
 }
 
 // The lines of a record's entries, from the oldest; the history begins at byte `history` of the buffer.

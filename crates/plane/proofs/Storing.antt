@@ -1,34 +1,22 @@
--- A word stored as far as there is room, and a legal value stored in the words of its item.
+-- A legal value stored in the words of its item, and an entry stored word by word.
 -- Assumes nothing.
 use Prim.Native.Nat.{ℕ, suc, _+_, _*_, _/_, _%_, _≤_, _<_}
 use mathlib.Core.Path.{_≡_, refl, sym, ap, _∙_}
 use mathlib.Core.Bool.{Bool, true, false}
-use mathlib.Core.List.{List, [], _∷_}
+use mathlib.Core.List.{List, [], _∷_, _++_}
 use native.Mathlib.Omega.{arith}
-use lib.ListN.{length, set}
-use lib.Seq.{sets, set-out}
+use lib.ListN.{length}
+use lib.Seq.{sets}
 use borrow.Author.Tests.{eq-eqb, ne-eqb}
 use lib.Dec.{eqb}
-use Rattle.format.specs.Words.{pick, bytes}
+use Rattle.format.specs.Words.{pick, bytes, longWords}
 use Rattle.format.specs.Spots.{legalValue, valueWord, valueWords}
+use Rattle.format.proofs.StoringLaws.{sets-out, sets-next}
 use Rattle.format.proofs.front.Stability.{legal-sample}
+use Rattle.ledger.specs.Formats.{Entry}
+use Rattle.ledger.specs.Records.{entryBytes}
+use Rattle.ledger.specs.First.{first}
 use Rattle.plane.specs.Stored.{stored}
-
--- ---- a word
-
-pub sets-out : (vs f : List ℕ) (at : ℕ) → length f ≤ at → sets f at vs ≡ f
-sets-out [] f at h = refl
-sets-out (v ∷ vs) f at h = rw (set-out f at v h) (sets-out vs f (suc at) (omega arith))
-
-pub word-out : (f : List ℕ) (at w : ℕ) → length f ≤ at → f ≡ sets f at (bytes (w ∷ []))
-word-out f at w h = sym (sets-out (bytes (w ∷ [])) f at h)
-
--- of the last byte only the low one
-pub word-half : (f : List ℕ) (at w : ℕ) → length (set f at (w % 256)) ≤ at + 1 → set f at (w % 256) ≡ sets f at (bytes (w ∷ []))
-unfolding bytes
-word-half f at w h = sym (set-out (set f at (w % 256)) (suc at) (w / 256) (omega arith))
-
--- ---- a value
 
 pub sample-fits : (kind v : ℕ) → legalValue kind v ≡ true → kind ≡ 1 → v ≤ 4095
 sample-fits kind v l e = legal-sample v .0 (ap (λ (k : ℕ). legalValue k v) (sym e) ∙ l)
@@ -70,3 +58,30 @@ module _ (f : List ℕ) (kind w v : ℕ) where
         let i : 2 * (w + 1) ≡ 2 * w + 2 = omega arith in
         let j : 2 * w + 4 ≡ suc (suc (2 * w + 2)) = omega arith in
         rw (t, s, l, ne-eqb kind 1 n, i, j)
+
+-- ---- an entry
+
+pub long-stored : (f f₁ f₂ : List ℕ) (at n : ℕ) → f₁ ≡ sets f at (bytes ((n % 65536) ∷ [])) → f₂ ≡ sets f₁ (at + 2) (bytes ((n / 65536) ∷ []))
+    → f₂ ≡ sets f at (bytes (longWords n))
+unfolding bytes
+long-stored f f₁ f₂ at n e₁ e₂ = sets-next f f₁ f₂ at (at + 2) (bytes ((n % 65536) ∷ [])) (bytes ((n / 65536) ∷ [])) refl e₁ e₂
+
+-- past the end nothing is stored
+pub entry-out : (f : List ℕ) (at : ℕ) (e : Entry) → length f ≤ at → f ≡ sets f at (entryBytes first e)
+entry-out f at e h = sym (sets-out (entryBytes first e) f at h)
+
+-- each field at its own word
+pub entry-stored : (f f₁ f₂ f₃ f₄ f₅ f₆ : List ℕ) (at : ℕ) (e : Entry)
+    → f₁ ≡ sets f (at + 2 * 0) (bytes (e .word ∷ [])) → f₂ ≡ sets f₁ (at + 2 * 1) (bytes (e .kind ∷ []))
+    → f₃ ≡ sets f₂ (at + 2 * 2) (bytes (longWords (e .old))) → f₄ ≡ sets f₃ (at + 2 * 4) (bytes (longWords (e .new)))
+    → f₅ ≡ sets f₄ (at + 2 * 6) (bytes (e .operator ∷ [])) → f₆ ≡ sets f₅ (at + 2 * 7) (bytes (e .reason ∷ []))
+    → f₆ ≡ sets f at (entryBytes first e)
+unfolding entryBytes first bytes
+entry-stored f f₁ f₂ f₃ f₄ f₅ f₆ at e e₁ e₂ e₃ e₄ e₅ e₆ =
+    let z : at + 2 * 0 ≡ at = omega arith in
+    let s₁ : f₁ ≡ sets f at (bytes (e .word ∷ [])) = e₁ ∙ ap (λ (i : ℕ). sets f i (bytes (e .word ∷ []))) z in
+    let s₂ = sets-next f f₁ f₂ at (at + 2 * 1) (bytes (e .word ∷ [])) (bytes (e .kind ∷ [])) refl s₁ e₂ in
+    let s₃ = sets-next f f₂ f₃ at (at + 2 * 2) (bytes (e .word ∷ e .kind ∷ [])) (bytes (longWords (e .old))) refl s₂ e₃ in
+    let s₄ = sets-next f f₃ f₄ at (at + 2 * 4) (bytes (e .word ∷ e .kind ∷ longWords (e .old))) (bytes (longWords (e .new))) refl s₃ e₄ in
+    let s₅ = sets-next f f₄ f₅ at (at + 2 * 6) (bytes (e .word ∷ e .kind ∷ (longWords (e .old) ++ longWords (e .new)))) (bytes (e .operator ∷ [])) refl s₄ e₅ in
+    sets-next f f₅ f₆ at (at + 2 * 7) (bytes (e .word ∷ e .kind ∷ (longWords (e .old) ++ longWords (e .new) ++ (e .operator ∷ [])))) (bytes (e .reason ∷ [])) refl s₅ e₆

@@ -33,7 +33,7 @@ use Rattle.ledger.specs.First.{first}
 use Rattle.ledger.specs.House.{toldOf, house, house-spot}
 use Rattle.ledger.specs.Judged.{heldOf}
 use Rattle.ledger.proofs.records.Judging.{fits-right}
-use Rattle.ledger.proofs.records.Stores.{sets-whole}
+use Rattle.format.proofs.StoringLaws.{sets-whole}
 use Rattle.ledger.proofs.records.Walking.{judge-none, judge-back, judge-stop}
 use Rattle.ledger.proofs.house.House.{own, stands-there, kind-is, house-lawful}
 use Rattle.plane.specs.Views.{unfit}

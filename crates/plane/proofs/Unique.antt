@@ -13,7 +13,7 @@ use Rattle.format.specs.Spots.{legalValue}
 use Rattle.book.proofs.Unique.{one, undone, equal-once}
 use Rattle.ledger.specs.Formats as formats
 use Rattle.ledger.specs.Records as ledger
-use Rattle.ledger.specs.Records.{entryOf}
+use Rattle.ledger.specs.Records.{entryOf, entryBytes}
 use Rattle.ledger.specs.Calls.{Summary, recordAnswer, entryAnswer}
 use Rattle.ledger.specs.Judged as judged
 use Rattle.ledger.specs.First.{first}
@@ -31,7 +31,7 @@ use Rattle.plane.specs.declared.answers.EntryFound.{EntryFound}
 use Rattle.plane.specs.declared.answers.EntryFound.the-variants as entries
 use Rattle.plane.specs.Views.{viewSpot, viewRecord, viewJudged, asEntry, viewEntry}
 use Rattle.plane.specs.Stored.{stored, storedOld}
-use Rattle.plane.specs.Promises.{SpotTold, Recorded, JudgedTo, EntryTold, EntryRead, SignedBy, Undone, UndoneFrom, MayHold, WordPut, ValuePut}
+use Rattle.plane.specs.Promises.{SpotTold, Recorded, JudgedTo, EntryTold, EntryRead, EntryPut, SignedBy, Undone, UndoneFrom, MayHold, WordPut, ValuePut}
 
 -- T40: the way back from each answer on paper
 
@@ -112,6 +112,9 @@ pub signed-once : (operator reason : ℕ) (r q : Bool) → SignedBy operator rea
 signed-once operator reason = equal-once (ledger.signed operator reason)
 
 -- of the functions that answer nothing, the list that they leave, whole
+pub put-entry-once : (f : List ℕ) (at : ℕ) (e : Entry) (r q : List ℕ) → EntryPut f at e r → EntryPut f at e q → r ≡ q
+put-entry-once f at e = equal-once (sets f at (entryBytes first (asEntry e)))
+
 pub undo-once : (f : List ℕ) (e : Entry) (r q : List ℕ) → Undone f e r → Undone f e q → r ≡ q
 undo-once f e = equal-once (stored f (e .kind) (e .word) (e .old))
 

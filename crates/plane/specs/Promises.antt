@@ -10,7 +10,7 @@ use Rattle.format.specs.Words.{bytes}
 use Rattle.format.specs.Spots as spots
 use Rattle.format.specs.Spots.{legalValue}
 use Rattle.ledger.specs.Records as records
-use Rattle.ledger.specs.Records.{entryOf}
+use Rattle.ledger.specs.Records.{entryOf, entryBytes}
 use Rattle.ledger.specs.Calls.{recordAnswer, entryAnswer}
 use Rattle.ledger.specs.Judged.{judgedAt}
 use Rattle.ledger.specs.First.{first}
@@ -46,6 +46,10 @@ EntryTold b j r = viewEntry r ≡ entryAnswer house first b j
 -- the entry that a slice begins with
 abbrev pub EntryRead : List ℕ → Entry → Type 0
 EntryRead s r = asEntry r ≡ entryOf first s
+
+-- and an entry stored at byte `at`, as far as there is room
+abbrev pub EntryPut : List ℕ → ℕ → Entry → List ℕ → Type 0
+EntryPut found at e exit = exit ≡ sets found at (entryBytes first (asEntry e))
 
 abbrev pub SignedBy : ℕ → ℕ → Bool → Type 0
 SignedBy operator reason r = r ≡ records.signed operator reason

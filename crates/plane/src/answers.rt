@@ -98,6 +98,19 @@ impl Entry {
     // The bytes of an entry.
     pub const SIZE: usize = 16;
 
+    // Its words, by their index: that of the item's word index, of its kind, the low words of the old and of the new value, who signed and why.
+    pub const INDEX_WORD: usize = 0;
+
+    pub const KIND_WORD: usize = 1;
+
+    pub const OLD_WORD: usize = 2;
+
+    pub const NEW_WORD: usize = 4;
+
+    pub const OPERATOR_WORD: usize = 6;
+
+    pub const REASON_WORD: usize = 7;
+
     // Who may sign, and the reasons there are: from 1 on.
     pub const LAST_OPERATOR: u32 = 65535;
 

@@ -3,18 +3,20 @@ ghost use mathlib.Core.Path.{_≡_};
 ghost use Prim.Native.Nat.{ℕ, _+_, _*_, _≤_};
 ghost use lib.ListN.{length, getD};
 ghost use Rattle.ledger.specs.Frames.{Accepted};
-ghost use Rattle.ledger.specs.Records.{lengthIn, entryOf, entriesTo, fits, historyVerdict};
+ghost use Rattle.ledger.specs.Records.{lengthIn, entriesTo, fits, historyVerdict};
 ghost use Rattle.ledger.specs.First.{first};
 ghost use Rattle.ledger.specs.House.{house};
 ghost use Rattle.ledger.specs.Judged.{heldOf};
 ghost use Rattle.plane.specs.Views.{viewHeld, asEntry, unfit};
 ghost use Rattle.plane.specs.Undoing.{Kinds, Undoing};
-ghost use Rattle.plane.specs.Promises.{EntryRead, SignedBy, Undone, UndoneFrom};
+ghost use Rattle.plane.specs.Promises.{SignedBy, Undone, UndoneFrom};
 use crate::answers::Entry;
 use crate::answers::Held;
 use crate::answers::HeldFound;
 use crate::answers::Record;
 use crate::answers::Spot;
+use crate::entries::entry_in;
+use crate::entries::entry_of;
 use crate::scan::long_in;
 use crate::scan::note_kinds;
 use crate::scan::value_in;
@@ -23,40 +25,6 @@ use crate::values::legal;
 use crate::values::put_in;
 use crate::values::put_value;
 use book::words::copy;
-use book::words::long;
-use book::words::word;
-
-// The entry that a slice begins with and has whole.
-fn entry_in(s: &[u8]) -> Entry
-    requires { ⌜ 16 ≤ length (now s) ⌝ }
-    ensures { λ r. ⌜ asEntry r ≡ entryOf first (now (s .entry)) ⌝ }
-{
-    Entry {
-        word: word_in(s, 0),
-        kind: word_in(s, 1),
-        old: long_in(s, 2),
-        new: long_in(s, 4),
-        operator: word_in(s, 6),
-        reason: word_in(s, 7),
-    }
-}
-
-// The entry that a slice begins with; what is past its end is 0.
-pub fn entry_of(s: &[u8]) -> Entry
-    ensures { λ r. ⌜ EntryRead (now (s .entry)) r ⌝ }
-{
-    if Entry::SIZE <= s.len() {
-        return entry_in(s);
-    }
-    Entry {
-        word: word(s, 0),
-        kind: word(s, 1),
-        old: long(s, 2),
-        new: long(s, 4),
-        operator: word(s, 6),
-        reason: word(s, 7),
-    }
-}
 
 // The kind noted for a word.
 fn kind_at(map: &[u8], w: usize) -> u8

@@ -2,7 +2,6 @@ pub mod front
 pub mod CallLaws
 pub mod StoreTurns
 pub mod PutLaws
-pub mod PartStores
 pub mod AddLaws
 pub mod Unique
 pub mod Promises

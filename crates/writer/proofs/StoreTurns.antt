@@ -1,26 +1,18 @@
--- Runs of stores that stand one behind the other are one run.
+-- What the writer's stores, one behind the other, leave: the words of an item.
 -- Assumes nothing.
-use Prim.Native.Nat.{ℕ, suc, _+_, _*_, _/_, _%_, _≤_, _<_}
+use Prim.Native.Nat.{ℕ, suc, _+_, _*_, _/_, _%_, _<_}
 use mathlib.Core.Path.{_≡_, refl, sym, ap, ap₂, _∙_}
 use mathlib.Core.List.{List, [], _∷_, _++_}
 use mathlib.Core.Bool.{Bool, true, false}
-use native.Mathlib.Nat.{add-zero, add-suc, suc-add}
 use native.Mathlib.Omega.{arith}
 use lib.Dec.{eqb}
-use lib.ListN.{length, getD, set, length-append}
+use lib.ListN.{length, length-append}
 use lib.Seq.{sets}
 use borrow.Author.Tests.{eqb-true, eqb-false}
 use Rattle.format.specs.Words.{pick, Bytes, words, bytes, longWords}
 use Rattle.format.proofs.items.WordLaws.{bytes-append}
+use Rattle.format.proofs.StoringLaws.{sets-next}
 use Rattle.writer.specs.Views.{timeCut, finalZero, textBytes}
-
-pub sets-append : (b : List ℕ) (at : ℕ) (vs ws : List ℕ) → sets (sets b at vs) (at + length vs) ws ≡ sets b at (vs ++ ws)
-sets-append b at [] ws = rw (add-zero at)
-sets-append b at (v ∷ vs) ws = rw (add-suc at (length vs), ← suc-add at (length vs)) (sets-append (set b at v) (suc at) vs ws)
-
-pub sets-next : (b b₁ b₂ : List ℕ) (at to : ℕ) (vs ws : List ℕ) → to ≡ at + length vs → b₁ ≡ sets b at vs → b₂ ≡ sets b₁ to ws → b₂ ≡ sets b at (vs ++ ws)
-sets-next b b₁ b₂ at to vs ws t e f =
-    f ∙ ap₂ (λ (l : List ℕ) (i : ℕ). sets l i ws) e t ∙ sets-append b at vs ws
 
 -- six words are three and three
 pub six : (b b₁ b₂ : List ℕ) (at w time n : ℕ) → b₁ ≡ sets b at (bytes (w ∷ longWords (time % 4294967296)))

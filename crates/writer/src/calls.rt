@@ -12,10 +12,10 @@ use crate::steps::put;
 use crate::steps::put_text;
 use crate::stores::put_word;
 use book::items::Item;
+use book::items::LAST_CARD;
 use book::refusal::Refusal;
 use frame::begun::Partial;
 use frame::head::END;
-use frame::head::LAST_CARD;
 use frame::head::LAST_SEQUENCE;
 use frame::head::LEAST;
 use frame::partial::FEWEST;
@@ -35,9 +35,9 @@ fn start_word(kind: Kind, card: u16) -> u16
     ensures { λ r. ⌜ r ≡ startWord (viewKind kind) (card % 32) ⌝ }
 {
     match kind {
-        Kind::Data => card & 0x1F | 0x0800,
-        Kind::Monitor => card & 0x1F | 0x0600,
-        Kind::Command => card & 0x1F | 0x0400,
+        Kind::Data => card & LAST_CARD | 0x0800,
+        Kind::Monitor => card & LAST_CARD | 0x0600,
+        Kind::Command => card & LAST_CARD | 0x0400,
     }
 }
 

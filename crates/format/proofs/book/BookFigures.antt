@@ -1,13 +1,35 @@
 -- Figures: the words that document 01 prints for the items of its cases 3 and 7, and a few more, written and read back; and words that are no
--- item's. Computed: they show what the definitions say before any law does.
+-- item's; the rows of the book. Computed: they show what the definitions say before any law does.
 -- Assumes nothing.
 use mathlib.Core.Path.{_≡_, refl}
 use mathlib.Core.List.{[], _∷_, map, flatten}
 use Rattle.format.specs.Words.{words, bytes, nonZero, allZero}
 use Rattle.format.specs.Prefix.{find}
-use Rattle.format.specs.Book.{text, endEvent, dataFrame, classOf}
+use Rattle.format.specs.Book.{Class, channel, histogram, hitCount, sample, bin, lastCell, timeBin, dataFrame, monitorFrame, commandFrame, text, startEvent, endEvent, frameEnd, unassigned, classOf, rowOf, classAt}
 use Rattle.format.specs.Items.{Item, wordsOf, decode, whole, broken, flawed, tokenOf, tokens}
-use Rattle.format.specs.Figures.{figures, figureWords}
+use Rattle.format.specs.Figures.{tabled, figures, figureWords}
+
+-- the rows, numbered in the table's order
+pub rows-numbered : map rowOf tabled ≡ 1 ∷ 2 ∷ 3 ∷ 4 ∷ 5 ∷ 6 ∷ 7 ∷ 8 ∷ 9 ∷ 10 ∷ 11 ∷ 12 ∷ 13 ∷ 14 ∷ 0 ∷ []
+rows-numbered = refl
+
+-- the book has its rows in that order
+pub row-stands : (c : Class) → classAt (rowOf c) ≡ c
+row-stands channel = refl
+row-stands histogram = refl
+row-stands hitCount = refl
+row-stands sample = refl
+row-stands bin = refl
+row-stands lastCell = refl
+row-stands timeBin = refl
+row-stands dataFrame = refl
+row-stands monitorFrame = refl
+row-stands commandFrame = refl
+row-stands text = refl
+row-stands startEvent = refl
+row-stands endEvent = refl
+row-stands frameEnd = refl
+row-stands unassigned = refl
 
 pub figures-written : flatten (map wordsOf figures) ≡ figureWords
 unfolding wordsOf words flatten

@@ -6,14 +6,14 @@ use mathlib.Core.Path.{_≡_}
 use mathlib.Core.Logic.{_↔_}
 use mathlib.Core.Bool.{true, false}
 use mathlib.Core.Option.{none, some}
-use mathlib.Core.List.{List, _∷_, _++_, map, flatten, List·Memᴰ}
+use mathlib.Core.List.{List, [], _∷_, _++_, map, flatten, List·Memᴰ}
 use lib.ListN.{length, getD, take, drop}
 use Rattle.format.specs.Prefix.{Row, matches, find, prefixFree, Matched}
-use Rattle.format.specs.Book.{Class, unassigned, book, classOf, after, assigned, printed, Within, nth, sum, unread}
+use Rattle.format.specs.Book.{Class, unassigned, book, classOf, rowOf, classAt, after, assigned, printed, Within, nth, sum, unread}
 use Rattle.format.specs.Items.{Item, classFor, three, wordsOf, fits, inRange, whole, tokenOf, tokens, key}
 use Rattle.format.specs.Tree.{Limits}
 use Rattle.format.specs.Fields.{cut, pack, Fit, widths, content, rowFor, firstWord, laterWords, Read, total}
-use Rattle.format.specs.Figures.{figures, figureWords}
+use Rattle.format.specs.Figures.{tabled, figures, figureWords}
 use Rattle.format.proofs.book.BookFigures as figure
 use Rattle.format.proofs.book.PrefixLaws as prefix
 use Rattle.format.proofs.book.BookLaws as ranges
@@ -62,6 +62,13 @@ book-unassigned = table.class-none
 -- "3,807 of them", of the 65,536 words from 0 on.
 pub book-unassigned-count : sum unread 0 65536 ≡ 3807
 book-unassigned-count = count.unassigned-count
+
+-- The rows are numbered from 1 in the table's order (specs/Figures, `tabled`), 0 is no row's, and the book has its rows in that order.
+pub book-rows : map rowOf tabled ≡ 1 ∷ 2 ∷ 3 ∷ 4 ∷ 5 ∷ 6 ∷ 7 ∷ 8 ∷ 9 ∷ 10 ∷ 11 ∷ 12 ∷ 13 ∷ 14 ∷ 0 ∷ []
+book-rows = figure.rows-numbered
+
+pub book-row-stands : (c : Class) → classAt (rowOf c) ≡ c
+book-row-stands = figure.row-stands
 
 -- T3. "The fields are cut from the word by position", "high bits first" (specs/Fields, `widths`: the printed widths), and go in the same way.
 
@@ -139,11 +146,11 @@ pub figures-read : tokens 0 figureWords ≡ map (λ (x : Item). whole x) figures
 figures-read = figure.figures-read
 
 -- T36. "The ranges of card, chip, channel and the rest belong to their item classes and are named there once." The crate `book` has each limit
--- as a constant of its item; the numeral here is the one of `inRange` (specs/Items), written apart from it, and once more in `Limits` (specs/Tree).
+-- as a constant of its item; the numeral here is the one of `fits` or `obeys` (specs/Items), written apart from it, and once more in `Limits` (specs/Tree).
 -- The promise of the item's `valid` says that constant and numeral agree; a text's bytes are judged by the function that adds them.
 --
---   limit                          constant of the code                                            numeral of `inRange`
---   card                           Channel, Histogram, HitCount ::LAST_CARD                        31
+--   limit                          constant of the code                                            numeral of `fits`, `obeys`
+--   card                           LAST_CARD, that of Channel, Histogram, HitCount                 31
 --   chip                           Channel, Histogram, HitCount, LastCell ::LAST_CHIP              3
 --   channel                        Channel, Histogram ::LAST                                       78
 --   hit count                      HitCount::MOST                                                  79

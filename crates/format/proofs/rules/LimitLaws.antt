@@ -1,7 +1,7 @@
 -- The limits of the tree are those of the value rules, class by class; and an item within them fits its fields.
 -- Assumes nothing.
 use Prim.Native.Nat.{ℕ, suc, _<_, _≤_}
-use mathlib.Core.Path.{_≡_, refl, subst}
+use mathlib.Core.Path.{_≡_, refl, sym, ap, subst}
 use mathlib.Core.List.{List, [], _∷_}
 use mathlib.Core.Logic.{_↔_}
 use mathlib.Core.Bool.{Bool, true, false, _&&_}
@@ -10,7 +10,7 @@ use lib.Dec.{leb, ltb, eqb}
 use lib.Pow.{areBytes}
 use borrow.Author.Tests.{leb-true, le-leb, eqb-true, eq-eqb, ltb-true, lt-ltb}
 use Rattle.format.specs.Words.{nonZero}
-use Rattle.format.specs.Items.{Item, Channel, Histogram, HitCount, Sample, Bin, LastCell, TimeBin, Text, StartEvent, EndEvent, fits, inRange}
+use Rattle.format.specs.Items.{Item, Channel, Histogram, HitCount, Sample, Bin, LastCell, TimeBin, Text, StartEvent, EndEvent, fits, obeys, inRange}
 use Rattle.format.specs.Rules.{Kind, sized}
 use Rattle.format.specs.Frames.{Allowed}
 use Rattle.format.specs.Tree.{Letters, Limits}
@@ -41,12 +41,12 @@ three {a} {b} {c} p q r =
     let pq = two p q in
     (λ e. let (i, j) = pq .0 (and-left (a && b) c e) in (i, j, r .0 (and-right (a && b) c e)), λ h. and-both (a && b) c (pq .1 (h .0, h .1)) (r .1 (h .2)))
 
-four : {a b c d : Bool} {P Q R S : Type 0} → Tells a P → Tells b Q → Tells c R → Tells d S → Tells (a && b && c && d) (P × Q × R × S)
-four {a} {b} {c} {d} p q r s =
-    let pqr = three p q r in (
-      λ e. let (i, j, k) = pqr .0 (and-left (a && b && c) d e) in (i, j, k, s .0 (and-right (a && b && c) d e)),
-      λ h. and-both (a && b && c) d (pqr .1 (h .0, h .1, h .2)) (s .1 (h .3)),
-    )
+-- a header's fields, of which the last has a limit below its width
+header : {card a b c m k last wide : ℕ} → last ≤ wide
+    → Tells (eqb a card && leb c last && (leb a m && leb b k && leb c wide)) ((a ≡ card) × (a ≤ m) × (b ≤ k) × (c ≤ last))
+header {card} {a} {b} {c} {m} {k} {last} {wide} h =
+    let t = two (two (equal a card) (most c last)) (three (most a m) (most b k) (most c wide)) in
+    (λ e. let (r, f) = t .0 e in (r .0, f .0, f .1, r .1), λ l. t .1 ((l .0, l .3), (l .1, l .2, omega (arith, l .3))))
 
 letters : (s : List ℕ) → Tells (nonZero s && areBytes s) (Letters s)
 unfolding nonZero Letters
@@ -71,12 +71,16 @@ regrouped false b c = refl
 with-letters : {a : Bool} {P : Type 0} (s : List ℕ) → Tells a P → Tells (a && nonZero s && areBytes s) (P × Letters s)
 with-letters {a} {P} s p = subst (λ (b : Bool). Tells b (P × Letters s)) (regrouped a (nonZero s) (areBytes s)) (two p (letters s))
 
+-- a bin's number and count: the number fits its field, the count has a limit before its width
+counted : {a b c : Bool} {P Q R : Type 0} → Tells a P → Tells b Q → Tells c R → Tells (b && (a && c)) (P × Q × R)
+counted p q r = let t = two q (two p r) in (λ e. let (i, f) = t .0 e in (f .0, i, f .1), λ h. t .1 (h .1, (h .0, h .2)))
+
 pub limits : (card : ℕ) (x : Item) → Tells (inRange card x) (Limits card x)
-limits card (Channel a b c) = four (equal _ _) (most _ _) (most _ _) (most _ _)
-limits card (Histogram a b c) = four (equal _ _) (most _ _) (most _ _) (most _ _)
-limits card (HitCount a b c) = four (equal _ _) (most _ _) (most _ _) (most _ _)
+limits card (Channel a b c) = header (omega arith)
+limits card (Histogram a b c) = header (omega arith)
+limits card (HitCount a b c) = header (omega arith)
 limits card (Sample v) = most _ _
-limits card (Bin b n) = three (most _ _) (most _ _) (below _ _)
+limits card (Bin b n) = counted (most _ _) (most _ _) (below _ _)
 limits card (LastCell a b) = two (most _ _) (most _ _)
 limits card (TimeBin t) = most _ _
 limits card (Text s) = with-letters s (most _ _)
@@ -88,17 +92,22 @@ pub allowed-limits : (kind : Kind) (card : ℕ) (p : List Item) (x : Item) → A
 allowed-limits kind card p x a = limits card x .0 (and-left (inRange card x) (sized p x) (a .valued))
 
 -- an item within its limits fits its fields
-header-fits : (a b c : ℕ) → a ≤ 31 → b ≤ 3 → c ≤ 127 → leb a 31 && leb b 3 && leb c 127 ≡ true
-header-fits a b c p q r = three (most a 31) (most b 3) (most c 127) .1 (p, q, r)
-
 pub range-fits : (card : ℕ) (x : Item) → inRange card x ≡ true → fits x ≡ true
-range-fits card (Channel a b c) e = let h = limits card (Channel a b c) .0 e in header-fits a b c (h .1) (h .2) (omega (arith, h .3))
-range-fits card (Histogram a b c) e = let h = limits card (Histogram a b c) .0 e in header-fits a b c (h .1) (h .2) (omega (arith, h .3))
-range-fits card (HitCount a b c) e = let h = limits card (HitCount a b c) .0 e in header-fits a b c (h .1) (h .2) (omega (arith, h .3))
-range-fits card (Sample v) e = e
-range-fits card (Bin b n) e = let h = limits card (Bin b n) .0 e in two (most _ _) (below _ _) .1 (h .0, h .2)
-range-fits card (LastCell a b) e = e
-range-fits card (TimeBin t) e = e
-range-fits card (Text s) e = e
-range-fits card (StartEvent t ts n) e = e
-range-fits card (EndEvent n) e = e
+range-fits card x e = and-right (obeys card x) (fits x) e
+
+-- of a last field that has a limit below its width the limit alone need be tested
+narrower : (a b : Bool) (c last wide : ℕ) → last ≤ wide → a && b && leb c last ≡ leb c last && (a && b && leb c wide)
+narrower a b c last wide h = go (leb c last) refl
+  where
+    none : (a b : Bool) → a && b && false ≡ false
+    none true true = refl
+    none true false = refl
+    none false b = refl
+
+    go : (t : Bool) → leb c last ≡ t → a && b && t ≡ t && (a && b && leb c wide)
+    go true e = ap (λ (t : Bool). a && b && t) (sym (le-leb c wide (omega (arith, leb-true c last e))))
+    go false e = none a b
+
+pub header-valid : (card a b c m k last wide : ℕ) → a ≡ card → last ≤ wide
+    → leb a m && leb b k && leb c last ≡ eqb a card && leb c last && (leb a m && leb b k && leb c wide)
+header-valid card a b c m k last wide e h = rw (eq-eqb a card e) (narrower (leb a m) (leb b k) c last wide h)

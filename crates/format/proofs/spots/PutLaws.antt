@@ -1,14 +1,13 @@
 -- Putting a value, as bytes stored: what they leave of the bytes, and the frame that the new bytes are. T25 follows in StabilityLaws.
 -- Assumes nothing.
-use Prim.Native.Nat.{ℕ, zero, suc, _+_, _*_, _<_, _≤_}
+use Prim.Native.Nat.{ℕ, _+_, _*_}
 use mathlib.Core.Path.{_≡_, refl, sym, ap, ap₂, subst, _∙_}
 use mathlib.Core.List.{List, [], _∷_, _++_, append-assoc}
 use mathlib.Core.Logic.{_↔_}
 use mathlib.Core.Bool.{true}
 use mathlib.Core.Option.{Option, none, some}
 use native.Mathlib.Omega.{arith}
-use lib.ListN.{length, getD, drop, set, length-append}
-use lib.Seq.{sets, sets-eq, take-at, drop-at, getD-set-other}
+use lib.ListN.{length, length-append}
 use Rattle.format.specs.Words.{Bytes, bytes}
 use Rattle.format.specs.Answers.{Outcome, accepted, refused}
 use Rattle.format.specs.Items.{Item, wordsOf, inRange}
@@ -17,41 +16,12 @@ use Rattle.format.specs.Frames.{Frame, behind, Sound, startWord, allWord
 use Rattle.format.specs.Spots.{Spot, spotIn, spotFor, spot, valueWord, valueWords, putFor, put, legalValue, withValue, underAll, SpotIs, withItems}
 use Rattle.format.proofs.book.PrefixLaws.{and-left}
 use Rattle.format.proofs.items.WordLaws.{bytes-append, length-bytes}
+use Rattle.format.proofs.StoringLaws.{sets-mid}
 use Rattle.format.proofs.questions.ItemQuestions.{no-some, all-words}
 use Rattle.format.proofs.rules.SoundLaws.{sound-right, sound-head}
 use Rattle.format.proofs.rules.AlikeLaws.{sound-with, ended-with}
 use Rattle.format.proofs.spots.SpotLaws.{spot-exactly, Valued, valued, replaced, replaced-split, replaced-all}
 use Rattle.format.proofs.verdict.Acceptance.{sound, complete}
-
--- ---- stores
-
--- over a middle part
-sets-over : (p m q vs : List ℕ) (n : ℕ) → length p ≡ n → length vs ≡ length m → sets (p ++ (m ++ q)) n vs ≡ p ++ (vs ++ q)
-sets-over p m q vs n e h =
-    let a = length-append p (m ++ q) in
-    let b = length-append m q in
-    let c : length (p ++ m) ≡ n + length vs = length-append p m ∙ omega arith in
-    sets-eq vs (p ++ (m ++ q)) n (omega arith)
-    ∙ ap₂ (λ (l r : List ℕ). (l ++ vs) ++ r) (take-at p (m ++ q) n e) (ap (drop (n + length vs)) (sym (append-assoc p m q)) ∙ drop-at (p ++ m) q (n + length vs) c)
-    ∙ append-assoc p vs q
-
--- outside them stands what stood there
-pub sets-outside : (vs l : List ℕ) (i j : ℕ) → (i ≤ j → j < i + length vs → ⊥) → getD (sets l i vs) j 0 ≡ getD l j 0
-sets-outside [] l i j h = refl
-sets-outside (v ∷ vs) l i j h =
-    sets-outside vs (set l i v) (suc i) j (λ p q. h (omega arith) (omega arith)) ∙ getD-set-other l i j v 0 (λ e. h (omega arith) (omega arith))
-
--- bytes stored among bytes
-set-bytes : (l : List ℕ) (i v : ℕ) → Bytes l → v < 256 → Bytes (set l i v)
-set-bytes [] i v y h j = y j
-set-bytes (a ∷ l) zero v y h zero = h
-set-bytes (a ∷ l) zero v y h (suc j) = y (suc j)
-set-bytes (a ∷ l) (suc i) v y h zero = y 0
-set-bytes (a ∷ l) (suc i) v y h (suc j) = set-bytes l i v (λ k. y (suc k)) h j
-
-pub sets-bytes : (vs l : List ℕ) (i : ℕ) → Bytes l → Bytes vs → Bytes (sets l i vs)
-sets-bytes [] l i y h = y
-sets-bytes (v ∷ vs) l i y h = sets-bytes vs (set l i v) (suc i) (set-bytes l i v y (h 0)) (λ k. h (suc k))
 
 -- ---- a frame's words in parts
 
@@ -111,7 +81,7 @@ module _ (f : Frame) (w : ℕ) (p : Spot) (is : SpotIs (f .items) w p) where
       let long : length (bytes new) ≡ length (bytes old) = length-bytes new ∙ ap (λ (k : ℕ). 2 * k) (known .as-long v (p .value)) ∙ sym (length-bytes old) in
       here
       ∙ sym (ap (λ (l : List ℕ). putFor (some p) l w v) there
-      ∙ sets-over (bytes (fore f n before ++ lead)) (bytes old) rest (bytes new) (2 * valueWord (p .kind) w) at long)
+      ∙ sets-mid (bytes (fore f n before ++ lead)) (bytes old) rest (bytes new) (2 * valueWord (p .kind) w) at long)
 
   module _ (l : Legal f) where
     items-sound : Sound (f .kind) (f .card) [] (is .before ++ (is .item ∷ is .after))

@@ -155,11 +155,11 @@ bin-valued k b n =
       as-long = λ u v. refl;
       own = refl;
       other = λ v. refl;
-      standing = λ card r. and-both _ _ (and-right (leb b 4095) (leb 1 n) (and-left (leb b 4095 && leb 1 n) (ltb n 4294967296) r)) (and-right (leb b 4095 && leb 1 n) (ltb n 4294967296) r);
+      standing = λ card r.
+          and-both _ _ (and-left (leb 1 n) (leb b 4095 && ltb n 4294967296) r) (and-right (leb b 4095) (ltb n 4294967296) (and-right (leb 1 n) (leb b 4095 && ltb n 4294967296) r));
       ranged = λ card v r l.
-          and-both _ _
-          (and-both _ _ (and-left (leb b 4095) (leb 1 n) (and-left (leb b 4095 && leb 1 n) (ltb n 4294967296) r)) (and-left (leb 1 v) (ltb v 4294967296) l))
-          (and-right (leb 1 v) (ltb v 4294967296) l);
+          and-both _ _ (and-left (leb 1 v) (ltb v 4294967296) l)
+          (and-both _ _ (and-left (leb b 4095) (ltb n 4294967296) (and-right (leb 1 n) (leb b 4095 && ltb n 4294967296) r)) (and-right (leb 1 v) (ltb v 4294967296) l));
     }
 
 pub valued : (k : ℕ) (x : Item) (p : Spot) → spotOf k x ≡ some p → Valued k x p

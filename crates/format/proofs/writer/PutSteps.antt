@@ -8,9 +8,9 @@ use mathlib.Core.Logic.{_⊎_, inl, inr}
 use mathlib.Core.Bool.{Bool, true, false}
 use native.Mathlib.Omega.{arith}
 use lib.ListN.{length, getD}
-use lib.Seq.{sets, length-sets}
+use lib.Seq.{length-sets}
 use Rattle.format.specs.Words.{pick, Bytes}
-use Rattle.format.specs.Answers.{Outcome, accepted, refused, andThen, leaves}
+use Rattle.format.specs.Answers.{Outcome, accepted, refused, andThen}
 use Rattle.format.specs.Items.{classFor, Token, whole, broken, flawed}
 use Rattle.format.specs.Rules.{Kind, Checked, good, bad, check}
 use Rattle.format.specs.Frames.{behind}
@@ -21,7 +21,8 @@ use Rattle.format.specs.PartialSteps.{PartialOverview, partialOverview, 
 use Rattle.format.proofs.reader.StateLaws.{states, start-state}
 use Rattle.format.proofs.verdict.WalkLaws.{passes}
 use Rattle.format.proofs.writer.PartialLaws.{accepted-is}
-use Rattle.format.proofs.writer.StoreLaws.{as-found, as-written, either-way, sets-other}
+use Rattle.format.proofs.writer.StoreLaws.{as-found, as-written, either-way}
+use Rattle.format.proofs.StoringLaws.{sets-other}
 use Rattle.format.proofs.writer.WriterLaws.{Added, add-accepted}
 use Rattle.format.proofs.writer.WriterSteps.{begin-judged, add-judged}
 use Rattle.format.proofs.reader.PartialJudging.{contained, view-is, by-state, add-put, add-put-left}

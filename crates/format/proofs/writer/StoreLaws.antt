@@ -1,12 +1,12 @@
 -- T33, T34. What the writer's calls leave: as found where refused, else runs of stores in the lent buffer, and every other byte as it was.
 -- Assumes nothing.
-use Prim.Native.Nat.{ℕ, suc, _+_, _*_, _/_, _%_, _<_, _≤_}
+use Prim.Native.Nat.{ℕ, _+_, _*_, _<_, _≤_}
 use mathlib.Core.Path.{_≡_, refl, sym, ap, ap₂, _∙_}
 use mathlib.Core.List.{List, [], _∷_, _++_, append-assoc}
 use mathlib.Core.Logic.{_⊎_, inl, inr}
 use native.Mathlib.Omega.{arith}
-use lib.ListN.{length, getD, take, drop, set, take-append-drop}
-use lib.Seq.{sets, sets-eq, length-sets, getD-set-other, take-at, drop-at, drop-drop}
+use lib.ListN.{length, getD, take, drop, take-append-drop}
+use lib.Seq.{sets, length-sets, take-at, drop-at, drop-drop}
 use Rattle.format.specs.Words.{bytes}
 use Rattle.format.specs.Answers.{Outcome, accepted, refused, leaves}
 use Rattle.format.specs.Items.{Item, wordsOf, Token, whole}
@@ -15,39 +15,9 @@ use Rattle.format.specs.Frames.{startWord, allWords, frameWords, encode}
 use Rattle.format.specs.Writing.{Partial, partialWords, beginAnswer, beginLeft, tokenBytes, addAnswer, addLeft, closeAnswer, closeLeft}
 use Rattle.format.specs.WriterCases.{Begun, framed}
 use Rattle.format.proofs.items.WordLaws.{bytes-append, length-bytes}
+use Rattle.format.proofs.StoringLaws.{sets-other, sets-front, sets-at, word-outside}
 use Rattle.format.proofs.writer.PartialLaws.{begun-length}
 use Rattle.format.proofs.writer.WriterLaws.{begin-accepted, add-accepted, close-accepted}
-
--- ---- stores
-
--- a store elsewhere
-pub sets-other : (vs l : List ℕ) (i j : ℕ) → (j < i) ⊎ (i + length vs ≤ j) → getD (sets l i vs) j 0 ≡ getD l j 0
-sets-other [] l i j h = refl
-sets-other (v ∷ vs) l i j h = sets-other vs (set l i v) (suc i) j (later h) ∙ getD-set-other l i j v 0 (away h)
-  where
-    later : (j < i) ⊎ (i + length (v ∷ vs) ≤ j) → (j < suc i) ⊎ (suc i + length vs ≤ j)
-    later (inl h) = inl (omega arith)
-    later (inr h) = inr (omega arith)
-
-    away : (j < i) ⊎ (i + length (v ∷ vs) ≤ j) → j ≡ i → ⊥
-    away (inl h) e = omega arith
-    away (inr h) e = omega arith
-
--- of one word
-two-other : (l : List ℕ) (w at i : ℕ) → (i ≡ at → ⊥) → (i ≡ at + 1 → ⊥) → getD (sets l at (bytes (w ∷ []))) i 0 ≡ getD l i 0
-unfolding bytes
-two-other l w at i p q =
-    getD-set-other (set l at (w % 256)) (suc at) i (w / 256) 0 (λ e. q (e ∙ omega arith)) ∙ getD-set-other l at i (w % 256) 0 p
-
--- over the first bytes, and in the middle
-pub sets-front : (vs l : List ℕ) (n : ℕ) → length vs ≡ n → n ≤ length l → sets l 0 vs ≡ vs ++ drop n l
-sets-front vs l n e h =
-    let k : 0 + length vs ≡ n = omega arith in
-    sets-eq vs l 0 (omega arith) ∙ ap (λ (k : ℕ). vs ++ drop k l) k
-
-pub sets-at : (vs l : List ℕ) (n m : ℕ) → m ≡ n + length vs → m ≤ length l → sets l n vs ≡ take n l ++ (vs ++ drop m l)
-sets-at vs l n m e h =
-    sets-eq vs l n (omega arith) ∙ ap (λ (k : ℕ). take n l ++ vs ++ drop k l) (sym e) ∙ append-assoc (take n l) vs (drop m l)
 
 -- ---- T33: a refused call leaves the buffer as found
 
@@ -164,7 +134,7 @@ pub close-bytes : (buf : List ℕ) (n i : ℕ) → (i ≡ 2 → ⊥) → (i ≡ 
 unfolding closeLeft
 close-bytes buf n i a b c d =
     either-way (λ l. getD l i 0 ≡ getD buf i 0) (closeAnswer buf n) refl
-    (two-other (sets buf 2 (bytes ((n + 2) ∷ []))) 0x000F n i c d ∙ two-other buf (n + 2) 2 i a b)
+    (word-outside (sets buf 2 (bytes ((n + 2) ∷ []))) 0x000F n i c d ∙ word-outside buf (n + 2) 2 i a b)
 
 -- no call makes the buffer longer or shorter
 pub begin-kept : (buf : List ℕ) (kind : Kind) (card sequence : ℕ) → length (beginLeft buf kind card sequence) ≡ length buf

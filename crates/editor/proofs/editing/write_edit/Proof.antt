@@ -69,11 +69,7 @@ cast-t22 c =
     omega (arith, signer-fits _ _ _ _ (s .before .pre) .1)
 
 put-entry-requires : tie.Need-put-entry-requires
-put-entry-requires c κs =
-    let w = c .before .before .before .before .before .before in
-    let p = w .before .before .before .before .before .before .before in
-    let s = p .before .before .before in
-    omega (arith, w .put-words .kept .0, value-length _ _ _ _ (s .before .pre) _ _ _ _ (p .put-value .ensures), entry-room _ _ _ _ (s .before .pre))
+put-entry-requires c κs = search needs
 
 same-length : tie.Need-same-length
 same-length c = search needs

@@ -2,7 +2,7 @@
 -- Assumes nothing.
 use native.Mathlib.Omega.{arith}
 use lib.ListN.{length-set}
-use Rattle.plane.proofs.Storing.{word-out, word-half}
+use Rattle.format.proofs.StoringLaws.{word-out, word-half}
 use borrow.Author.Needs.{needs}
 use Rattle.plane.proofs.values.put_word.Statement.{statement}
 use Rattle.plane.proofs.values.put_word.Tie as tie

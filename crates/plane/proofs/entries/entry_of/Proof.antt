@@ -1,9 +1,9 @@
--- `plane::history::entry_of` meets its contract.
+-- `plane::entries::entry_of` meets its contract.
 -- Assumes nothing.
 use Rattle.plane.proofs.RecordLaws.{entry-read}
 use borrow.Author.Needs.{needs}
-use Rattle.plane.proofs.history.entry_of.Statement.{statement}
-use Rattle.plane.proofs.history.entry_of.Tie as tie
+use Rattle.plane.proofs.entries.entry_of.Statement.{statement}
+use Rattle.plane.proofs.entries.entry_of.Tie as tie
 
 entry-in-requires : tie.Need-entry-in-requires
 entry-in-requires c κs = search needs

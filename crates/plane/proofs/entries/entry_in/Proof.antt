@@ -1,9 +1,9 @@
--- `plane::history::entry_in` meets its contract.
+-- `plane::entries::entry_in` meets its contract.
 -- Assumes nothing.
 use Rattle.plane.proofs.RecordLaws.{entry-read}
 use borrow.Author.Needs.{needs}
-use Rattle.plane.proofs.history.entry_in.Statement.{statement}
-use Rattle.plane.proofs.history.entry_in.Tie as tie
+use Rattle.plane.proofs.entries.entry_in.Statement.{statement}
+use Rattle.plane.proofs.entries.entry_in.Tie as tie
 
 word-in-requires : tie.Need-word-in-requires
 word-in-requires c κs = search needs
