@@ -1,4 +1,4 @@
--- A scan of an accepted frame, item by item: each word it stops at begins an item, and that item's kind, value and key are read off the words
+-- A scan of an accepted frame, item by item: each word it stops at begins an item, and that item's kind, value and header are read off the words
 -- there.
 -- Assumes nothing.
 use Prim.Native.Nat.{ℕ, zero, suc, _+_, _-_, _*_, _/_, _%_, _<_, _≤_}
@@ -18,7 +18,7 @@ use Rattle.format.specs.Items.{Item, Text, EndEvent, wordsOf, fits, clos
 use Rattle.format.specs.Rules.{sized}
 use Rattle.format.specs.Frames.{Frame, behind, Sound, startWord, allWords, frameWords, encode, lastOf, verdict}
 use Rattle.format.specs.Steps.{tokenAt, nextAt, rest}
-use Rattle.format.specs.Spots.{Spot, spotOf, under, spotIn, spot, SpotIs, underAll}
+use Rattle.format.specs.Spots.{Header, noHeader, Spot, spotOf, under, spotIn, spot, SpotIs, underAll}
 use Rattle.format.specs.Scans.{kindBy, valueAt, spotFrom, underBy, kindFound}
 use Rattle.format.proofs.PrefixLaws.{and-left}
 use Rattle.format.proofs.WordLaws.{words-bytes}
@@ -86,7 +86,7 @@ behind-test : (b : Bool) (z x : Item) → pick b (some z) none ≡ some x → z 
 behind-test true z x e = some-is z x e
 behind-test false z x e = no-some x e
 
-module _ (w n k : ℕ) (ws : List ℕ) (x : Item) where
+module _ (w n : ℕ) (k : Header) (ws : List ℕ) (x : Item) where
   -- of a class that is no spot's and no header's
   as-spot : (z : Item) (o : Option Spot) → z ≡ x → spotOf k z ≡ o → spotOf k x ≡ o
   as-spot z o e h = ap (spotOf k) (sym e) ∙ h
@@ -97,7 +97,7 @@ module _ (w n k : ℕ) (ws : List ℕ) (x : Item) where
   read-spot histogram h e = as-spot _ none (some-is _ x e) refl
   read-spot hitCount h e = as-spot _ none (some-is _ x e) refl
   read-spot sample h e = as-spot _ _ (some-is _ x e) refl
-  read-spot bin h e = as-spot _ _ (some-is _ x e) (ap (λ (m : ℕ). some (record { kind = 2; value = m; key = k })) (h refl))
+  read-spot bin h e = as-spot _ _ (some-is _ x e) (ap (λ (m : ℕ). some (record { kind = 2; value = m; header = k })) (h refl))
   read-spot lastCell h e = as-spot _ none (some-is _ x e) refl
   read-spot timeBin h e = as-spot _ none (some-is _ x e) refl
   read-spot dataFrame h e = no-some x e
@@ -109,7 +109,7 @@ module _ (w n k : ℕ) (ws : List ℕ) (x : Item) where
   read-spot frameEnd h e = no-some x e
   read-spot unassigned h e = no-some x e
 
-  as-key : (z : Item) (j : ℕ) → z ≡ x → under k z ≡ j → under k x ≡ j
+  as-key : (z : Item) (j : Header) → z ≡ x → under k z ≡ j → under k x ≡ j
   as-key z j e h = ap (under k) (sym e) ∙ h
 
   read-under : (c : Class) → decode c w ws ≡ some x → under k x ≡ underBy c w k
@@ -147,30 +147,30 @@ module _ (s : List ℕ) (last : ℕ) (r : 2 * last ≤ length s + 1) (at : ℕ) 
       let l = left-after s last r at in
       ap (λ (m : ℕ). longOf (take m (drop (at + 1) (take last (words s))))) n ∙ long-after s last at r 2 (omega arith) (omega arith)
 
-  pub spot-told : (k : ℕ) → spotOf k x ≡ spotFrom (kindBy (classOf (wordAt s at))) (valueAt (kindBy (classOf (wordAt s at))) s at) k
+  pub spot-told : (k : Header) → spotOf k x ≡ spotFrom (kindBy (classOf (wordAt s at))) (valueAt (kindBy (classOf (wordAt s at))) s at) k
   unfolding valueAt
   spot-told k = read-spot (wordAt s at) (longAt s (at + 1)) k behind-it x (classOf (wordAt s at)) count-there decoded-it
 
-  pub key-told : (k : ℕ) → under k x ≡ underBy (classOf (wordAt s at)) (wordAt s at) k
+  pub key-told : (k : Header) → under k x ≡ underBy (classOf (wordAt s at)) (wordAt s at) k
   key-told k = read-under (wordAt s at) 0 k behind-it x (classOf (wordAt s at)) decoded-it
 
 -- ---- the scan
 
 -- no spot stands before the items
-none-before : (k at : ℕ) (xs : List Item) (u : ℕ) → u < at → spotIn k at xs u ≡ none
+none-before : (k : Header) (at : ℕ) (xs : List Item) (u : ℕ) → u < at → spotIn k at xs u ≡ none
 unfolding spotIn
 none-before k at [] u h = refl
 none-before k at (x ∷ xs) u h = rw (ne-eqb u at (λ e. omega arith)) (none-before (under k x) (at + length (wordsOf x)) xs u (omega arith))
 
-spot-first : (k at : ℕ) (x : Item) (xs : List Item) → spotIn k at (x ∷ xs) at ≡ spotOf k x
+spot-first : (k : Header) (at : ℕ) (x : Item) (xs : List Item) → spotIn k at (x ∷ xs) at ≡ spotOf k x
 unfolding spotIn
 spot-first k at x xs = rw (eq-eqb at at refl)
 
-spot-later : (k at : ℕ) (x : Item) (xs : List Item) (u : ℕ) → at < u → spotIn k at (x ∷ xs) u ≡ spotIn (under k x) (at + length (wordsOf x)) xs u
+spot-later : (k : Header) (at : ℕ) (x : Item) (xs : List Item) (u : ℕ) → at < u → spotIn k at (x ∷ xs) u ≡ spotIn (under k x) (at + length (wordsOf x)) xs u
 unfolding spotIn
 spot-later k at x xs u h = rw (ne-eqb u at (λ e. omega arith))
 
-spot-none : (k at u : ℕ) → spotIn k at [] u ≡ none
+spot-none : (k : Header) (at u : ℕ) → spotIn k at [] u ≡ none
 unfolding spotIn
 spot-none k at u = refl
 
@@ -182,8 +182,8 @@ more-words : (before : List Item) (x : Item) → length (allWords (before ++ (x 
 unfolding allWords
 more-words before x = ap length (all-words before (x ∷ [])) ∙ length-append (allWords before) (wordsOf x ++ []) ∙ ap (λ (l : List ℕ). length (allWords before) + length l) (append-nil (wordsOf x))
 
--- the scan of an accepted frame stands at word `at`, under a header of key k: from there on its items are still to come
-pub record Ahead (s : List ℕ) (at k : ℕ) : Type 0 where
+-- the scan of an accepted frame stands at word `at`, under the header k: from there on its items are still to come
+pub record Ahead (s : List ℕ) (at : ℕ) (k : Header) : Type 0 where
   pub bytes : Bytes s
   pub frame : Frame
   pub accepted : verdict s ≡ accepted frame
@@ -193,7 +193,7 @@ pub record Ahead (s : List ℕ) (at k : ℕ) : Type 0 where
   pub index : at ≡ 3 + length (allWords before)
   pub same : (u : ℕ) → at ≤ u → spotIn k at items u ≡ spot s u
 
-pub ahead-start : (s : List ℕ) → Bytes s → (f : Frame) → verdict s ≡ accepted f → Ahead s 3 0
+pub ahead-start : (s : List ℕ) → Bytes s → (f : Frame) → verdict s ≡ accepted f → Ahead s 3 noHeader
 ahead-start s y f a =
     record {
       bytes = y;
@@ -208,10 +208,10 @@ ahead-start s y f a =
 
 -- the first three words begin no item
 pub none-first : (s : List ℕ) (f : Frame) → verdict s ≡ accepted f → (u : ℕ) → u < 3 → spot s u ≡ none
-none-first s f a u h = spot-in s f u a ∙ none-before 0 3 (f .items) u h
+none-first s f a u h = spot-in s f u a ∙ none-before noHeader 3 (f .items) u h
 
 -- one turn of the scan, at a word before the last
-pub record Turn (s : List ℕ) (at k : ℕ) : Type 0 where
+pub record Turn (s : List ℕ) (at : ℕ) (k : Header) : Type 0 where
   pub further : at < nextAt s at
   pub within : nextAt s at ≤ lastOf s
   pub here : spot s at ≡ spotFrom (kindBy (classOf (wordAt s at))) (valueAt (kindBy (classOf (wordAt s at))) s at) k
@@ -219,7 +219,7 @@ pub record Turn (s : List ℕ) (at k : ℕ) : Type 0 where
   pub between : (u : ℕ) → at < u → u < nextAt s at → spot s u ≡ none
   pub next : Ahead s (nextAt s at) (underBy (classOf (wordAt s at)) (wordAt s at) k)
 
-module _ (s : List ℕ) (at k : ℕ) (g : Ahead s at k) where
+module _ (s : List ℕ) (at : ℕ) (k : Header) (g : Ahead s at k) where
   at-end : g .items ≡ [] → at ≡ lastOf s
   at-end e =
       let l = last-is s (g .bytes) (g .frame) (g .accepted) in
@@ -259,7 +259,7 @@ module _ (s : List ℕ) (at k : ℕ) (g : Ahead s at k) where
             items = xs;
             split = split-there ∙ sym (append-assoc (g .before) (x ∷ []) xs);
             index = omega (arith, more-words (g .before) x);
-            same = λ u h. ap₂ (λ (j i : ℕ). spotIn j i xs u) (sym key) wide ∙ still u (let m = n .further in omega arith);
+            same = λ u h. ap₂ (λ (j : Header) (i : ℕ). spotIn j i xs u) (sym key) wide ∙ still u (let m = n .further in omega arith);
           };
         }
 
@@ -280,7 +280,7 @@ module _ (s : List ℕ) (at k : ℕ) (g : Ahead s at k) where
 
 -- ---- a spot, wherever it stands
 
-kind-value : (n v k : ℕ) (p : Spot) → spotFrom n v k ≡ some p → (n ≡ p .kind) × (v ≡ p .value)
+kind-value : (n v : ℕ) (k : Header) (p : Spot) → spotFrom n v k ≡ some p → (n ≡ p .kind) × (v ≡ p .value)
 kind-value zero v k p e = no-some p e
 kind-value (suc n) v k p e = let q = some-is _ p e in (ap (λ (r : Spot). r .kind) q, ap (λ (r : Spot). r .value) q)
 
@@ -294,5 +294,5 @@ value-read s y w p e =
     let t = token-there s y f (h .accepted) (is .before) (is .item) (is .after) (is .items) w (is .index) in
     let l = before-last s y f (h .accepted) (is .before) (is .item) (is .after) (is .items) w (is .index) in
     let c = kindBy (classOf (wordAt s w)) in
-    let (n, v) = kind-value c (valueAt c s w) (underAll 0 (is .before)) p (sym (spot-told s (lastOf s) r w (is .item) l t _) ∙ is .spot) in
+    let (n, v) = kind-value c (valueAt c s w) (underAll noHeader (is .before)) p (sym (spot-told s (lastOf s) r w (is .item) l t _) ∙ is .spot) in
     sym v ∙ ap (λ (i : ℕ). valueAt i s w) n

@@ -17,7 +17,7 @@ use Rattle.format.specs.Answers.{accepted}
 use Rattle.format.specs.Items.{Item}
 use Rattle.format.specs.Frames.{Frame, allWords, encode, verdict}
 use Rattle.format.specs.Stands.{indexOf}
-use Rattle.format.specs.Spots.{Spot, spot, valueWord, valueWords, putFor, put, legalValue, revalued, withValue, SpotIs, withItems}
+use Rattle.format.specs.Spots.{noHeader, Spot, spot, valueWord, valueWords, putFor, put, legalValue, revalued, withValue, SpotIs, withItems}
 use Rattle.format.proofs.PrefixLaws.{and-left, and-right, and-both}
 use Rattle.format.proofs.WordLaws.{bytes-below}
 use Rattle.format.proofs.ItemQuestions.{all-words}
@@ -137,7 +137,7 @@ module _ (s : List ℕ) (y : Bytes s) (w : ℕ) (p : Spot) (e : spot s w ≡ som
         → indexOf (is .before ++ (withValue (is .item) v ∷ is .after)) n ≡ indexOf (f .items) n
     put-indexes f a is n = ap (λ (xs : List Item). indexOf xs n) (sym (split f w p is v)) ∙ ap (λ (k : ℕ). 3 + k) (replaced-words n 3 (f .items) w v)
 
-    -- the value stands there, and every other spot is as it was: kind, value and key
+    -- the value stands there, and every other spot is as it was: kind, value and header
     pub put-there : spot (put s w v) w ≡ some (revalued p v)
     put-there =
         let h = stands s w p e in
@@ -150,7 +150,7 @@ module _ (s : List ℕ) (y : Bytes s) (w : ℕ) (p : Spot) (e : spot s w ≡ som
         let h = stands s w p e in
         let f : Frame = h .frame in
         spot-in (put s w v) (changed f w v) u (put-changed s y f (h .accepted) w p e v l)
-        ∙ replaced-elsewhere 0 3 (f .items) w v u n
+        ∙ replaced-elsewhere noHeader 3 (f .items) w v u n
         ∙ sym (spot-in s f u (h .accepted))
 
     -- of two puts in one item the later decides, and the first value put back gives the first bytes

@@ -1,4 +1,4 @@
--- What the words of an accepted frame tell where an item begins: its kind as a spot, its value, and the key that the next item stands under.
+-- What the words of an accepted frame tell where an item begins: its kind as a spot, its value, and the header that the next item stands under.
 -- The rules of a frame are not asked again. That this is what the items are is in proofs/ScanLaws.
 -- Assumes nothing.
 use Prim.Native.Nat.{ℕ, zero, suc, _+_, _*_, _/_, _%_}
@@ -7,8 +7,7 @@ use mathlib.Core.Option.{Option, none, some}
 use lib.Dec.{eqb}
 use Rattle.format.specs.Words.{pick, wordAt, longAt}
 use Rattle.format.specs.Book.{Class, channel, histogram, hitCount, sample, bin, lastCell, timeBin, dataFrame, monitorFrame, commandFrame, text, startEvent, endEvent, frameEnd, unassigned}
-use Rattle.format.specs.Items.{key}
-use Rattle.format.specs.Spots.{Spot}
+use Rattle.format.specs.Spots.{Header, Spot}
 
 -- "1 sample, 2 bin"; 0 for every other class
 abbrev pub kindBy : Class → ℕ
@@ -33,17 +32,17 @@ unfoldable pub valueAt : ℕ → List ℕ → ℕ → ℕ
 valueAt kind s w = pick (eqb kind 1) (wordAt s w % 4096) (longAt s (w + 1))
 
 -- an item of the kind as a spot; none of kind 0
-abbrev pub spotFrom : ℕ → ℕ → ℕ → Option Spot
+abbrev pub spotFrom : ℕ → ℕ → Header → Option Spot
 spotFrom zero v k = none
-spotFrom (suc n) v k = some (record { kind = suc n; value = v; key = k })
+spotFrom (suc n) v k = some (record { kind = suc n; value = v; header = k })
 
--- the key that the next item stands under: that of a header's own word
-abbrev pub headerKey : ℕ → ℕ
-headerKey w = key (w / 512 % 32) (w / 128 % 4) (w % 128)
+-- the header that the next item stands under: that of a header's own word
+abbrev pub headerIn : ℕ → Header
+headerIn w = record { card = w / 512 % 32; chip = w / 128 % 4; channel = w % 128 }
 
-abbrev pub underBy : Class → ℕ → ℕ → ℕ
-underBy channel w k = headerKey w
-underBy histogram w k = headerKey w
+abbrev pub underBy : Class → ℕ → Header → Header
+underBy channel w k = headerIn w
+underBy histogram w k = headerIn w
 underBy hitCount w k = k
 underBy sample w k = k
 underBy bin w k = k

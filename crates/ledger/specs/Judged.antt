@@ -4,7 +4,8 @@ use Prim.Native.Nat.{ℕ}
 use mathlib.Core.List.{List}
 use mathlib.Core.Option.{Option, none, some}
 use Rattle.format.specs.Answers.{Outcome, accepted, andThen}
-use Rattle.ledger.specs.Frames.{Spot, FrameBook}
+use Rattle.format.specs.Spots.{Spot}
+use Rattle.ledger.specs.Frames.{FrameBook}
 use Rattle.ledger.specs.Formats.{Format}
 use Rattle.ledger.specs.Records.{lengthIn, countIn, totalIn, frameIn, recordVerdict}
 
