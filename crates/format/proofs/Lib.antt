@@ -60,6 +60,7 @@ pub mod Stability
 pub mod SpotKeys
 pub mod Placed
 pub mod TextPlaced
+pub mod CursorLaws
 pub mod ScanLaws
 pub mod PartialJudging
 pub mod PutSteps

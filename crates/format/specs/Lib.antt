@@ -18,4 +18,5 @@ pub mod WriterCases
 pub mod Handing
 pub mod Spots
 pub mod Scans
+pub mod Cursor
 pub mod PartialSteps

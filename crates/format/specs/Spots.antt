@@ -10,7 +10,7 @@ use lib.Seq.{sets}
 use lib.Dec.{leb, ltb, eqb}
 use Rattle.format.specs.Words.{pick, bytes, longWords}
 use Rattle.format.specs.Answers.{Outcome, accepted, refused}
-use Rattle.format.specs.Items.{Item, Channel, Histogram, HitCount, Sample, Bin, LastCell, TimeBin, Text, StartEvent, EndEvent, wordsOf}
+use Rattle.format.specs.Items.{ItemOf, Item, Channel, Histogram, HitCount, Sample, Bin, LastCell, TimeBin, Text, StartEvent, EndEvent, wordsOf}
 use Rattle.format.specs.Frames.{Frame, allWords, verdict}
 
 -- what a Channel or Histogram item says of the items that follow it
@@ -30,7 +30,7 @@ pub record Spot : Type 0 where
   pub header : Header
 
 -- an item under that header, as a spot
-abbrev pub spotOf : Header → Item → Option Spot
+abbrev pub spotOf : {T : Type 0} → Header → ItemOf T → Option Spot
 spotOf k (Channel a b c) = none
 spotOf k (Histogram a b c) = none
 spotOf k (HitCount a b c) = none
@@ -43,7 +43,7 @@ spotOf k (StartEvent t ts n) = none
 spotOf k (EndEvent n) = none
 
 -- the header that the next item stands under: a Channel or Histogram is one, after any other item it is still k
-abbrev pub under : Header → Item → Header
+abbrev pub under : {T : Type 0} → Header → ItemOf T → Header
 under k (Channel a b c) = record { card = a; chip = b; channel = c }
 under k (Histogram a b c) = record { card = a; chip = b; channel = c }
 under k (HitCount a b c) = k
@@ -67,6 +67,19 @@ spotFor (refused n p) w = none
 
 unfoldable pub spot : List ℕ → ℕ → Option Spot
 spot s w = spotFor (verdict s) w
+
+-- the header of the item whose first word is word w: a Channel or Histogram is its own, any other item stands under one; none where no item
+-- begins there
+unfoldable pub headedIn : Header → ℕ → List Item → ℕ → Option Header
+headedIn k at [] w = none
+headedIn k at (x ∷ xs) w = pick (eqb w at) (some (under k x)) (headedIn (under k x) (at + length (wordsOf x)) xs w)
+
+abbrev pub headedFor : Outcome Frame → ℕ → Option Header
+headedFor (accepted f) w = headedIn noHeader 3 (f .items) w
+headedFor (refused n p) w = none
+
+unfoldable pub headed : List ℕ → ℕ → Option Header
+headed s w = headedFor (verdict s) w
 
 -- ---- putting a value
 

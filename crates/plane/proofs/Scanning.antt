@@ -19,7 +19,8 @@ use Rattle.format.specs.Questions.{done}
 use Rattle.format.specs.Spots.{Spot, spot}
 use Rattle.format.specs.Scans.{kindBy, valueAt, spotFrom, underBy, kindFound}
 use Rattle.format.proofs.HeadLaws.{head-of}
-use Rattle.format.proofs.ScanLaws.{last-is, Ahead, ahead-start, none-first, Turn, turn, ahead-end}
+use Rattle.format.proofs.CursorLaws.{last-is}
+use Rattle.format.proofs.ScanLaws.{Ahead, ahead-start, none-first, Turn, turn, ahead-end}
 use Rattle.ledger.specs.Frames.{Accepted}
 use Rattle.ledger.specs.House.{house, house-judge}
 use Rattle.ledger.proofs.House.{house-lawful}

@@ -21,7 +21,8 @@ use Rattle.format.specs.Spots as spots
 use Rattle.format.specs.Scans.{valueAt, kindFound}
 use Rattle.format.proofs.PutLaws.{stands, put-stores}
 use Rattle.format.proofs.ItemQuestions.{no-some}
-use Rattle.format.proofs.ScanLaws.{next-there, value-read}
+use Rattle.format.proofs.CursorLaws.{next-there}
+use Rattle.format.proofs.ScanLaws.{value-read}
 use Rattle.ledger.specs.Tests.{all}
 use Rattle.ledger.specs.Frames.{Spot, Accepted, Settable}
 use Rattle.ledger.specs.Formats.{Entry}
