@@ -25,6 +25,11 @@ pub enum Class {
 }
 
 impl Class {
+    // The first words of two classes with longer prefixes. Below a Text's are the words of events and of a frame's end.
+    pub const TEXT: u16 = 0x0100;
+
+    pub const TIME_BIN: u16 = 0x0E00;
+
     // The first words of the classes with the shortest prefixes: each reaches from its own to the next one's, the Channel's to the last word.
     pub const LAST_CELL: u16 = 0x1800;
 

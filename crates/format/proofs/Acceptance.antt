@@ -29,6 +29,11 @@ pub in-order : (xs : List Item) → behind [] (behind [] xs) ≡ xs
 unfolding behind
 in-order xs = behind-behind xs [] [] ∙ append-nil xs
 
+pub length-behind : (p xs : List Item) → length (behind p xs) ≡ length p + length xs
+unfolding behind
+length-behind p [] = omega arith
+length-behind p (x ∷ xs) = length-behind (x ∷ p) xs ∙ omega arith
+
 -- ---- what an accepted walk and ending say
 pub record Ended (s : List ℕ) (q : List Item) (f : Frame) : Type 0 where
   pub may : mayEnd q ≡ true

@@ -19,12 +19,12 @@ use Rattle.format.specs.Rules.{Kind, same}
 use Rattle.format.specs.Frames.{Frame, behind, Allowed, Sound, startWord, allWords, frameWords, encode, lastOf, verdict}
 use Rattle.format.specs.Steps.{tokenAt, nextAt, rest}
 use Rattle.format.specs.Questions.{Found, Shown, shown}
-use Rattle.format.specs.Cursor.{standingBy, standingAt, shownBy, wholes, itemsFrom, Meets, ended, met, On}
-use Rattle.format.proofs.PrefixLaws.{and-left, and-right}
+use Rattle.format.specs.Cursor.{standingBy, standingAt, shownBy, unshown, wholes, itemsFrom, Meets, ended, met, On}
+use Rattle.format.proofs.PrefixLaws.{and-left, and-right, and-both}
 use Rattle.format.proofs.WordLaws.{words-bytes, words-below, below-take, below-drop}
 use Rattle.format.proofs.ItemLaws.{read-written, written-read}
 use Rattle.format.proofs.WalkLaws.{allowed-fits}
-use Rattle.format.proofs.SoundLaws.{sound-right, sound-head, sound-tail}
+use Rattle.format.proofs.SoundLaws.{behind-append, sound-right, sound-head, sound-tail}
 use Rattle.format.proofs.StepLaws.{rest-at, Next, next-at}
 use Rattle.format.proofs.TurnLaws.{Stands, alone, bin-there, start-there, end-there, end-broken}
 use Rattle.format.proofs.ItemQuestions.{no-some, some-is, some-word, all-words}
@@ -97,18 +97,28 @@ items-of kind card p (x ∷ xs) h =
 
 pub standing-in : (s : List ℕ) (at : ℕ) (t : Token) (n : ℕ) → 3 ≤ at → at < lastOf s → Stands s (lastOf s) at t n → standingAt s at ≡ standingBy t n
 unfolding standingAt
-standing-in s at t n a b w = rw (le-leb 3 at a, lt-ltb at (lastOf s) b, w .token, w .follow)
+standing-in s at t n a b w =
+    ap (λ (c : Bool). pick c (standingBy (tokenAt s (lastOf s) at) (nextAt s at)) none) (and-both (leb 3 at) (ltb at (lastOf s)) (le-leb 3 at a) (lt-ltb at (lastOf s) b))
+    ∙ ap₂ standingBy (w .token) (w .follow)
 
 pub standing-early : (s : List ℕ) (at : ℕ) → at < 3 → standingAt s at ≡ none
 unfolding standingAt
-standing-early s at a = rw (lt-leb 3 at a)
+standing-early s at a = ap (λ (c : Bool). pick (c && ltb at (lastOf s)) (standingBy (tokenAt s (lastOf s) at) (nextAt s at)) none) (lt-leb 3 at a)
 
 pub standing-late : (s : List ℕ) (at : ℕ) → lastOf s ≤ at → standingAt s at ≡ none
 unfolding standingAt
 standing-late s at a = go (leb 3 at)
   where
     go : (b : Bool) → pick (b && ltb at (lastOf s)) (standingBy (tokenAt s (lastOf s) at) (nextAt s at)) none ≡ none
-    go true = rw (le-ltb at (lastOf s) a)
+    go true = ap (λ (c : Bool). pick c (standingBy (tokenAt s (lastOf s) at) (nextAt s at)) none) (le-ltb at (lastOf s) a)
+    go false = refl
+
+pub standing-flawed : (s : List ℕ) (at k : ℕ) → tokenAt s (lastOf s) at ≡ flawed k → standingAt s at ≡ none
+unfolding standingAt
+standing-flawed s at k e = go (leb 3 at && ltb at (lastOf s))
+  where
+    go : (b : Bool) → pick b (standingBy (tokenAt s (lastOf s) at) (nextAt s at)) none ≡ none
+    go true = rw e
     go false = refl
 
 -- what stands is whole, and lies between the first three words and the last
@@ -155,6 +165,7 @@ pub record Turn (s : List ℕ) (at : ℕ) (g : On s at) (x : Item) (n : ℕ) : T
   pub next : On s n
   pub same-frame : next .frame ≡ g .frame
   pub passed : next .before ≡ g .before ++ (x ∷ [])
+  pub latest : behind [] (next .before) ≡ x ∷ behind [] (g .before)
 
 pub no-words : length (allWords []) ≡ 0
 unfolding allWords
@@ -188,7 +199,7 @@ module _ (s : List ℕ) (at : ℕ) (g : On s at) where
     below = before-last s (g .bytes) (g .frame) (g .accepted) (g .before) x xs split-there at (g .index)
 
     turn-there : Turn s at g x (nextAt s at)
-    unfolding itemsFrom wholes tokenAt
+    unfolding itemsFrom wholes tokenAt behind
     turn-there =
         let f : Frame = g .frame in
         let r = room s (g .bytes) f (g .accepted) in
@@ -220,6 +231,7 @@ module _ (s : List ℕ) (at : ℕ) (g : On s at) where
           };
           same-frame = refl;
           passed = refl;
+          latest = behind-append [] (g .before) (x ∷ []);
         }
 
   pub turn : at < lastOf s → (x : Item) × Turn s at g x (nextAt s at)
@@ -236,6 +248,19 @@ module _ (s : List ℕ) (at : ℕ) (g : On s at) where
       go : (l : List Item) → itemsFrom s at ≡ l → (itemsFrom s at ≡ []) × (at ≡ lastOf s)
       go [] e = (e, at-end e)
       go (x ∷ xs) e = let z = below x xs e in absurd (omega arith)
+
+  pub on-range : (3 ≤ at) × (at ≤ lastOf s)
+  on-range = go (itemsFrom s at) refl
+    where
+      go : (l : List Item) → itemsFrom s at ≡ l → (3 ≤ at) × (at ≤ lastOf s)
+      go [] e = let i = g .index in let z = at-end e in (omega arith, omega arith)
+      go (x ∷ xs) e = let i = g .index in let z = below x xs e in (omega arith, omega arith)
+
+  -- the rules hold of all that are left
+  pub on-sound : Sound (g .frame .kind) (g .frame .card) (behind [] (g .before)) (itemsFrom s at)
+  on-sound =
+      let h = sound s (g .bytes) (g .frame) (g .accepted) .0 .sound in
+      sound-right (g .frame .kind) (g .frame .card) [] (g .before) (itemsFrom s at) (subst (Sound (g .frame .kind) (g .frame .card) []) (g .split) h)
 
   -- ---- its cases: whoever knows the token knows the item
 
@@ -316,18 +341,6 @@ module _ (s : List ℕ) (at : ℕ) (g : On s at) where
 
 -- ---- an item as it is answered tells the item, but for a text's bytes
 
-abbrev pub unshown : ItemOf ℕ → Item
-unshown (Channel a b c) = Channel a b c
-unshown (Histogram a b c) = Histogram a b c
-unshown (HitCount a b c) = HitCount a b c
-unshown (Sample v) = Sample v
-unshown (Bin b n) = Bin b n
-unshown (LastCell a b) = LastCell a b
-unshown (TimeBin t) = TimeBin t
-unshown (Text n) = Text []
-unshown (StartEvent t ts n) = StartEvent t ts n
-unshown (EndEvent n) = EndEvent n
-
 shown-item : (x : Item) → same text (classFor x) ≡ false → x ≡ unshown (shown x)
 shown-item (Channel a b c) e = refl
 shown-item (Histogram a b c) e = refl
@@ -340,7 +353,7 @@ shown-item (Text s) e = absurd (true≢false e)
 shown-item (StartEvent t ts n) e = refl
 shown-item (EndEvent n) e = refl
 
-shown-class : (x : Item) → classFor (shown x) ≡ classFor x
+pub shown-class : (x : Item) → classFor (shown x) ≡ classFor x
 shown-class (Channel a b c) = refl
 shown-class (Histogram a b c) = refl
 shown-class (HitCount a b c) = refl

@@ -16,7 +16,7 @@ use Rattle.format.specs.Rules.{Kind, dataKind, monitorKind, commandKind,
 use Rattle.format.specs.Frames.{Frame, behind, lastOf, headFault, kindIn, cardIn, front, body, walk, ending, judged, verdict}
 use Rattle.format.specs.Steps.{St, stateOf, endedBy, indexIn, Summary, summary, summed, rest, Overview, overview, readOf, Indexed, indexOf}
 use Rattle.format.proofs.WalkLaws.{Stepped, walk-step}
-use Rattle.format.proofs.Acceptance.{in-order, behind-behind}
+use Rattle.format.proofs.Acceptance.{in-order, behind-behind, length-behind}
 
 -- ---- the items may end exactly where no event is open
 
@@ -165,16 +165,11 @@ module _ (s : List ℕ) (n : ℕ) where
       unfolding indexOf judged
       still-open f = rw (judged-here, t .walked, sym ends ∙ f)
 
-      length-behind : (p q : List Item) → length (behind q p) ≡ length p + length q
-      unfolding behind
-      length-behind [] q = omega arith
-      length-behind (y ∷ p) q = omega (arith, length-behind p (y ∷ q))
-
       pub all-read : endedBy (x .state .mode) ≡ true
           → accepted (record { frame = record { kind = kindIn s; card = cardIn s; sequence = wordAt s 2; items = x .count; state = x .state }; index = x .index }) ≡ indexOf s n
       unfolding indexOf judged
       all-read f =
-          let c : x .count ≡ length (behind [] (t .p)) = ap (λ (y : Summary). y .count) (t .is) ∙ sym (length-behind (t .p) [] ∙ omega arith) in
+          let c : x .count ≡ length (behind [] (t .p)) = ap (λ (y : Summary). y .count) (t .is) ∙ sym (length-behind [] (t .p) ∙ omega arith) in
           let i : x .index ≡ indexIn n (behind [] (behind [] (t .p))) = ap (λ (y : Summary). y .index) (t .is) ∙ ap (indexIn n) (sym (in-order (t .p))) in
           let r : x .state ≡ stateOf (kindIn s) (behind [] (behind [] (t .p))) = ap (λ (y : Summary). y .state) (t .is) ∙ ap (stateOf (kindIn s)) (sym (in-order (t .p))) in
           rw (judged-here, t .walked, sym ends ∙ f)

@@ -1,11 +1,12 @@
 -- Where item n of an accepted frame stands: the word index that a walk notes for it is one at which the item stands whole, so a reader that
 -- noted it need not walk again.
 -- Assumes nothing.
-use Prim.Native.Nat.{ℕ, zero, suc, _+_, _-_, _*_, _<_, _≤_}
+use Prim.Native.Nat.{ℕ, zero, suc, _+_, _*_, _<_, _≤_}
 use mathlib.Core.Path.{_≡_, refl, sym, ap, ap₂, subst, _∙_}
 use mathlib.Core.List.{List, [], _∷_, map}
 use native.Mathlib.Omega.{arith}
 use mathlib.Core.Bool.{Bool, true, false}
+use mathlib.Core.Option.{Option}
 use lib.Dec.{leb}
 use lib.ListN.{length, take, length-append}
 use borrow.Author.Tests.{leb-true, leb-false, eq-eqb, ne-eqb}
@@ -13,12 +14,14 @@ use Rattle.format.specs.Answers.{Outcome, accepted, refused, andThen}
 use Rattle.format.specs.Items.{Item, wordsOf, Token, whole}
 use Rattle.format.specs.Rules.{Kind, total}
 use Rattle.format.specs.Frames.{Frame, behind, allWords, lastOf, kindIn, cardIn, front, body, walk, verdict}
-use Rattle.format.specs.Questions.{Found, nth, itemAt}
+use Rattle.format.specs.Questions.{Found, shown, nth, itemAt, shownAt, present}
+use Rattle.format.specs.Cursor.{standingAt, shownBy}
 use Rattle.format.specs.Steps.{tokenAt, nextAt, rest, indexIn, overview, Indexed, indexOf}
 use Rattle.format.proofs.WalkLaws.{walk-step}
-use Rattle.format.proofs.Acceptance.{in-order, verdict-of}
+use Rattle.format.proofs.Acceptance.{in-order, length-behind, verdict-of}
 use Rattle.format.proofs.StepLaws.{rest-at, rest-empty, next-at}
 use Rattle.format.proofs.ItemQuestions.{item-past, item-refused}
+use Rattle.format.proofs.CursorLaws.{standing-in, standing-early}
 
 -- ---- what was walked through are whole items
 
@@ -67,6 +70,11 @@ unfolding total
 index-all n xs h =
     let e : n ≡ length {A = Item} [] + n = omega arith in
     ap (λ (k : ℕ). indexIn k (behind [] xs)) e ∙ index-behind n [] xs h
+
+none-noted : (n : ℕ) (p : List Item) → length p ≤ n → indexIn n p ≡ 0
+unfolding indexIn
+none-noted n [] h = refl
+none-noted n (x ∷ p) h = rw (ne-eqb (length p) n (λ e. omega arith)) (none-noted n p (omega arith))
 
 -- ---- item n of those from word `at` on
 
@@ -133,6 +141,7 @@ module _ (s : List ℕ) (last : ℕ) (room : 2 * last ≤ length s + 1) where
 -- item n stands whole at word `at`, and is what the item question finds
 pub record Placed (s : List ℕ) (n at : ℕ) : Type 0 where
   pub item : Item
+  pub late : 3 ≤ at
   pub token : tokenAt s (lastOf s) at ≡ whole item
   pub further : at < nextAt s at
   pub within : nextAt s at ≤ lastOf s
@@ -177,6 +186,13 @@ module _ (s : List ℕ) (n : ℕ) where
         let c : i .frame .items ≡ length (o .frame .items) = ap (λ (j : Indexed). j .frame .items) (o .is) in
         item-past s (o .frame) (o .verdict-is) n (omega arith)
 
+    -- no item stands at word 0, which is noted then
+    pub none-placed : i .frame .items ≤ n → i .index ≡ 0
+    none-placed h =
+        let o = noted i e in
+        let c : i .frame .items ≡ length (o .frame .items) = ap (λ (j : Indexed). j .frame .items) (o .is) in
+        ap (λ (j : Indexed). j .index) (o .is) ∙ none-noted n (behind [] (o .frame .items)) (omega (arith, length-behind [] (o .frame .items)))
+
     pub item-placed : n < i .frame .items → Placed s n (i .index)
     unfolding itemAt
     item-placed h =
@@ -186,9 +202,26 @@ module _ (s : List ℕ) (n : ℕ) where
         let c : i .frame .items ≡ length (f .items) = ap (λ (j : Indexed). j .frame .items) (o .is) in
         let room : 2 * lastOf s ≤ length s + 1 = omega arith in
         let r = stand s (lastOf s) room n 3 (f .items) (omega arith) (body-whole s f v) in
+        let b : 3 ≤ r .here = omega (arith, r .here-is) in
         let k : r .here ≡ i .index = r .here-is ∙ sym (ap (λ (j : Indexed). j .index) (o .is) ∙ index-all n (f .items) (omega arith)) in
         let q : itemAt s n ≡ accepted (record { item = r .item; next = nextAt s (r .here) }) = rw v (r .answer) in
-        subst (Placed s n) k (record { item = r .item; token = r .token; further = r .further; within = r .within; answer = q })
+        subst (Placed s n) k (record { item = r .item; late = b; token = r .token; further = r .further; within = r .within; answer = q })
+
+    -- so the item question's answer is what the cursor finds at the index that was noted
+    pub item-standing : present (shownBy (standingAt s (i .index))) ≡ shownAt s n
+    unfolding shownAt
+    item-standing = go (leb (i .frame .items) n) refl
+      where
+        go : (b : Bool) → leb (i .frame .items) n ≡ b → present (shownBy (standingAt s (i .index))) ≡ shownAt s n
+        go true h =
+            let z = none-placed (leb-true _ _ h) in
+            ap (λ (o : Option Found). present (shownBy o)) (standing-early s (i .index) (omega arith)) ∙ sym (ap (λ (o : Outcome Found). andThen o (λ r. accepted (record { item = shown (r .item); next = r .next }))) (item-absent (leb-true _ _ h)))
+        go false h =
+            let p = item-placed (leb-false _ _ h) in
+            let b = p .further in
+            let c = p .within in
+            ap (λ (o : Option Found). present (shownBy o)) (standing-in s (i .index) (whole (p .item)) (nextAt s (i .index)) (p .late) (omega arith) (record { token = p .token; follow = refl }))
+            ∙ sym (ap (λ (o : Outcome Found). andThen o (λ r. accepted (record { item = shown (r .item); next = r .next }))) (p .answer))
 
 -- what the item question finds stands whole at a word
 pub found-placed : (s : List ℕ) (n : ℕ) (r : Found) → itemAt s n ≡ accepted r → (at : ℕ) × Placed s n at

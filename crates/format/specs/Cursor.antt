@@ -10,7 +10,7 @@ use lib.Dec.{leb, ltb}
 use lib.ListN.{length}
 use Rattle.format.specs.Words.{pick, Bytes}
 use Rattle.format.specs.Answers.{accepted}
-use Rattle.format.specs.Items.{Item, Token, whole, broken, flawed}
+use Rattle.format.specs.Items.{ItemOf, Item, Channel, Histogram, HitCount, Sample, Bin, LastCell, TimeBin, Text, StartEvent, EndEvent, Token, whole, broken, flawed}
 use Rattle.format.specs.Frames.{Frame, allWords, lastOf, verdict}
 use Rattle.format.specs.Steps.{tokenAt, nextAt, rest}
 use Rattle.format.specs.Questions.{Found, Shown, shown}
@@ -29,6 +29,19 @@ standingAt s at = pick (leb 3 at && ltb at (lastOf s)) (standingBy (tokenAt s (l
 abbrev pub shownBy : Option Found → Option Shown
 shownBy none = none
 shownBy (some r) = some (record { item = shown (r .item); next = r .next })
+
+-- the item that an answer tells, but for a text's bytes
+abbrev pub unshown : ItemOf ℕ → Item
+unshown (Channel a b c) = Channel a b c
+unshown (Histogram a b c) = Histogram a b c
+unshown (HitCount a b c) = HitCount a b c
+unshown (Sample v) = Sample v
+unshown (Bin b n) = Bin b n
+unshown (LastCell a b) = LastCell a b
+unshown (TimeBin t) = TimeBin t
+unshown (Text n) = Text []
+unshown (StartEvent t ts n) = StartEvent t ts n
+unshown (EndEvent n) = EndEvent n
 
 -- the items among some tokens
 unfoldable pub wholes : List Token → List Item

@@ -5,19 +5,19 @@ use mathlib.Core.Path.{_≡_, refl, sym, ap, ap₂, subst, _∙_}
 use mathlib.Core.List.{List, [], _∷_, _++_}
 use native.Mathlib.Omega.{arith}
 use lib.ListN.{length, take, drop, length-append}
-use Rattle.format.specs.Words.{Bytes, wordAt}
+use Rattle.format.specs.Words.{Bytes}
 use Rattle.format.specs.Answers.{Outcome, accepted, refused, andThen}
-use Rattle.format.specs.Book.{classOf, after}
+use Rattle.format.specs.Book.{after}
 use Rattle.format.specs.Items.{ItemOf, Item, Channel, Histogram, HitCount, Sample, Bin, LastCell, TimeBin, Text, StartEvent, EndEvent, wordsOf, whole}
 use Rattle.format.specs.Frames.{Frame, allWords, lastOf, verdict}
 use Rattle.format.specs.Stands as stands
 use Rattle.format.specs.Stands.{ItemIs}
-use Rattle.format.specs.Steps.{tokenAt, nextAt, Indexed, indexOf}
+use Rattle.format.specs.Steps.{tokenAt, nextAt, indexOf}
 use Rattle.format.specs.Questions.{shown, Found, itemAt, Shown, shownAt, textFound, textAt}
 use Rattle.format.proofs.WordLaws.{length-words}
 use Rattle.format.proofs.StepLaws.{next-at}
 use Rattle.format.proofs.ItemQuestions.{item-there}
-use Rattle.format.proofs.Placed.{Placed, index-refused, item-absent, item-placed, found-placed}
+use Rattle.format.proofs.Placed.{index-refused, found-placed}
 use Rattle.format.proofs.TextPlaced.{texted}
 use Rattle.frame.specs.Parts.{textCount, fromFound, textFrom}
 
@@ -30,25 +30,6 @@ module _ (s : List ℕ) (n : ℕ) where
   pub shown-refused : (k p : ℕ) → refused k p ≡ indexOf s n → refused k p ≡ shownAt s n
   unfolding shownAt
   shown-refused k p e = rw (index-refused s n k p e)
-
-  module _ (i : Indexed) (e : accepted i ≡ indexOf s n) where
-    pub shown-absent : i .frame .items ≤ n → refused 13 0 ≡ shownAt s n
-    unfolding shownAt
-    shown-absent h = rw (item-absent s n i e h)
-
-    pub placed : n < i .frame .items → Placed s n (i .index)
-    placed h = item-placed s n i e h
-
-  pub next-here : (at w r : ℕ) → w ≡ wordAt s at → r ≡ after (classOf w) w → at + 1 + r ≡ nextAt s at
-  unfolding nextAt
-  next-here at w r e f = ap (λ (k : ℕ). at + 1 + k) (f ∙ ap (λ (v : ℕ). after (classOf v) v) e)
-
-  pub shown-found : (at : ℕ) → Placed s n at → (y : ItemOf ℕ) (next : ℕ) → ((x : Item) → tokenAt s (lastOf s) at ≡ whole x → y ≡ shown x) → next ≡ nextAt s at
-      → accepted (record { item = y; next = next }) ≡ shownAt s n
-  unfolding shownAt
-  shown-found at p y next f g =
-      let a = f (p .item) (p .token) in
-      rw (p .answer) (λ j. accepted (record { item = a j; next = g j }))
 
   -- ---- the text question
 

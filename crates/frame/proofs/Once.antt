@@ -15,6 +15,7 @@ use Rattle.format.specs.Steps as steps
 use Rattle.format.specs.Steps.{endedBy, start, readOf, marked, checkBy}
 use Rattle.format.specs.PartialSteps.{partialReadOf}
 use Rattle.format.specs.Questions.{shownAt, textAt}
+use Rattle.format.specs.Cursor.{standingAt, shownBy}
 use Rattle.book.specs.declared.items.Channel.{Channel}
 use Rattle.book.specs.declared.items.Histogram.{Histogram}
 use Rattle.book.specs.declared.items.HitCount.{HitCount}
@@ -32,11 +33,12 @@ use Rattle.frame.specs.declared.state.State.{State}
 use Rattle.frame.specs.declared.rules.Step.{Step}
 use Rattle.frame.specs.declared.reading.Reading.{Reading}
 use Rattle.frame.specs.declared.items.Found.{Found}
+use Rattle.frame.specs.declared.cursor.Standing.{Standing}
 use Rattle.frame.specs.declared.begun.Partial.{Partial}
-use Rattle.frame.specs.Views.{viewKind, viewMode, viewState, viewStep, endTested, textTested, viewReading, viewFound}
+use Rattle.frame.specs.Views.{viewKind, viewMode, viewState, viewStep, endTested, textTested, viewReading, viewFound, viewStanding}
 use Rattle.frame.specs.PartialViews.{viewPartial}
-use Rattle.frame.specs.Promises.{ReadAs, ItemAnswered, TextAnswered, PartialRead, ZeroFree, Started, MayEnd, MayStart, MayStandInside, MayTime, MaySample, MayHistogram, MayBin, MayText, PausedFrom, ChannelStep, HistogramStep, HitCountStep, LastCellStep, TimeBinStep, SampleStep, BinStep, StartEventStep, EndEventStep, TextStep}
-use Rattle.frame.proofs.Unique.{same-reading, same-found, same-state, same-step}
+use Rattle.frame.specs.Promises.{ReadAs, ItemAnswered, StandingAnswered, TextAnswered, PartialRead, ZeroFree, Started, MayEnd, MayStart, MayStandInside, MayTime, MaySample, MayHistogram, MayBin, MayText, PausedFrom, ChannelStep, HistogramStep, HitCountStep, LastCellStep, TimeBinStep, SampleStep, BinStep, StartEventStep, EndEventStep, TextStep}
+use Rattle.frame.proofs.Unique.{same-reading, same-found, same-standing, same-state, same-step}
 use Rattle.frame.proofs.PartialUnique.{same-partial}
 
 -- ---- the questions
@@ -46,6 +48,9 @@ read-once s = one viewReading same-reading (readOf s)
 
 pub item-once : (s : List ℕ) (n : ℕ) (r q : Found) → ItemAnswered s n r → ItemAnswered s n q → r ≡ q
 item-once s n = one viewFound same-found (shownAt s n)
+
+pub item-at-once : (s : List ℕ) (at : ℕ) (r q : Standing) → StandingAnswered s at r → StandingAnswered s at q → r ≡ q
+item-at-once s at = one viewStanding same-standing (shownBy (standingAt s at))
 
 -- A reference has a place, the elements that stand there, and a name by which the logic tracks them, of which no program can tell: what is
 -- fixed is the place and the elements, and so the one machine value of the part, a pointer and a count.

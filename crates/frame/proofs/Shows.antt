@@ -1,173 +1,139 @@
--- The item that stands whole at a word, class by class: what the code cut from the words is the item as it is answered.
+-- The item that stands at a word, class by class: what the code cut from the words is the item as it is answered, and none where its words are not
+-- there or are no item's.
 -- Assumes nothing.
 use Prim.Native.Nat.{ℕ, _+_, _-_, _*_, _%_, _≤_, _<_}
-use mathlib.Core.Path.{_≡_, refl, sym, ap, _∙_}
-use mathlib.Core.List.{List, [], _∷_}
+use mathlib.Core.Path.{_≡_, refl, sym, ap, ap₂, _∙_}
+use mathlib.Core.List.{List, []}
 use mathlib.Core.Bool.{Bool, true, false}
 use mathlib.Core.Option.{none, some}
 use native.Mathlib.Omega.{arith}
-use lib.Dec.{eqb}
 use lib.ListN.{length, take, drop}
-use borrow.Author.Tests.{eqb-true, eqb-false}
-use denote.Enum.Declared.{tagOf}
-use types.Run.{OneOf, miss}
-use Rattle.format.specs.Words.{pick, words, bytes, wordAt, longAt, timeAt}
-use Rattle.format.specs.Book.{Class, channel, histogram, hitCount, sample, bin, lastCell, timeBin, dataFrame, monitorFrame, commandFrame, text, startEvent, endEvent, frameEnd, unassigned, classOf, after, assigned}
-use Rattle.format.specs.Items.{Item, Channel, Histogram, HitCount, Sample, Bin, LastCell, TimeBin, Text, StartEvent, EndEvent, closed, decode, whole, broken, flawed, tokenFor}
+use Rattle.format.specs.Words.{Bytes, words, bytes, wordAt, longAt, timeAt}
+use Rattle.format.specs.Book.{Class, channel, histogram, hitCount, sample, bin, lastCell, timeBin, dataFrame, monitorFrame, commandFrame, text, startEvent, endEvent, frameEnd, unassigned, classOf, after, assigned, textWords}
+use Rattle.format.specs.Items.{Channel, Histogram, HitCount, Sample, Bin, LastCell, TimeBin, Text, StartEvent, EndEvent, closed, decode, Token, whole, broken, tokenFor}
 use Rattle.format.specs.Frames.{lastOf}
-use Rattle.format.specs.Steps.{tokenAt, nextAt}
 use Rattle.format.specs.Questions.{shown}
-use Rattle.format.proofs.ItemLaws.{token-passed}
-use Rattle.format.proofs.ItemQuestions.{no-some, some-is}
-use Rattle.format.proofs.StepLaws.{next-at}
-use Rattle.format.proofs.TurnLaws.{Stands, alone, no-class, bin-there, start-there, end-there, end-broken}
+use Rattle.format.specs.Cursor.{standingBy, standingAt, shownBy}
+use Rattle.format.proofs.TurnLaws.{Stands, alone, not-there, no-class, bin-there, start-there, end-there, end-broken, text-there, text-broken}
 use Rattle.format.proofs.TextPlaced.{texted}
+use Rattle.format.proofs.PartLaws.{payload-bytes}
+use Rattle.format.proofs.CursorLaws.{within-bytes, standing-in, standing-flawed}
 use Rattle.book.specs.Fields.{channelOf, histogramOf, hitsOf, cellOf, channelItem, histogramItem, hitsItem, cellItem}
-use Rattle.book.specs.Views.{view}
-use Rattle.book.specs.declared.class.Class as declared
-use Rattle.book.specs.declared.class.Class.the-variants as variants
-use Rattle.book.proofs.class.Class.{the-type}
 use Rattle.book.specs.declared.items.Channel as ch
 use Rattle.book.specs.declared.items.Histogram as hi
 use Rattle.book.specs.declared.items.HitCount as hc
 use Rattle.book.specs.declared.items.LastCell as lc
 
-one-whole : (x y : Item) → whole x ≡ whole y → x ≡ y
-one-whole x y e = cc
-
-not-broken : {A : Type 0} (c : Class) (x : Item) → broken c ≡ whole x → A
-not-broken c x e = let z : _≡_ {A = ℕ} 0 1 = cc in absurd (omega arith)
-
-not-flawed : {A : Type 0} (n : ℕ) (x : Item) → flawed n ≡ whole x → A
-not-flawed n x e = let z : _≡_ {A = ℕ} 0 1 = cc in absurd (omega arith)
-
-module _ (s : List ℕ) (at w : ℕ) (h : at < lastOf s) (e : w ≡ wordAt s at) (x : Item) (t : tokenAt s (lastOf s) at ≡ whole x) where
-  room : 2 * lastOf s ≤ length s
-  room = omega arith
-
-  wide : 2 * lastOf s ≤ length s + 1
-  wide = omega arith
-
-  standing : (y : Item) (next : ℕ) → Stands s (lastOf s) at (whole y) next → shown y ≡ shown x
-  standing y next k = ap shown (one-whole y x (sym (k .token) ∙ t))
+module _ (s : List ℕ) (last at w : ℕ) (b : 3 ≤ at) (h : at < last) (q : last ≡ lastOf s) (e : w ≡ wordAt s at) where
+  shows : (t : Token) (next : ℕ) → Stands s (lastOf s) at t next → shownBy (standingBy t next) ≡ shownBy (standingAt s at)
+  shows t next k = ap shownBy (sym (standing-in s at t next b (omega arith) k))
 
   -- ---- a class with no words after it
-  one : (c : Class) (y : Item) → c ≡ classOf w → assigned c ≡ true → after c (wordAt s at) ≡ 0 → tokenFor c (decode c w []) ≡ whole y → shown y ≡ shown x
-  one c y k a z d =
-      standing y (at + 1) (alone s (lastOf s) at c (whole y) (k ∙ ap classOf e) a z (ap (λ (v : ℕ). tokenFor c (decode c v [])) (sym e) ∙ d))
+  one : (c : Class) (t : Token) → c ≡ classOf w → assigned c ≡ true → after c (wordAt s at) ≡ 0 → tokenFor c (decode c w []) ≡ t
+      → shownBy (standingBy t (at + 1)) ≡ shownBy (standingAt s at)
+  one c t k a z d = shows t (at + 1) (alone s (lastOf s) at c t (k ∙ ap classOf e) a z (ap (λ (v : ℕ). tokenFor c (decode c v [])) (sym e) ∙ d))
 
-  pub channel-shown : (r : ch.Channel) → channel ≡ classOf w → r ≡ channelOf w → shown (channelItem r) ≡ shown x
+  pub channel-shown : (r : ch.Channel) → channel ≡ classOf w → r ≡ channelOf w → some (record { item = shown (channelItem r); next = at + 1 }) ≡ shownBy (standingAt s at)
   unfolding decode
-  channel-shown r k f = one channel (channelItem r) k refl refl (ap (λ (r : ch.Channel). whole (channelItem r)) (sym f))
+  channel-shown r k f = one channel (whole (channelItem r)) k refl refl (ap (λ (r : ch.Channel). whole (channelItem r)) (sym f))
 
-  pub histogram-shown : (r : hi.Histogram) → histogram ≡ classOf w → r ≡ histogramOf w → shown (histogramItem r) ≡ shown x
+  pub histogram-shown : (r : hi.Histogram) → histogram ≡ classOf w → r ≡ histogramOf w
+      → some (record { item = shown (histogramItem r); next = at + 1 }) ≡ shownBy (standingAt s at)
   unfolding decode
-  histogram-shown r k f = one histogram (histogramItem r) k refl refl (ap (λ (r : hi.Histogram). whole (histogramItem r)) (sym f))
+  histogram-shown r k f = one histogram (whole (histogramItem r)) k refl refl (ap (λ (r : hi.Histogram). whole (histogramItem r)) (sym f))
 
-  pub hit-shown : (r : hc.HitCount) → hitCount ≡ classOf w → r ≡ hitsOf w → shown (hitsItem r) ≡ shown x
+  pub hit-shown : (r : hc.HitCount) → hitCount ≡ classOf w → r ≡ hitsOf w → some (record { item = shown (hitsItem r); next = at + 1 }) ≡ shownBy (standingAt s at)
   unfolding decode
-  hit-shown r k f = one hitCount (hitsItem r) k refl refl (ap (λ (r : hc.HitCount). whole (hitsItem r)) (sym f))
+  hit-shown r k f = one hitCount (whole (hitsItem r)) k refl refl (ap (λ (r : hc.HitCount). whole (hitsItem r)) (sym f))
 
-  pub cell-shown : (r : lc.LastCell) → lastCell ≡ classOf w → r ≡ cellOf w → shown (cellItem r) ≡ shown x
+  pub cell-shown : (r : lc.LastCell) → lastCell ≡ classOf w → r ≡ cellOf w → some (record { item = shown (cellItem r); next = at + 1 }) ≡ shownBy (standingAt s at)
   unfolding decode
-  cell-shown r k f = one lastCell (cellItem r) k refl refl (ap (λ (r : lc.LastCell). whole (cellItem r)) (sym f))
+  cell-shown r k f = one lastCell (whole (cellItem r)) k refl refl (ap (λ (r : lc.LastCell). whole (cellItem r)) (sym f))
 
-  pub sample-shown : (v : ℕ) → sample ≡ classOf w → v ≡ w % 4096 → Sample v ≡ shown x
+  pub sample-shown : (v : ℕ) → sample ≡ classOf w → v ≡ w % 4096 → some (record { item = Sample v; next = at + 1 }) ≡ shownBy (standingAt s at)
   unfolding decode
-  sample-shown v k f = one sample (Sample v) k refl refl (ap (λ (v : ℕ). whole (Sample v)) (sym f))
+  sample-shown v k f = one sample (whole (Sample v)) k refl refl (ap (λ (v : ℕ). whole (Sample v)) (sym f))
 
-  pub time-shown : (v : ℕ) → timeBin ≡ classOf w → v ≡ w % 512 → TimeBin v ≡ shown x
+  pub time-shown : (v : ℕ) → timeBin ≡ classOf w → v ≡ w % 512 → some (record { item = TimeBin v; next = at + 1 }) ≡ shownBy (standingAt s at)
   unfolding decode
-  time-shown v k f = one timeBin (TimeBin v) k refl refl (ap (λ (v : ℕ). whole (TimeBin v)) (sym f))
-
-  -- ---- a class with words after it: they end before the last word
-  reach : (c : Class) (n : ℕ) → c ≡ classOf w → after c (wordAt s at) ≡ n → at + 1 + n ≤ lastOf s
-  unfolding nextAt
-  reach c n k z =
-      let b = next-at s (lastOf s) wide at x h t .within in
-      let i : after (classOf (wordAt s at)) (wordAt s at) ≡ n = ap (λ (d : Class). after d (wordAt s at)) (sym (k ∙ ap classOf e)) ∙ z in
-      omega arith
-
-  pub bin-shown : (b n : ℕ) → bin ≡ classOf w → b ≡ w % 4096 → n ≡ longAt s (at + 1) → Bin b n ≡ shown x
-  bin-shown b n k f g =
-      let l = reach bin 2 k refl in
-      ap (λ (b : ℕ). Bin b n) (f ∙ ap (λ (v : ℕ). v % 4096) e)
-      ∙ standing (Bin (wordAt s at % 4096) n) (at + 3) (bin-there s (lastOf s) at wide n (k ∙ ap classOf e) (omega arith) g)
-
-  pub start-shown : (c ts n : ℕ) → startEvent ≡ classOf w → c ≡ w % 16 → ts ≡ timeAt s (at + 1) → n ≡ longAt s (at + 4) → StartEvent c ts n ≡ shown x
-  start-shown c ts n k f g i =
-      let l = reach startEvent 5 k refl in
-      ap (λ (c : ℕ). StartEvent c ts n) (f ∙ ap (λ (v : ℕ). v % 16) e)
-      ∙ standing (StartEvent (wordAt s at % 16) ts n) (at + 6) (start-there s (lastOf s) at wide ts n (k ∙ ap classOf e) (omega arith) g i)
-
-  pub end-shown : (n : ℕ) → endEvent ≡ classOf w → n ≡ longAt s (at + 1) → EndEvent n ≡ shown x
-  end-shown n k g = go (eqb (wordAt s at % 16) 0) refl
-    where
-      l : at + 3 ≤ lastOf s
-      l = omega (arith, reach endEvent 2 k refl)
-
-      go : (b : Bool) → eqb (wordAt s at % 16) 0 ≡ b → EndEvent n ≡ shown x
-      go true z = standing (EndEvent n) (at + 3) (end-there s (lastOf s) at wide n (k ∙ ap classOf e) l (eqb-true (wordAt s at % 16) 0 z) g)
-      go false z = not-broken endEvent x (sym (end-broken s (lastOf s) at wide (k ∙ ap classOf e) l (eqb-false (wordAt s at % 16) 0 z) .token) ∙ t)
+  time-shown v k f = one timeBin (whole (TimeBin v)) k refl refl (ap (λ (v : ℕ). whole (TimeBin v)) (sym f))
 
   -- ---- a class that begins no item
-  nothing : {A : Type 0} (c : Class) → c ≡ classOf w → assigned c ≡ true → after c (wordAt s at) ≡ 0 → tokenFor c (decode c (wordAt s at) []) ≡ broken c → A
-  nothing c k a z d = not-broken c x (sym (alone s (lastOf s) at c (broken c) (k ∙ ap classOf e) a z d .token) ∙ t)
-
-  data-shown : {A : Type 0} → dataFrame ≡ classOf w → A
+  pub data-shown : dataFrame ≡ classOf w → none ≡ shownBy (standingAt s at)
   unfolding decode
-  data-shown k = nothing dataFrame k refl refl refl
+  data-shown k = one dataFrame (broken dataFrame) k refl refl refl
 
-  monitor-shown : {A : Type 0} → monitorFrame ≡ classOf w → A
+  pub monitor-shown : monitorFrame ≡ classOf w → none ≡ shownBy (standingAt s at)
   unfolding decode
-  monitor-shown k = nothing monitorFrame k refl refl refl
+  monitor-shown k = one monitorFrame (broken monitorFrame) k refl refl refl
 
-  command-shown : {A : Type 0} → commandFrame ≡ classOf w → A
+  pub command-shown : commandFrame ≡ classOf w → none ≡ shownBy (standingAt s at)
   unfolding decode
-  command-shown k = nothing commandFrame k refl refl refl
+  command-shown k = one commandFrame (broken commandFrame) k refl refl refl
 
-  frame-end-shown : {A : Type 0} → frameEnd ≡ classOf w → A
+  pub frame-end-shown : frameEnd ≡ classOf w → none ≡ shownBy (standingAt s at)
   unfolding decode
-  frame-end-shown k = nothing frameEnd k refl refl refl
+  frame-end-shown k = one frameEnd (broken frameEnd) k refl refl refl
 
-  unassigned-shown : {A : Type 0} → unassigned ≡ classOf w → A
-  unassigned-shown k = not-flawed 6 x (sym (no-class s (lastOf s) at (k ∙ ap classOf e)) ∙ t)
+  pub unassigned-shown : unassigned ≡ classOf w → none ≡ shownBy (standingAt s at)
+  unassigned-shown k = ap shownBy (sym (standing-flawed s at 6 (no-class s (lastOf s) at (k ∙ ap classOf e))))
+
+  -- ---- a class with words after it: not all of them are there
+  pub cut-shown : (c : Class) (n : ℕ) → c ≡ classOf w → assigned c ≡ true → after c w ≡ n → last < at + 1 + n → none ≡ shownBy (standingAt s at)
+  cut-shown c n k a z l =
+      ap shownBy (sym (standing-flawed s at 7 (not-there s (lastOf s) at (within-bytes s) c n (k ∙ ap classOf e) a (ap (after c) (sym e) ∙ z) (omega arith) (omega arith))))
+
+  -- ---- or they are
+  pub bin-shown : (r n : ℕ) → bin ≡ classOf w → at + 3 ≤ last → r ≡ w % 4096 → n ≡ longAt s (at + 1) → some (record { item = Bin r n; next = at + 3 }) ≡ shownBy (standingAt s at)
+  bin-shown r n k l f g =
+      ap (λ (r : ℕ). some (record { item = Bin r n; next = at + 3 })) (f ∙ ap (λ (v : ℕ). v % 4096) e)
+      ∙ shows _ (at + 3) (bin-there s (lastOf s) at (within-bytes s) n (k ∙ ap classOf e) (omega arith) g)
+
+  pub start-shown : (r ts n : ℕ) → startEvent ≡ classOf w → at + 6 ≤ last → r ≡ w % 16 → ts ≡ timeAt s (at + 1) → n ≡ longAt s (at + 4)
+      → some (record { item = StartEvent r ts n; next = at + 6 }) ≡ shownBy (standingAt s at)
+  start-shown r ts n k l f g i =
+      ap (λ (r : ℕ). some (record { item = StartEvent r ts n; next = at + 6 })) (f ∙ ap (λ (v : ℕ). v % 16) e)
+      ∙ shows _ (at + 6) (start-there s (lastOf s) at (within-bytes s) ts n (k ∙ ap classOf e) (omega arith) g i)
+
+  pub end-shown : (low n : ℕ) → endEvent ≡ classOf w → at + 3 ≤ last → low ≡ w % 16 → low ≡ 0 → n ≡ longAt s (at + 1)
+      → some (record { item = EndEvent n; next = at + 3 }) ≡ shownBy (standingAt s at)
+  end-shown low n k l f z g =
+      shows _ (at + 3) (end-there s (lastOf s) at (within-bytes s) n (k ∙ ap classOf e) (omega arith) (ap (λ (v : ℕ). v % 16) (sym e) ∙ sym f ∙ z) g)
+
+  pub low-shown : (low : ℕ) → endEvent ≡ classOf w → at + 3 ≤ last → low ≡ w % 16 → (low ≡ 0 → ⊥) → none ≡ shownBy (standingAt s at)
+  low-shown low k l f z =
+      shows _ (at + 3) (end-broken s (lastOf s) at (within-bytes s) (k ∙ ap classOf e) (omega arith) (λ i. z (f ∙ ap (λ (v : ℕ). v % 16) e ∙ i)))
 
   -- ---- a text: its word holds its n
-  text-item : text ≡ classOf w → (b : List ℕ) × (x ≡ Text b)
-  unfolding tokenAt decode
-  text-item k =
-      let v : ℕ = wordAt s at in
-      let ws : List ℕ = drop (at + 1) (take (lastOf s) (words s)) in
-      let p = token-passed v ws x t in
-      let d : decode text v (take (after (classOf v) v) ws) ≡ some x = ap (λ (c : Class). decode c v (take (after (classOf v) v) ws)) (k ∙ ap classOf e) ∙ p .read in
-      go (closed (v % 256) (bytes (take (after (classOf v) v) ws))) (take (v % 256 - 1) (bytes (take (after (classOf v) v) ws))) d
-    where
-      go : (c : Bool) (b : List ℕ) → pick c (some (Text b)) none ≡ some x → (b : List ℕ) × (x ≡ Text b)
-      go true b d = (b, sym (some-is _ _ d))
-      go false b d = no-some x d
+  module _ (y : Bytes s) (n m : ℕ) (k : text ≡ classOf w) (f : n ≡ w % 256) (g : m ≡ textWords w) (l : at + 1 + m ≤ last)
+      (t : Bool) (c : t ≡ closed n (take (2 * (at + 1 + m) - 2 * (at + 1)) (drop (2 * (at + 1)) s))) where
+    part : List ℕ
+    part = bytes (take (textWords (wordAt s at)) (drop (at + 1) (take (lastOf s) (words s))))
 
-  text-shown : (n : ℕ) → text ≡ classOf w → n ≡ w % 256 → Text n ≡ shown x
-  text-shown n k f =
-      let (b, i) = text-item k in
-      let r = texted s (lastOf s) at room h b (t ∙ ap whole i) .counted in
-      let q : n ≡ length b + 1 = f ∙ ap (λ (v : ℕ). v % 256) e ∙ r in
-      ap (λ (n : ℕ). Text n) q ∙ ap shown (sym i)
+    long : m ≡ textWords (wordAt s at)
+    long = g ∙ ap textWords e
 
-  -- ---- the classes that are none of the nine above: a text, or none of an item
-  pub other-shown : (k : declared.Class) → OneOf (10 ∷ 7 ∷ 8 ∷ 9 ∷ 13 ∷ 14 ∷ []) (tagOf the-type k) → view k ≡ classOf w → (n : ℕ) → n ≡ w % 256 → Text n ≡ shown x
-  other-shown variants.Channel o k n f = absurd (miss (10 ∷ 7 ∷ 8 ∷ 9 ∷ 13 ∷ 14 ∷ []) 0 tt o)
-  other-shown variants.Histogram o k n f = absurd (miss (10 ∷ 7 ∷ 8 ∷ 9 ∷ 13 ∷ 14 ∷ []) 1 tt o)
-  other-shown variants.HitCount o k n f = absurd (miss (10 ∷ 7 ∷ 8 ∷ 9 ∷ 13 ∷ 14 ∷ []) 2 tt o)
-  other-shown variants.Sample o k n f = absurd (miss (10 ∷ 7 ∷ 8 ∷ 9 ∷ 13 ∷ 14 ∷ []) 3 tt o)
-  other-shown variants.Bin o k n f = absurd (miss (10 ∷ 7 ∷ 8 ∷ 9 ∷ 13 ∷ 14 ∷ []) 4 tt o)
-  other-shown variants.LastCell o k n f = absurd (miss (10 ∷ 7 ∷ 8 ∷ 9 ∷ 13 ∷ 14 ∷ []) 5 tt o)
-  other-shown variants.TimeBin o k n f = absurd (miss (10 ∷ 7 ∷ 8 ∷ 9 ∷ 13 ∷ 14 ∷ []) 6 tt o)
-  other-shown variants.DataFrame o k n f = data-shown k
-  other-shown variants.MonitorFrame o k n f = monitor-shown k
-  other-shown variants.CommandFrame o k n f = command-shown k
-  other-shown variants.Text o k n f = text-shown n k f
-  other-shown variants.StartEvent o k n f = absurd (miss (10 ∷ 7 ∷ 8 ∷ 9 ∷ 13 ∷ 14 ∷ []) 11 tt o)
-  other-shown variants.EndEvent o k n f = absurd (miss (10 ∷ 7 ∷ 8 ∷ 9 ∷ 13 ∷ 14 ∷ []) 12 tt o)
-  other-shown variants.FrameEnd o k n f = frame-end-shown k
-  other-shown variants.Unassigned o k n f = unassigned-shown k
+    closes : t ≡ closed (wordAt s at % 256) part
+    unfolding part
+    closes =
+        let v : ℕ = wordAt s at in
+        let j = long in
+        let two : 2 * (at + 1 + m) - 2 * (at + 1) ≡ 2 * textWords v = omega arith in
+        let p : part ≡ take (2 * textWords v) (drop (2 * (at + 1)) s) = payload-bytes s (lastOf s) at (textWords v) y (omega arith) (omega arith) in
+        c ∙ ap₂ closed (f ∙ ap (λ (u : ℕ). u % 256) e) (ap (λ (z : ℕ). take z (drop (2 * (at + 1)) s)) two ∙ sym p)
+
+    pub text-shown : t ≡ true → some (record { item = Text n; next = at + 1 + m }) ≡ shownBy (standingAt s at)
+    unfolding part
+    text-shown d =
+        let j = long in
+        let k′ = k ∙ ap classOf e in
+        let z = text-there s (lastOf s) at (within-bytes s) k′ (omega arith) (sym closes ∙ d) in
+        let r = texted s (lastOf s) at (omega arith) (omega arith) (take (wordAt s at % 256 - 1) part) (z .token) .counted in
+        let i : n ≡ length (take (wordAt s at % 256 - 1) part) + 1 = f ∙ ap (λ (v : ℕ). v % 256) e ∙ r in
+        ap₂ (λ (u v : ℕ). some (record { item = Text u; next = at + 1 + v })) i j ∙ shows _ _ z
+
+    pub unclosed-shown : t ≡ false → none ≡ shownBy (standingAt s at)
+    unfolding part
+    unclosed-shown d =
+        let j = long in
+        shows _ _ (text-broken s (lastOf s) at (within-bytes s) (k ∙ ap classOf e) (omega arith) (sym closes ∙ d))

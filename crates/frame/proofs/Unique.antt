@@ -2,6 +2,7 @@
 -- Assumes nothing.
 use Prim.Native.Nat.{ℕ}
 use mathlib.Core.Path.{_≡_, refl, sym, ap, ap₂}
+use mathlib.Core.Option.{Option, none, some}
 use native.Mathlib.Omega.{arith}
 use Rattle.format.specs.Answers.{accepted, refused}
 use Rattle.format.specs.Rules as rules
@@ -27,7 +28,9 @@ use Rattle.frame.specs.declared.reading.Indexed.the-variants as indexed
 use Rattle.frame.specs.declared.items.FoundItem.{FoundItem}
 use Rattle.frame.specs.declared.items.Found.{Found}
 use Rattle.frame.specs.declared.items.Found.the-variants as found
-use Rattle.frame.specs.Views.{viewKind, viewMode, viewState, viewStep, viewSummary, viewWalk, viewFrame, viewReading, viewIndexed, viewFoundItem, viewFound}
+use Rattle.frame.specs.declared.cursor.Standing.{Standing}
+use Rattle.frame.specs.declared.cursor.Standing.the-variants as standing
+use Rattle.frame.specs.Views.{viewKind, viewMode, viewState, viewStep, viewSummary, viewWalk, viewFrame, viewReading, viewIndexed, viewFoundItem, viewFound, viewStanding}
 
 abbrev kindBack : rules.Kind → Kind
 kindBack rules.dataKind = kind.Data
@@ -139,3 +142,15 @@ same-found (found.Item x) (found.Item y) e = ap found.Item (same-found-item x y 
 same-found (found.Item x) (found.Refused n) e = neither _ _ _ e
 same-found (found.Refused n) (found.Item x) e = neither _ _ _ (sym e)
 same-found (found.Refused n) (found.Refused m) e = ap found.Refused (same-refusal n m e)
+
+none-some : {A : Type 0} (x : Shown) → _≡_ {A = Option Shown} none (some x) → A
+none-some x e = let z : _≡_ {A = ℕ} 0 1 = cc in absurd (omega arith)
+
+pub same-standing : (r q : Standing) → viewStanding r ≡ viewStanding q → r ≡ q
+same-standing (standing.Item x) (standing.Item y) e = ap standing.Item (same-found-item x y (held _ _ e))
+  where
+    held : (a b : Shown) → some a ≡ some b → a ≡ b
+    held a b f = cc
+same-standing (standing.Item x) standing.Nothing e = none-some _ (sym e)
+same-standing standing.Nothing (standing.Item y) e = none-some _ e
+same-standing standing.Nothing standing.Nothing e = refl

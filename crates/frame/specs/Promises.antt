@@ -13,6 +13,7 @@ use Rattle.format.specs.Steps as steps
 use Rattle.format.specs.Steps.{endedBy, start, readOf, marked, checkBy}
 use Rattle.format.specs.PartialSteps.{partialReadOf}
 use Rattle.format.specs.Questions.{shownAt, textAt}
+use Rattle.format.specs.Cursor.{standingAt, shownBy}
 use Rattle.book.specs.declared.items.Channel.{Channel}
 use Rattle.book.specs.declared.items.Histogram.{Histogram}
 use Rattle.book.specs.declared.items.HitCount.{HitCount}
@@ -29,8 +30,9 @@ use Rattle.frame.specs.declared.state.State.{State}
 use Rattle.frame.specs.declared.rules.Step.{Step}
 use Rattle.frame.specs.declared.reading.Reading.{Reading}
 use Rattle.frame.specs.declared.items.Found.{Found}
+use Rattle.frame.specs.declared.cursor.Standing.{Standing}
 use Rattle.frame.specs.declared.begun.Partial.{Partial}
-use Rattle.frame.specs.Views.{viewKind, viewMode, viewState, viewStep, endTested, textTested, viewReading, viewFound}
+use Rattle.frame.specs.Views.{viewKind, viewMode, viewState, viewStep, endTested, textTested, viewReading, viewFound, viewStanding}
 use Rattle.frame.specs.PartialViews.{viewPartial}
 use Rattle.frame.specs.Parts.{textFrom, within}
 
@@ -43,6 +45,10 @@ ReadAs s r = viewReading r ≡ readOf s
 -- item n, and the index of the next
 abbrev pub ItemAnswered : List ℕ → ℕ → Found → Type 0
 ItemAnswered s n r = viewFound r ≡ shownAt s n
+
+-- the item that stands at word `at` of any bytes, and the index of the next
+abbrev pub StandingAnswered : List ℕ → ℕ → Standing → Type 0
+StandingAnswered s at r = viewStanding r ≡ shownBy (standingAt s at)
 
 -- the bytes of the text that is item n, and where they lie: in the frame itself
 abbrev pub TextAnswered : RefT (List ℕ) → ℕ → RefT (List ℕ) → Type 0

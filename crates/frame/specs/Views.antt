@@ -3,6 +3,7 @@
 use Prim.Native.Nat.{ℕ, _+_, _*_, _-_}
 use mathlib.Core.List.{List}
 use mathlib.Core.Bool.{Bool, true, false, _&&_}
+use mathlib.Core.Option.{Option, none, some}
 use lib.Dec.{eqb}
 use Rattle.format.specs.Words.{pick}
 use Rattle.format.specs.Rules as rules
@@ -30,6 +31,8 @@ use Rattle.frame.specs.declared.reading.Indexed.the-variants as indexed
 use Rattle.frame.specs.declared.items.FoundItem.{FoundItem}
 use Rattle.frame.specs.declared.items.Found.{Found}
 use Rattle.frame.specs.declared.items.Found.the-variants as found
+use Rattle.frame.specs.declared.cursor.Standing.{Standing}
+use Rattle.frame.specs.declared.cursor.Standing.the-variants as standing
 use Rattle.frame.specs.declared.walk.Walked.{Walked}
 use Rattle.frame.specs.declared.walk.Walked.the-variants as walk
 
@@ -79,6 +82,10 @@ viewFoundItem x = record { item = viewItem (x .item); next = x .next }
 abbrev pub viewFound : Found → Outcome Shown
 viewFound (found.Item x) = accepted (viewFoundItem x)
 viewFound (found.Refused r) = refusal r
+
+abbrev pub viewStanding : Standing → Option Shown
+viewStanding (standing.Item x) = some (viewFoundItem x)
+viewStanding standing.Nothing = none
 
 -- what is answered where the items of a frame were walked through
 unfoldable pub endingOf : List ℕ → ℕ → rules.Kind → ℕ → Summary → Outcome steps.Indexed

@@ -1,28 +1,29 @@
 -- The event question, by its ways out.
 -- Assumes nothing.
-use Prim.Native.Nat.{ℕ, _+_, _-_, _%_, _≤_}
-use mathlib.Core.Path.{_≡_, refl, sym, ap, ap₂, _∙_}
-use mathlib.Core.List.{List}
+use Prim.Native.Nat.{ℕ, _+_, _%_}
+use mathlib.Core.Path.{_≡_, refl, sym, ap, _∙_}
+use mathlib.Core.List.{List, []}
 use mathlib.Core.Option.{Option, none, some}
 use native.Mathlib.Omega.{arith}
-use lib.ListN.{take, drop, length}
 use Rattle.format.specs.Words.{Bytes, wordAt, longAt, timeAt}
 use Rattle.format.specs.Answers.{Outcome, accepted, refused, andThen}
 use Rattle.format.specs.Items.{Item}
 use Rattle.format.specs.Rules.{Kind, dataKind, monitorKind, commandKind, first, gather}
-use Rattle.format.specs.Frames.{verdict}
+use Rattle.format.specs.Frames.{behind, verdict}
+use Rattle.format.specs.Cursor.{itemsFrom}
 use Rattle.format.specs.Questions.{Event, Opened, endSize, events, pickNth, present, eventAt}
 use Rattle.format.proofs.SoundLaws.{no-starts}
 use Rattle.format.proofs.EventQuestions.{event-absent, event-of, event-refused}
-use Rattle.questions.specs.Standing.{itemsFrom, Standing, Stands, openedAt, EventAt, eventIn}
-use Rattle.questions.proofs.Reading.{Accepted, read-refused, items-stand}
+use Rattle.format.proofs.CursorLaws.{on-sound}
+use Rattle.questions.specs.Sought.{Amid, openedAt, EventAt, eventIn}
+use Rattle.questions.proofs.Reading.{Accepted, items-first}
 
 -- what was read at a Start event is the event
 pub event-read : (s : List ℕ) (at k w ts n z : ℕ) → w ≡ wordAt s at → k ≡ w % 16 → ts ≡ timeAt s (at + 1) → n ≡ longAt s (at + 4) → z ≡ first (gather endSize (itemsFrom s (at + 6)))
-    → record { kind = k; timestamp = ts; number = n; size = z; index = at + 3 } ≡ openedAt s at .event
+    → record { kind = k; timestamp = ts; number = n; size = z; index = at } ≡ openedAt s at .event
 event-read s at k w ts n z a b c d e =
     let f : k ≡ wordAt s at % 16 = b ∙ ap (λ (w : ℕ). w % 16) a in
-    λ i. record { kind = f i; timestamp = c i; number = d i; size = e i; index = at + 3 }
+    λ i. record { kind = f i; timestamp = c i; number = d i; size = e i; index = at }
 
 pub monitor-other : (k : Kind) → k ≡ monitorKind → k ≡ dataKind → ⊥
 monitor-other k e f = let z : _≡_ {A = ℕ} 0 1 = cc in omega arith
@@ -31,25 +32,24 @@ pub command-other : (k : Kind) → k ≡ commandKind → k ≡ dataKind → ⊥
 command-other k e f = let z : _≡_ {A = ℕ} 0 1 = cc in omega arith
 
 -- no other kind of frame has events
-pub no-events : (s : List ℕ) (kind : Kind) (card e : ℕ) → (kind ≡ dataKind → ⊥) → Standing s kind card 0 → pickNth e (events 3 (itemsFrom s 0)) ≡ none
-no-events s kind card e d g =
-    let n = no-starts kind card d (g .earlier) (itemsFrom s 0) (g .sound) in
-    go (pickNth e (events 3 (itemsFrom s 0))) (event-absent (itemsFrom s 0) e .1 (omega arith))
+pub no-events : (s : List ℕ) (kind : Kind) (e : ℕ) → (kind ≡ dataKind → ⊥) → Amid s kind 3 → pickNth e (events 3 (itemsFrom s 3)) ≡ none
+no-events s kind e d a =
+    let g = a .on in
+    let n = no-starts (g .frame .kind) (g .frame .card) (λ k. d (sym (a .kind-is) ∙ k)) (behind [] (g .before)) (itemsFrom s 3) (on-sound s 3 g) in
+    go (pickNth e (events 3 (itemsFrom s 3))) (event-absent (itemsFrom s 3) e .1 (omega arith))
   where
     go : (o : Option Opened) → andThen (present o) (λ o. accepted (o .event)) ≡ refused 13 0 → o ≡ none
     go none h = refl
     go (some o) h = let z : _≡_ {A = ℕ} 0 1 = cc in absurd (omega arith)
 
-pub event-found : (s : List ℕ) (card e q : ℕ) (v : Event) → EventAt s card e q → v ≡ openedAt s q .event → accepted v ≡ eventIn (itemsFrom s 0) e
-event-found s card e q v h i = ap accepted i ∙ sym (ap (λ (o : Option Opened). andThen (present o) (λ o. accepted (o .event))) (h .picked))
+pub event-found : (s : List ℕ) (e q : ℕ) (v : Event) → EventAt s e q → v ≡ openedAt s q .event → accepted v ≡ eventIn (itemsFrom s 3) e
+event-found s e q v h i = ap accepted i ∙ sym (ap (λ (o : Option Opened). andThen (present o) (λ o. accepted (o .event))) (h .picked))
 
-pub event-missing : (s : List ℕ) (e : ℕ) → pickNth e (events 3 (itemsFrom s 0)) ≡ none → refused 13 0 ≡ eventIn (itemsFrom s 0) e
+pub event-missing : (s : List ℕ) (e : ℕ) → pickNth e (events 3 (itemsFrom s 3)) ≡ none → refused 13 0 ≡ eventIn (itemsFrom s 3) e
 event-missing s e h = sym (ap (λ (o : Option Opened). andThen (present o) (λ o. accepted (o .event))) h)
 
 pub event-stopped : (s : List ℕ) (e n p : ℕ) → verdict s ≡ refused n p → refused n p ≡ eventAt s e
 event-stopped s e n p v = sym (event-refused s n p v e)
 
-pub event-answered : (s : List ℕ) (bs : Bytes s) (kind : Kind) (card e : ℕ) (o : Outcome Event) (a : Accepted s kind card)
-    → o ≡ eventIn (itemsFrom (take (length s - 2 - 6) (drop 6 s)) 0) e → o ≡ eventAt s e
-event-answered s bs kind card e o a h =
-    h ∙ ap (λ (xs : List Item). eventIn xs e) (items-stand s bs kind card a .1) ∙ sym (event-of s (a .frame) (a .judged) e)
+pub event-answered : (s : List ℕ) (bs : Bytes s) (kind : Kind) (e : ℕ) (o : Outcome Event) (a : Accepted s kind) → o ≡ eventIn (itemsFrom s 3) e → o ≡ eventAt s e
+event-answered s bs kind e o a h = h ∙ ap (λ (xs : List Item). eventIn xs e) (items-first s bs kind a) ∙ sym (event-of s (a .frame) (a .judged) e)

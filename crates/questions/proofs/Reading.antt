@@ -1,40 +1,35 @@
--- From the reader's verdict to the items: an accepted frame's bytes between its first three words and its last are the bytes of its items.
+-- From the reader's verdict to the items: in an accepted frame the cursor stands before its first item at word 3.
 -- Assumes nothing.
-use Prim.Native.Nat.{ℕ, suc, _+_, _-_, _*_, _≤_}
-use mathlib.Core.Path.{_≡_, refl, sym, ap, ap₂, subst, _∙_}
-use mathlib.Core.List.{List, [], _∷_, _++_}
+use Prim.Native.Nat.{ℕ}
+use mathlib.Core.Path.{_≡_, refl, sym, ap, _∙_}
+use mathlib.Core.List.{List}
 use native.Mathlib.Omega.{arith}
-use lib.ListN.{length, take, drop}
-use lib.Seq.{take-at}
-use Rattle.format.specs.Words.{Bytes, bytes}
+use Rattle.format.specs.Words.{Bytes}
 use Rattle.format.specs.Answers.{Outcome, accepted, refused, andThen}
-use Rattle.format.specs.Items.{Item}
 use Rattle.format.specs.Rules.{Kind}
-use Rattle.format.specs.Frames.{Frame, Sound, allWords, frameWords, encode, Legal, verdict}
+use Rattle.format.specs.Frames.{Frame, verdict}
 use Rattle.format.specs.Steps.{Overview, overview, readOf}
-use Rattle.format.proofs.WordLaws.{bytes-append, length-bytes}
-use Rattle.format.proofs.Acceptance.{exactly, length-s, verdict-of}
-use Rattle.questions.specs.Standing.{itemsFrom, Standing}
-use Rattle.questions.proofs.Scanning.{standing-start}
+use Rattle.format.specs.Cursor.{itemsFrom}
+use Rattle.format.proofs.CursorLaws.{from-first, on-start}
+use Rattle.questions.specs.Sought.{Amid}
 
--- an accepted frame of the kind and card
-pub record Accepted (s : List ℕ) (kind : Kind) (card : ℕ) : Type 0 where
+-- an accepted frame of the kind
+pub record Accepted (s : List ℕ) (kind : Kind) : Type 0 where
   pub frame : Frame
   pub judged : verdict s ≡ accepted frame
   pub kind-is : kind ≡ frame .kind
-  pub card-is : card ≡ frame .card
 
-pub read-accepted : (s : List ℕ) (o : Overview) → accepted o ≡ readOf s → Accepted s (o .kind) (o .card)
+pub read-accepted : (s : List ℕ) (o : Overview) → accepted o ≡ readOf s → Accepted s (o .kind)
 unfolding readOf
 read-accepted s o e = go (verdict s) refl e
   where
     inner : (a b : Overview) → accepted a ≡ accepted b → a ≡ b
     inner a b f = cc
 
-    go : (v : Outcome Frame) → verdict s ≡ v → accepted o ≡ andThen v (λ f. accepted (overview f)) → Accepted s (o .kind) (o .card)
+    go : (v : Outcome Frame) → verdict s ≡ v → accepted o ≡ andThen v (λ f. accepted (overview f)) → Accepted s (o .kind)
     go (accepted f) v h =
         let q = inner o (overview f) h in
-        record { frame = f; judged = v; kind-is = ap (λ (a : Overview). a .kind) q; card-is = ap (λ (a : Overview). a .card) q }
+        record { frame = f; judged = v; kind-is = ap (λ (a : Overview). a .kind) q }
     go (refused n p) v h = let z : _≡_ {A = ℕ} 0 1 = cc in absurd (omega arith)
 
 pub read-refused : (s : List ℕ) (n p : ℕ) → refused n p ≡ readOf s → verdict s ≡ refused n p
@@ -48,28 +43,15 @@ read-refused s n p e = go (verdict s) refl e
         inner : (n p m q : ℕ) → _≡_ {A = Outcome Overview} (refused n p) (refused m q) → _≡_ {A = Outcome Frame} (refused n p) (refused m q)
         inner n p m q f = cc
 
-pub long-enough : (s : List ℕ) (kind : Kind) (card : ℕ) → Accepted s kind card → 8 ≤ length s
-long-enough s kind card a = verdict-of s (a .frame) (a .judged) .head .least
+module _ (s : List ℕ) (bs : Bytes s) (kind : Kind) (a : Accepted s kind) where
+  -- the cursor stands before its first item
+  pub amid-first : Amid s kind 3
+  amid-first =
+      let g = on-start s bs (a .frame) (a .judged) in
+      record { on = g; kind-is = ap (λ (f : Frame). f .kind) (one-frame _ _ (sym (g .accepted) ∙ a .judged)) ∙ sym (a .kind-is) }
+    where
+      one-frame : (f h : Frame) → accepted f ≡ accepted h → f ≡ h
+      one-frame f h e = cc
 
--- the first three words and the last apart, an encoded frame is its items
-part-of : (f : Frame) → take (2 * length (allWords (f .items))) (drop 6 (encode f)) ≡ bytes (allWords (f .items))
-unfolding encode frameWords bytes
-part-of f =
-    ap (take (2 * length (allWords (f .items)))) (bytes-append (allWords (f .items)) (0x000F ∷ []))
-    ∙ take-at (bytes (allWords (f .items))) _ _ (length-bytes (allWords (f .items)))
-
-module _ (s : List ℕ) (bs : Bytes s) (kind : Kind) (card : ℕ) (a : Accepted s kind card) where
-  legal : Legal (a .frame) × (s ≡ encode (a .frame))
-  legal = exactly s bs (a .frame) .0 (a .judged)
-
-  items-part : take (length s - 2 - 6) (drop 6 s) ≡ bytes (allWords (a .frame .items))
-  items-part =
-      let n : length s ≡ 2 * (4 + length (allWords (a .frame .items))) = ap length (legal .1) ∙ length-s (a .frame) (legal .0) in
-      let m : length s - 2 - 6 ≡ 2 * length (allWords (a .frame .items)) = omega arith in
-      ap₂ (λ (k : ℕ) (l : List ℕ). take k (drop 6 l)) m (legal .1) ∙ part-of (a .frame)
-
-  pub items-stand : Standing (take (length s - 2 - 6) (drop 6 s)) kind card 0 × (itemsFrom (take (length s - 2 - 6) (drop 6 s)) 0 ≡ a .frame .items)
-  items-stand =
-      standing-start (take (length s - 2 - 6) (drop 6 s)) kind card (a .frame .items) items-part
-      (subst (λ (k : Kind). Sound k card [] (a .frame .items)) (sym (a .kind-is))
-      (subst (λ (c : ℕ). Sound (a .frame .kind) c [] (a .frame .items)) (sym (a .card-is)) (legal .0 .sound)))
+  pub items-first : itemsFrom s 3 ≡ a .frame .items
+  items-first = from-first s bs (a .frame) (a .judged)

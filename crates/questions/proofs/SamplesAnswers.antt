@@ -1,49 +1,41 @@
 -- The samples question, by its ways out.
 -- Assumes nothing.
-use Prim.Native.Nat.{ℕ, suc, _+_, _-_, _<_, _≤_}
-use mathlib.Core.Path.{_≡_, refl, sym, ap, subst, _∙_}
+use Prim.Native.Nat.{ℕ, suc, _+_, _<_, _≤_}
+use mathlib.Core.Path.{_≡_, refl, sym, ap, _∙_}
 use mathlib.Core.List.{List, [], _∷_}
-use mathlib.Core.Bool.{false}
-use mathlib.Core.Option.{Option, none, some}
-use native.Mathlib.Omega.{arith}
-use lib.ListN.{length, take, drop, set}
+use mathlib.Core.Option.{Option, none}
+use lib.ListN.{length, set}
 use Rattle.format.specs.Words.{Bytes}
 use Rattle.format.specs.Answers.{Outcome, accepted, refused, andThen, Done}
 use Rattle.format.specs.Book.{endEvent}
-use Rattle.format.specs.Items.{Item, Channel, Histogram, HitCount, Sample, Bin, LastCell, TimeBin, Text, StartEvent, EndEvent, inRange}
-use Rattle.format.specs.Rules.{Kind, dataKind}
+use Rattle.format.specs.Items.{Item, Channel, Histogram, HitCount, Sample, Bin, LastCell, TimeBin, Text, StartEvent, EndEvent}
+use Rattle.format.specs.Rules.{Kind}
 use Rattle.format.specs.Frames.{verdict}
 use Rattle.format.specs.Questions.{Opened, events, pickNth, present, until, past, isChannel, done, cleared, fillSamples, channelIn, samplesAt, samplesLeft, Sampled}
 use Rattle.format.proofs.FillQuestions.{samples-of, samples-room, samples-refused}
-use Rattle.questions.specs.Standing.{itemsFrom, Standing, openedAt, EventAt, EventSought, Headed, ChannelAt, ChannelFound, ChannelSought, SamplesSought, Filling}
+use Rattle.format.specs.Cursor.{itemsFrom}
+use Rattle.questions.specs.Sought.{EventAt, ChannelFound, ChannelSought, SamplesSought, Filling}
 use Rattle.questions.specs.declared.answers.Place.{Place}
 use Rattle.questions.specs.declared.answers.Place.the-variants as place
-use Rattle.questions.proofs.Reading.{Accepted, items-stand}
-use Rattle.questions.proofs.PastLaws.{none-until, wrong-channel}
+use Rattle.questions.proofs.Reading.{Accepted, items-first}
 
 -- ---- no such channel
 
 abbrev behind-header : (chip c : ℕ) → Option Opened → Outcome (List Item)
 behind-header chip c o = andThen (present o) (λ o. present (past (isChannel chip c) (until endEvent (o .items))))
 
-pub no-event : (s : List ℕ) (e chip c : ℕ) → pickNth e (events 3 (itemsFrom s 0)) ≡ none → channelIn e chip c (itemsFrom s 0) ≡ refused 13 0
+pub no-event : (s : List ℕ) (e chip c : ℕ) → pickNth e (events 3 (itemsFrom s 3)) ≡ none → channelIn e chip c (itemsFrom s 3) ≡ refused 13 0
 unfolding channelIn
 no-event s e chip c h = ap (behind-header chip c) h
 
-in-event : (s : List ℕ) (card e chip c q : ℕ) → EventAt s card e q → channelIn e chip c (itemsFrom s 0) ≡ present (past (isChannel chip c) (until endEvent (itemsFrom s (q + 6))))
+in-event : (s : List ℕ) (e chip c q : ℕ) → EventAt s e q → channelIn e chip c (itemsFrom s 3) ≡ present (past (isChannel chip c) (until endEvent (itemsFrom s (q + 6))))
 unfolding channelIn
-in-event s card e chip c q h = ap (behind-header chip c) (h .picked)
-
-pub invalid : (s : List ℕ) (card e chip c q : ℕ) → EventAt s card e q → inRange card (Channel card chip c) ≡ false → channelIn e chip c (itemsFrom s 0) ≡ refused 13 0
-invalid s card e chip c q h n =
-    let g = h .standing in
-    in-event s card e chip c q h
-    ∙ ap present (none-until (isChannel chip c) dataKind card (wrong-channel card chip c n dataKind) (g .earlier) (itemsFrom s (q + 6)) (g .sound))
+in-event s e chip c q h = ap (behind-header chip c) (h .picked)
 
 -- what the search in the event finds
-pub sought : (s : List ℕ) (card e chip c q : ℕ) → EventAt s card e q → (r : Place) → ChannelSought s (q + 6) chip c r → SamplesSought s e chip c r
-sought s card e chip c q h (place.At p) f = record { found = in-event s card e chip c q h ∙ ap present (f .passed); headed = f .headed }
-sought s card e chip c q h place.Nothing f = in-event s card e chip c q h ∙ ap present f
+pub sought : (s : List ℕ) (e chip c q : ℕ) → EventAt s e q → (r : Place) → ChannelSought s (q + 6) chip c r → SamplesSought s e chip c r
+sought s e chip c q h (place.At p) f = record { found = in-event s e chip c q h ∙ ap present (f .passed); headed = f .headed }
+sought s e chip c q h place.Nothing f = in-event s e chip c q h ∙ ap present f
 
 -- ---- among the items
 
@@ -62,12 +54,12 @@ fill-until t (Text s ∷ xs) l = refl
 fill-until t (StartEvent k ts n ∷ xs) l = refl
 fill-until t (EndEvent n ∷ xs) l = refl
 
-pub samples-missing : (s : List ℕ) (e chip c : ℕ) (l : List ℕ) → channelIn e chip c (itemsFrom s 0) ≡ refused 13 0
-    → Filling (channelIn e chip c (itemsFrom s 0)) samplesLeft l (refused 13 0) l
+pub samples-missing : (s : List ℕ) (e chip c : ℕ) (l : List ℕ) → channelIn e chip c (itemsFrom s 3) ≡ refused 13 0
+    → Filling (channelIn e chip c (itemsFrom s 3)) samplesLeft l (refused 13 0) l
 samples-missing s e chip c l h = record { answered = rw h; filled = rw h }
 
 pub samples-put : (s : List ℕ) (e chip c q : ℕ) (l l₁ l₂ : List ℕ) → ChannelFound s e chip c q → l₁ ≡ cleared 512 0xFFFF l → l₂ ≡ fillSamples 0 (itemsFrom s q) l₁
-    → Filling (channelIn e chip c (itemsFrom s 0)) samplesLeft l (accepted tt) l₂
+    → Filling (channelIn e chip c (itemsFrom s 3)) samplesLeft l (accepted tt) l₂
 samples-put s e chip c q l l₁ l₂ h i f = record {
   answered = rw (h .found);
   filled =
@@ -82,15 +74,15 @@ samples-stopped s e chip c l n p v =
     let h = samples-refused s n p v e chip c (length l) in
     record { answered = rw h; filled = rw h }
 
-module _ (s : List ℕ) (kind : Kind) (card e chip c : ℕ) (l : List ℕ) (a : Accepted s kind card) where
+module _ (s : List ℕ) (kind : Kind) (e chip c : ℕ) (l : List ℕ) (a : Accepted s kind) where
   pub samples-short : length l < 512 → Sampled s e chip c l (refused 12 0) l
   samples-short h =
       let i = samples-room s (a .frame) (a .judged) e chip c (length l) h in
       record { answered = rw i; filled = rw i }
 
   pub samples-answered : Bytes s → 512 ≤ length l → (o : Done) (l′ : List ℕ)
-      → Filling (channelIn e chip c (itemsFrom (take (length s - 2 - 6) (drop 6 s)) 0)) samplesLeft l o l′ → Sampled s e chip c l o l′
+      → Filling (channelIn e chip c (itemsFrom s 3)) samplesLeft l o l′ → Sampled s e chip c l o l′
   samples-answered bs h o l′ r =
-      let i : channelIn e chip c (itemsFrom (take (length s - 2 - 6) (drop 6 s)) 0) ≡ samplesAt s e chip c (length l) =
-      ap (channelIn e chip c) (items-stand s bs kind card a .1) ∙ sym (samples-of s (a .frame) (a .judged) e chip c (length l) h) in
+      let i : channelIn e chip c (itemsFrom s 3) ≡ samplesAt s e chip c (length l) =
+      ap (channelIn e chip c) (items-first s bs kind a) ∙ sym (samples-of s (a .frame) (a .judged) e chip c (length l) h) in
       record { answered = r .answered ∙ ap done i; filled = r .filled ∙ ap (λ (o : Outcome (List Item)). samplesLeft o l) i }

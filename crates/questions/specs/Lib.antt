@@ -1,3 +1,3 @@
 pub mod Views
-pub mod Standing
+pub mod Sought
 pub mod Promises

@@ -4,7 +4,8 @@ ghost use lib.ListN.{length};
 ghost use Rattle.format.specs.Questions.{present, past, isHistogram, countsLeft};
 ghost use Rattle.frame.specs.Views.{viewKind};
 ghost use Rattle.questions.specs.Views.{viewFilled};
-ghost use Rattle.questions.specs.Standing.{itemsFrom, Standing, HistogramSought, Filling};
+ghost use Rattle.format.specs.Cursor.{itemsFrom};
+ghost use Rattle.questions.specs.Sought.{Amid, HistogramSought, Filling};
 ghost use Rattle.questions.specs.Promises.{CountsAnswered};
 use crate::answers::Filled;
 use crate::answers::Place;
@@ -12,39 +13,29 @@ use crate::fill::COUNTS;
 use crate::fill::clear_counts;
 use crate::fill::fill_counts;
 use crate::scan::seek_histogram;
-use book::items::Histogram;
 use book::refusal::Refusal;
 use frame::reading::Reading;
 use frame::reading::read;
 use frame::state::Kind;
 
-// Where the bins of a histogram begin: only a monitor frame has histograms, and none whose header is not valid.
-fn find_histogram(s: &[u8], kind: Kind, card: u16, chip: u16, channel: u16) -> Place
-    ensures { λ r. ⌜ (Standing (now (s .entry)) (viewKind kind) card 0 → HistogramSought (now (s .entry)) card chip channel r) ⌝ }
+// Where the bins of a histogram begin: only a monitor frame has histograms.
+fn find_histogram(s: &[u8], kind: Kind, chip: u16, channel: u16) -> Place
+    requires { ⌜ Amid (now s) (viewKind kind) 3 ⌝ }
+    ensures { λ r. ⌜ HistogramSought (now (s .entry)) chip channel r ⌝ }
 {
     match kind {
-        Kind::Monitor => {
-            let header = Histogram {
-                card,
-                chip,
-                channel,
-            };
-            if header.valid(card) {
-                return seek_histogram(s, header.word());
-            }
-            Place::Nothing
-        }
+        Kind::Monitor => seek_histogram(s, chip, channel),
         Kind::Data => Place::Nothing,
         Kind::Command => Place::Nothing,
     }
 }
 
 // The counts of a histogram among a frame's items.
-fn counts_in(s: &[u8], kind: Kind, card: u16, chip: u16, channel: u16, out: &mut [u32]) -> Filled
-    requires { ⌜ Standing (now s) (viewKind kind) card 0 × (4096 ≤ length (now out)) ⌝ }
-    ensures { λ r. ⌜ Filling (present (past (isHistogram chip channel) (itemsFrom (now (s .entry)) 0))) countsLeft (now (out .entry)) (viewFilled r) (now (out .exit)) ⌝ }
+fn counts_in(s: &[u8], kind: Kind, chip: u16, channel: u16, out: &mut [u32]) -> Filled
+    requires { ⌜ Amid (now s) (viewKind kind) 3 × (4096 ≤ length (now out)) ⌝ }
+    ensures { λ r. ⌜ Filling (present (past (isHistogram chip channel) (itemsFrom (now (s .entry)) 3))) countsLeft (now (out .entry)) (viewFilled r) (now (out .exit)) ⌝ }
 {
-    let place = find_histogram(s, kind, card, chip, channel);
+    let place = find_histogram(s, kind, chip, channel);
     match place {
         Place::At(at) => {
             clear_counts(out);
@@ -74,8 +65,7 @@ pub fn counts(s: &[u8], chip: u16, channel: u16, out: &mut [u32]) -> Filled
                 });
             }
             let kind = frame.kind;
-            let end = s.len() - 2;
-            counts_in(&s[6..end], kind, frame.card, chip, channel, out)
+            counts_in(s, kind, chip, channel, out)
         }
     }
 }

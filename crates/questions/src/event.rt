@@ -1,11 +1,12 @@
 // The event question.
 ghost use mathlib.Core.Path.{_≡_};
-ghost use Prim.Native.Nat.{ℕ, _+_, _<_};
+ghost use Prim.Native.Nat.{_+_, _<_};
 ghost use lib.ListN.{length};
 ghost use Rattle.format.specs.Rules.{dataKind};
 ghost use Rattle.frame.specs.Views.{viewKind};
 ghost use Rattle.questions.specs.Views.{eventOf, viewEvent};
-ghost use Rattle.questions.specs.Standing.{itemsFrom, Standing, Stands, openedAt, EventSought, eventIn};
+ghost use Rattle.format.specs.Cursor.{itemsFrom};
+ghost use Rattle.questions.specs.Sought.{Amid, openedAt, EventSought, eventIn};
 ghost use Rattle.questions.specs.Promises.{EventAnswered};
 use crate::answers::Event;
 use crate::answers::EventFound;
@@ -21,12 +22,10 @@ use frame::reading::Reading;
 use frame::reading::read;
 use frame::state::Kind;
 
-// The index of a frame's first item.
-const FIRST: usize = 3;
-
 // Where event e begins: only a data frame has events.
 pub(crate) fn find_event(s: &[u8], kind: Kind, e: usize) -> Place
-    ensures { λ r. ⌜ ((card : ℕ) → Standing (now (s .entry)) (viewKind kind) card 0 → EventSought (now (s .entry)) card e r) ⌝ }
+    requires { ⌜ Amid (now s) (viewKind kind) 3 ⌝ }
+    ensures { λ r. ⌜ EventSought (now (s .entry)) e r ⌝ }
 {
     match kind {
         Kind::Data => seek_event(s, e),
@@ -37,8 +36,8 @@ pub(crate) fn find_event(s: &[u8], kind: Kind, e: usize) -> Place
 
 // The event whose Start event stands at the word.
 fn event_at(s: &[u8], at: usize) -> Event
-    requires { ⌜ at < length (now s) ⌝ }
-    ensures { λ r. ⌜ ((card : ℕ) → Standing (now (s .entry)) dataKind card (at + 6) → eventOf r ≡ openedAt (now (s .entry)) at .event) ⌝ }
+    requires { ⌜ (at < length (now s)) × Amid (now s) dataKind (at + 6) ⌝ }
+    ensures { λ r. ⌜ eventOf r ≡ openedAt (now (s .entry)) at .event ⌝ }
 {
     let w = word(s, at);
     let timestamp = time(s, at + 1);
@@ -49,14 +48,14 @@ fn event_at(s: &[u8], at: usize) -> Event
         timestamp,
         number,
         size,
-        index: at + FIRST,
+        index: at,
     }
 }
 
 // Event e of a frame's items.
 fn event_in(s: &[u8], kind: Kind, e: usize) -> EventFound
-    requires { ⌜ Stands (now s) (viewKind kind) 0 ⌝ }
-    ensures { λ r. ⌜ viewEvent r ≡ eventIn (itemsFrom (now (s .entry)) 0) e ⌝ }
+    requires { ⌜ Amid (now s) (viewKind kind) 3 ⌝ }
+    ensures { λ r. ⌜ viewEvent r ≡ eventIn (itemsFrom (now (s .entry)) 3) e ⌝ }
 {
     let place = find_event(s, kind, e);
     match place {
@@ -78,8 +77,7 @@ pub fn event(s: &[u8], e: usize) -> EventFound
         Reading::Refused(r) => EventFound::Refused(r),
         Reading::Accepted(frame) => {
             let kind = frame.kind;
-            let end = s.len() - 2;
-            event_in(&s[6..end], kind, e)
+            event_in(s, kind, e)
         }
     }
 }

@@ -2,9 +2,9 @@
 ghost use mathlib.Core.Path.{_≡_};
 ghost use Prim.Native.Nat.{_≤_};
 ghost use lib.ListN.{length};
-ghost use Rattle.format.specs.Rules.{monitorKind};
 ghost use Rattle.format.specs.Questions.{cleared, fillSamples, fillCounts};
-ghost use Rattle.questions.specs.Standing.{itemsFrom, Stands, Headed};
+ghost use Rattle.format.specs.Cursor.{itemsFrom, On};
+ghost use Rattle.questions.specs.Sought.{Headed};
 use crate::scan::long_in;
 use crate::scan::word_in;
 use book::class::Class;
@@ -33,16 +33,16 @@ pub(crate) fn clear_counts(out: &mut [u32])
     }
 }
 
-// The counts of the Bins from here on, up to the next header.
+// The counts of the Bins from here on, up to an item that is none.
 pub(crate) fn fill_counts(s: &[u8], from: usize, out: &mut [u32])
-    requires { ⌜ Stands (now s) monitorKind from × (4096 ≤ length (now out)) ⌝ }
+    requires { ⌜ On (now s) from × (4096 ≤ length (now out)) ⌝ }
     ensures { λ _. ⌜ now (out .exit) ≡ fillCounts (itemsFrom (now (s .entry)) from) (now (out .entry)) ⌝ }
 {
-    let last = s.len() / 2;
+    let last = s.len() / 2 - 1;
     let mut at = from;
     while at < last {
         let w = word_in(s, at);
-        if Class::HISTOGRAM <= w {
+        if w >> 12 != Class::BIN >> 12 {
             return;
         }
         let bin = Bin::of_word(w) as usize;
@@ -68,18 +68,18 @@ pub(crate) fn fill_samples(s: &[u8], from: usize, out: &mut [u16])
     requires { ⌜ Headed (now s) from × (512 ≤ length (now out)) ⌝ }
     ensures { λ _. ⌜ now (out .exit) ≡ fillSamples 0 (itemsFrom (now (s .entry)) from) (now (out .entry)) ⌝ }
 {
-    let last = s.len() / 2;
+    let last = s.len() / 2 - 1;
     let mut at = from;
     let mut time: usize = 0;
     while at < last {
         let w = word_in(s, at);
-        if w >> 12 == 3 {
+        if w >> 12 == Class::SAMPLE >> 12 {
             out[time] = Sample::of_word(w).value;
             time += 1;
             at += 1;
             continue;
         }
-        if w >> 9 != 7 {
+        if w >> 9 != Class::TIME_BIN >> 9 {
             return;
         }
         time = TimeBin::of_word(w).time as usize;

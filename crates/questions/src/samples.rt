@@ -4,7 +4,8 @@ ghost use lib.ListN.{length};
 ghost use Rattle.format.specs.Questions.{channelIn, samplesLeft};
 ghost use Rattle.frame.specs.Views.{viewKind};
 ghost use Rattle.questions.specs.Views.{viewFilled};
-ghost use Rattle.questions.specs.Standing.{itemsFrom, Standing, SamplesSought, Filling};
+ghost use Rattle.format.specs.Cursor.{itemsFrom};
+ghost use Rattle.questions.specs.Sought.{Amid, SamplesSought, Filling};
 ghost use Rattle.questions.specs.Promises.{SamplesAnswered};
 use crate::answers::Filled;
 use crate::answers::Place;
@@ -13,48 +14,29 @@ use crate::fill::SAMPLES;
 use crate::fill::clear_samples;
 use crate::fill::fill_samples;
 use crate::scan::seek_channel;
-use book::items::Channel;
 use book::refusal::Refusal;
 use frame::reading::Reading;
 use frame::reading::read;
 use frame::state::Kind;
 
-// Where the samples of a channel begin: behind its header, in event e. No item has a header that is not valid.
-fn find_channel(s: &[u8], kind: Kind, card: u16, e: usize, chip: u16, channel: u16) -> Place
-    requires { ⌜ Standing (now s) (viewKind kind) card 0 ⌝ }
+// Where the samples of a channel begin: behind its header, in event e.
+fn find_channel(s: &[u8], kind: Kind, e: usize, chip: u16, channel: u16) -> Place
+    requires { ⌜ Amid (now s) (viewKind kind) 3 ⌝ }
     ensures { λ r. ⌜ SamplesSought (now (s .entry)) e chip channel r ⌝ }
 {
     let place = find_event(s, kind, e);
     match place {
-        Place::At(at) => {
-            let header = Channel {
-                card,
-                chip,
-                channel,
-            };
-            if header.valid(card) {
-                return seek_channel(s, at + 6, header.word());
-            }
-            Place::Nothing
-        }
+        Place::At(at) => seek_channel(s, at + 6, chip, channel),
         Place::Nothing => Place::Nothing,
     }
 }
 
 // The samples of a channel in an event, of a frame's items.
-fn samples_in(
-    s: &[u8],
-    kind: Kind,
-    card: u16,
-    e: usize,
-    chip: u16,
-    channel: u16,
-    out: &mut [u16],
-) -> Filled
-    requires { ⌜ Standing (now s) (viewKind kind) card 0 × (512 ≤ length (now out)) ⌝ }
-    ensures { λ r. ⌜ Filling (channelIn e chip channel (itemsFrom (now (s .entry)) 0)) samplesLeft (now (out .entry)) (viewFilled r) (now (out .exit)) ⌝ }
+fn samples_in(s: &[u8], kind: Kind, e: usize, chip: u16, channel: u16, out: &mut [u16]) -> Filled
+    requires { ⌜ Amid (now s) (viewKind kind) 3 × (512 ≤ length (now out)) ⌝ }
+    ensures { λ r. ⌜ Filling (channelIn e chip channel (itemsFrom (now (s .entry)) 3)) samplesLeft (now (out .entry)) (viewFilled r) (now (out .exit)) ⌝ }
 {
-    let place = find_channel(s, kind, card, e, chip, channel);
+    let place = find_channel(s, kind, e, chip, channel);
     match place {
         Place::At(at) => {
             clear_samples(out);
@@ -85,8 +67,7 @@ pub fn samples(s: &[u8], e: usize, chip: u16, channel: u16, out: &mut [u16]) -> 
                 });
             }
             let kind = frame.kind;
-            let end = s.len() - 2;
-            samples_in(&s[6..end], kind, frame.card, e, chip, channel, out)
+            samples_in(s, kind, e, chip, channel, out)
         }
     }
 }

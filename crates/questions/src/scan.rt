@@ -1,22 +1,25 @@
-// Scans over the items of an accepted frame, given as the bytes between its first three words and its last: words are counted from the first
-// item. In a data frame only Start and End events have words after them, and only their words are below 0x0100; in a monitor frame only Bins
-// have, and only their words are below 0x8000.
+// Scans over the items of an accepted frame, whose words are counted from the frame's first. A test of a word tells what most items are at once;
+// whatever it does not tell goes by the cursor, item by item.
 ghost use mathlib.Core.Path.{_≡_};
-ghost use Prim.Native.Nat.{ℕ, _+_, _*_, _≤_, _<_};
+ghost use Prim.Native.Nat.{_+_, _*_, _<_};
 ghost use lib.ListN.{length};
 ghost use Rattle.format.specs.Words.{wordAt, longAt};
 ghost use Rattle.format.specs.Rules.{dataKind, monitorKind, first, gather};
-ghost use Rattle.format.specs.Questions.{endSize};
-ghost use Rattle.questions.specs.Standing.{itemsFrom, Standing, Header, EventSought, ChannelSought, HistogramSought};
+ghost use Rattle.format.specs.Cursor.{itemsFrom, unshown};
+ghost use Rattle.format.specs.Questions.{endSize, isChannel, isHistogram};
+ghost use Rattle.book.specs.Views.{viewItem};
+ghost use Rattle.questions.specs.Sought.{Amid, startsEvent, endsEvent, EventSought, ChannelSought, HistogramSought};
 use crate::answers::Place;
 use book::class::Class;
+use book::items::Channel;
+use book::items::Histogram;
+use book::items::Item;
 use book::words::long;
+use frame::cursor::Standing;
+use frame::cursor::item_at;
 
-// A data frame's words from here on begin items of one word.
-const ONE_WORD: u16 = 0x0100;
-
-// The first word that begins a Start event; those of End events are below.
-const START: u16 = 0x00F0;
+// The index of a frame's first item.
+pub(crate) const FIRST: usize = 3;
 
 fn wide(x: u8) -> u16
     ensures { λ r. ⌜ (r ≡ x) × (r < 256) ⌝ }
@@ -44,93 +47,217 @@ pub(crate) fn long_in(s: &[u8], i: usize) -> u32
     low + 65536 * high
 }
 
-// Where event e begins, of a data frame's items.
-pub(crate) fn seek_event(s: &[u8], e: usize) -> Place
-    ensures { λ r. ⌜ ((card : ℕ) → Standing (now (s .entry)) dataKind card 0 → EventSought (now (s .entry)) card e r) ⌝ }
+fn is_start(item: Item) -> bool
+    ensures { λ r. ⌜ r ≡ startsEvent (viewItem item) ⌝ }
 {
-    let last = s.len() / 2;
-    let mut at: usize = 0;
+    match item {
+        Item::Channel(_) => false,
+        Item::Histogram(_) => false,
+        Item::HitCount(_) => false,
+        Item::Sample(_) => false,
+        Item::Bin(_) => false,
+        Item::LastCell(_) => false,
+        Item::TimeBin(_) => false,
+        Item::Text(_) => false,
+        Item::StartEvent(_) => true,
+        Item::EndEvent(_) => false,
+    }
+}
+
+fn is_end(item: Item) -> bool
+    ensures { λ r. ⌜ r ≡ endsEvent (viewItem item) ⌝ }
+{
+    match item {
+        Item::Channel(_) => false,
+        Item::Histogram(_) => false,
+        Item::HitCount(_) => false,
+        Item::Sample(_) => false,
+        Item::Bin(_) => false,
+        Item::LastCell(_) => false,
+        Item::TimeBin(_) => false,
+        Item::Text(_) => false,
+        Item::StartEvent(_) => false,
+        Item::EndEvent(_) => true,
+    }
+}
+
+// A Channel header of the chip and the channel.
+fn is_channel(item: Item, chip: u16, channel: u16) -> bool
+    ensures { λ r. ⌜ r ≡ isChannel chip channel (unshown (viewItem item)) ⌝ }
+{
+    match item {
+        Item::Channel(x) => (x.chip == chip) & (x.channel == channel),
+        Item::Histogram(_) => false,
+        Item::HitCount(_) => false,
+        Item::Sample(_) => false,
+        Item::Bin(_) => false,
+        Item::LastCell(_) => false,
+        Item::TimeBin(_) => false,
+        Item::Text(_) => false,
+        Item::StartEvent(_) => false,
+        Item::EndEvent(_) => false,
+    }
+}
+
+// A Histogram header of the chip and the channel.
+fn is_histogram(item: Item, chip: u16, channel: u16) -> bool
+    ensures { λ r. ⌜ r ≡ isHistogram chip channel (unshown (viewItem item)) ⌝ }
+{
+    match item {
+        Item::Channel(_) => false,
+        Item::Histogram(x) => (x.chip == chip) & (x.channel == channel),
+        Item::HitCount(_) => false,
+        Item::Sample(_) => false,
+        Item::Bin(_) => false,
+        Item::LastCell(_) => false,
+        Item::TimeBin(_) => false,
+        Item::Text(_) => false,
+        Item::StartEvent(_) => false,
+        Item::EndEvent(_) => false,
+    }
+}
+
+// Where event e of a data frame begins. From a Text's first word on, which no data frame has, its items are of one word and begin or end no event.
+pub(crate) fn seek_event(s: &[u8], e: usize) -> Place
+    requires { ⌜ Amid (now s) dataKind 3 ⌝ }
+    ensures { λ r. ⌜ EventSought (now (s .entry)) e r ⌝ }
+{
+    let last = s.len() / 2 - 1;
+    let mut at: usize = FIRST;
     let mut left = e;
     while at < last {
         let w = word_in(s, at);
-        if ONE_WORD <= w {
+        if Class::TEXT <= w {
             at += 1;
             continue;
         }
-        if w < START {
-            at += 3;
-            continue;
+        let standing = item_at(s, at);
+        match standing {
+            Standing::Item(x) => {
+                let item = x.item;
+                if is_start(item) {
+                    if left == 0 {
+                        return Place::At(at);
+                    }
+                    left -= 1;
+                    at = x.next;
+                    continue;
+                }
+                at = x.next;
+            }
+            Standing::Nothing => {
+                return Place::Nothing;
+            }
         }
-        if left == 0 {
-            return Place::At(at);
-        }
-        left -= 1;
-        at += 6;
     }
     Place::Nothing
 }
 
 // The size that the first End event from here on gives, or 0.
 pub(crate) fn end_size(s: &[u8], from: usize) -> u32
-    ensures { λ r. ⌜ ((card : ℕ) → Standing (now (s .entry)) dataKind card from → r ≡ first (gather endSize (itemsFrom (now (s .entry)) from))) ⌝ }
+    requires { ⌜ Amid (now s) dataKind from ⌝ }
+    ensures { λ r. ⌜ r ≡ first (gather endSize (itemsFrom (now (s .entry)) from)) ⌝ }
 {
-    let last = s.len() / 2;
+    let last = s.len() / 2 - 1;
     let mut at = from;
     while at < last {
         let w = word_in(s, at);
-        if ONE_WORD <= w {
+        if Class::TEXT <= w {
             at += 1;
             continue;
         }
-        if w < START {
-            return long(s, at + 1);
+        let standing = item_at(s, at);
+        match standing {
+            Standing::Item(x) => {
+                let item = x.item;
+                if is_end(item) {
+                    return long(s, at + 1);
+                }
+                at = x.next;
+            }
+            Standing::Nothing => {
+                return 0;
+            }
         }
-        at += 6;
     }
     0
 }
 
 // Where the items behind a Channel header begin, of those before the first End event from here on.
-pub(crate) fn seek_channel(s: &[u8], from: usize, header: u16) -> Place
-    requires { ⌜ 0xC000 ≤ header ⌝ }
-    ensures { λ r. ⌜ ((card chip c : ℕ) → Header 0xC000 header card chip c → Standing (now (s .entry)) dataKind card from → ChannelSought (now (s .entry)) from chip c r) ⌝ }
+pub(crate) fn seek_channel(s: &[u8], from: usize, chip: u16, channel: u16) -> Place
+    requires { ⌜ Amid (now s) dataKind from ⌝ }
+    ensures { λ r. ⌜ ChannelSought (now (s .entry)) from chip channel r ⌝ }
 {
-    let last = s.len() / 2;
+    let last = s.len() / 2 - 1;
     let mut at = from;
     while at < last {
         let w = word_in(s, at);
-        if ONE_WORD <= w {
-            if w == header {
+        if Class::CHANNEL <= w {
+            let x = Channel::of_word(w);
+            if (x.chip == chip) & (x.channel == channel) {
                 return Place::At(at + 1);
             }
             at += 1;
             continue;
         }
-        if w < START {
-            return Place::Nothing;
+        if Class::TEXT <= w {
+            at += 1;
+            continue;
         }
-        at += 6;
+        let standing = item_at(s, at);
+        match standing {
+            Standing::Item(x) => {
+                let item = x.item;
+                if is_end(item) {
+                    return Place::Nothing;
+                }
+                if is_channel(item, chip, channel) {
+                    return Place::At(x.next);
+                }
+                at = x.next;
+            }
+            Standing::Nothing => {
+                return Place::Nothing;
+            }
+        }
     }
     Place::Nothing
 }
 
-// Where the items behind a Histogram header begin, of a monitor frame's items.
-pub(crate) fn seek_histogram(s: &[u8], header: u16) -> Place
-    requires { ⌜ 0x8000 ≤ header ⌝ }
-    ensures { λ r. ⌜ ((card chip c : ℕ) → Header 0x8000 header card chip c → Standing (now (s .entry)) monitorKind card 0 → HistogramSought (now (s .entry)) card chip c r) ⌝ }
+// Where the items behind a Histogram header begin, of a monitor frame's items. No Channel stands in such a frame, nor Samples and Hit counts.
+pub(crate) fn seek_histogram(s: &[u8], chip: u16, channel: u16) -> Place
+    requires { ⌜ Amid (now s) monitorKind 3 ⌝ }
+    ensures { λ r. ⌜ HistogramSought (now (s .entry)) chip channel r ⌝ }
 {
-    let last = s.len() / 2;
-    let mut at: usize = 0;
+    let last = s.len() / 2 - 1;
+    let mut at: usize = FIRST;
     while at < last {
         let w = word_in(s, at);
-        if w < Class::HISTOGRAM {
+        if Class::HISTOGRAM <= w {
+            let x = Histogram::of_word(w);
+            if (x.chip == chip) & (x.channel == channel) {
+                return Place::At(at + 1);
+            }
+            at += 1;
+            continue;
+        }
+        if Class::BIN <= w {
             at += 3;
             continue;
         }
-        if w == header {
-            return Place::At(at + 1);
+        let standing = item_at(s, at);
+        match standing {
+            Standing::Item(x) => {
+                let item = x.item;
+                if is_histogram(item, chip, channel) {
+                    return Place::At(x.next);
+                }
+                at = x.next;
+            }
+            Standing::Nothing => {
+                return Place::Nothing;
+            }
         }
-        at += 1;
     }
     Place::Nothing
 }

@@ -1,18 +1,18 @@
 -- `questions::counts::counts` meets its contract.
 -- Assumes nothing.
 use denote.Ref.{now}
-use mathlib.Core.Path.{_≡_, ap, sym, _∙_}
-use native.Mathlib.Omega.{arith}
+use mathlib.Core.Path.{ap, sym, _∙_}
 use Rattle.frame.specs.Views.{viewReading, viewFrame}
 use Rattle.format.specs.Words.{Bytes}
-use Rattle.questions.proofs.Reading.{Accepted, read-accepted, read-refused, items-stand, long-enough}
+use Rattle.questions.proofs.Reading.{Accepted, read-accepted, read-refused, amid-first}
+use native.Mathlib.Omega.{arith}
 use Rattle.questions.proofs.CountsAnswers.{counts-stopped, counts-short, counts-answered}
 use borrow.Author.Needs.{needs}
 use Rattle.questions.proofs.counts.counts.Statement.{statement}
 use Rattle.questions.proofs.counts.counts.Tie as tie
 
 -- the frame was accepted
-read-in : (c : tie.After-known-told2) → let f = viewFrame (c .before .reading2 .given .0 .0) in Accepted (now (c .before .before .before .before .before .before .args .s)) (f .kind) (f .card)
+read-in : (c : tie.After-known-told2) → let f = viewFrame (c .before .reading2 .given .0 .0) in Accepted (now (c .before .before .before .before .before .before .args .s)) (f .kind)
 read-in c = read-accepted _ _ (sym (ap viewReading (c .before .reading2 .given .1)) ∙ c .before .before .before .read .ensures)
 
 bytes-in : (c : tie.After-known-told2) → Bytes (now (c .before .before .before .before .before .before .args .s))
@@ -28,22 +28,10 @@ enum-known-reading-2 : tie.Need-enum-known-reading-2
 enum-known-reading-2 c = search needs
 
 returns : tie.Need-returns
-returns c = counts-short _ _ _ _ _ _ (read-in (c .before)) (omega arith)
-
-sub-end : tie.Need-sub-end
-sub-end c = omega (arith, long-enough _ _ _ (read-in (c .before)))
-
-sub-counts-in : tie.Need-sub-counts-in
-sub-counts-in c = omega (arith, long-enough _ _ _ (read-in (c .before)))
-
-part-counts-in-start : tie.Need-part-counts-in-start
-part-counts-in-start c = omega (arith, long-enough _ _ _ (read-in (c .before)))
-
-part-counts-in-end : tie.Need-part-counts-in-end
-part-counts-in-end c = search needs
+returns c = counts-short _ _ _ _ _ (read-in (c .before)) (omega arith)
 
 counts-in-requires : tie.Need-counts-in-requires
-counts-in-requires c κs = let t = c .before .before .before in (items-stand _ (bytes-in t) _ _ (read-in t) .0, omega arith)
+counts-in-requires c κs = let t = c .before .before in (amid-first _ (bytes-in t) _ (read-in t), omega arith)
 
 returns-2 : tie.Need-returns-2
 returns-2 c = counts-stopped _ _ _ _ _ _ (read-refused _ _ _ (sym (ap viewReading (c .before .reading .given .1)) ∙ c .before .before .before .read .ensures))
@@ -52,7 +40,7 @@ same-length : tie.Need-same-length
 same-length c = search needs
 
 returns-3 : tie.Need-returns-3
-returns-3 c = let t = c .before .before .before .before .before .before in counts-answered _ _ _ _ _ _ (read-in t) (bytes-in t) (omega arith) _ _ (c .before .before .counts-in .ensures)
+returns-3 c = let t = c .before .before .before .before .before in counts-answered _ _ _ _ _ (read-in t) (bytes-in t) (omega arith) _ _ (c .before .before .counts-in .ensures)
 
 pub counts-spec : {M : Type 1} → statement M
 counts-spec =
@@ -62,10 +50,6 @@ counts-spec =
     enum-known-reading
     enum-known-reading-2
     returns
-    sub-end
-    sub-counts-in
-    part-counts-in-start
-    part-counts-in-end
     counts-in-requires
     returns-2
     same-length

@@ -2,7 +2,6 @@
 -- Assumes nothing.
 use denote.Ref.{now}
 use Rattle.questions.proofs.EventAnswers.{event-read}
-use native.Mathlib.Omega.{arith}
 use borrow.Author.Needs.{needs}
 use Rattle.questions.proofs.event.event_at.Statement.{statement}
 use Rattle.questions.proofs.event.event_at.Tie as tie
@@ -31,11 +30,8 @@ end-size-requires c κs = search needs
 of-word-requires : tie.Need-of-word-requires
 of-word-requires c κs = search needs
 
-add-t7 : tie.Need-add-t7
-add-t7 c = search needs
-
 returns : tie.Need-returns
-returns c = λ card g. let w = c .before .before .before .before in let a = w .before .before .args in event-read (now (a .s)) (a .at) _ _ _ _ _ (w .word .ensures) (c .of-word .ensures) (c .before .before .before .time .ensures) (c .before .before .long .ensures) (c .before .end-size .ensures card g)
+returns c = let w = c .before .before .before .before in let a = w .before .before .args in event-read (now (a .s)) (a .at) _ _ _ _ _ (w .word .ensures) (c .of-word .ensures) (c .before .before .before .time .ensures) (c .before .before .long .ensures) (c .before .end-size .ensures)
 
 pub event-at-spec : {M : Type 1} → statement M
 event-at-spec =
@@ -49,5 +45,4 @@ event-at-spec =
     add-end-size
     end-size-requires
     of-word-requires
-    add-t7
     returns)

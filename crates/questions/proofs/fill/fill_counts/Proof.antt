@@ -1,19 +1,24 @@
 -- `questions::fill::fill_counts` meets its contract.
 -- Assumes nothing.
-use Prim.Native.Nat.{_-_, _/_, _≤_}
+use Prim.Native.Nat.{_-_, _≤_}
 use mathlib.Core.Path.{_≡_, refl}
 use native.Mathlib.Omega.{arith}
 use lib.ListN.{length}
+use Rattle.format.specs.Frames.{lastOf}
+use Rattle.format.proofs.CursorLaws.{on-range}
+use Rattle.questions.proofs.CountFill.{Counting, counting-start, bin-room, counting-bin, counting-other, counting-end}
 use borrow.Author.Needs.{needs}
-use Rattle.questions.proofs.MonitorScan.{Counting, counting-start, bin-room, counting-bin, counting-header, counting-end}
 use Rattle.questions.proofs.fill.fill_counts.Statement.{statement}
 use Rattle.questions.proofs.fill.fill_counts.Tie as tie
 
 abbrev Inv-loop : tie.InvT-loop
-Inv-loop s from out₀ last at₀ out at = (last ≡ length s / 2) × (4096 ≤ length out₀) × Counting s from out₀ at out
+Inv-loop s from out₀ last at₀ out at = (last ≡ lastOf s) × (4096 ≤ length out₀) × Counting s from out₀ at out
 
 abbrev μ-loop : tie.MeasureT-loop
 μ-loop s from out₀ last at₀ out at = last - at
+
+sub-last : tie.Need-sub-last Inv-loop μ-loop
+sub-last c = let r = on-range _ _ (c .before .before .pre .0) in omega arith
 
 loop-holds : tie.Need-loop-holds Inv-loop μ-loop
 loop-holds c = let p = c .before .before .pre in (refl, p .1, counting-start _ _ _ (p .0))
@@ -25,7 +30,7 @@ same-length : tie.Need-same-length Inv-loop μ-loop
 same-length c = search needs
 
 returns : tie.Need-returns Inv-loop μ-loop
-returns c = let w = c .before in counting-header _ _ _ _ _ (w .before .before .loop .inv .2) (omega arith) _ (w .word-in .ensures) (c .if1 .taken)
+returns c = let w = c .before in counting-other _ _ _ _ _ (w .before .before .loop .inv .2) (omega arith) _ (w .word-in .ensures) (c .if1 .taken)
 
 of-word-requires : tie.Need-of-word-requires Inv-loop μ-loop
 of-word-requires c κs = search needs
@@ -66,6 +71,7 @@ fill-counts-spec =
     (tie.spec
     Inv-loop
     μ-loop
+    sub-last
     loop-holds
     word-in-requires
     same-length

@@ -1,21 +1,24 @@
 -- `questions::fill::fill_samples` meets its contract.
 -- Assumes nothing.
-use Prim.Native.Nat.{_-_, _/_, _≤_}
+use Prim.Native.Nat.{_-_, _≤_}
 use mathlib.Core.Path.{_≡_, refl}
 use native.Mathlib.Omega.{arith}
 use lib.ListN.{length}
+use Rattle.format.specs.Frames.{lastOf}
+use Rattle.format.proofs.CursorLaws.{on-range}
+use Rattle.questions.proofs.SampleFill.{Sampling, sampling-start, sample-room, sampling-sample, sampling-time, sampling-other, sampling-end}
 use borrow.Author.Needs.{needs}
-use Rattle.questions.proofs.ChannelScan.{Sampling, sampling-start, sample-room, sampling-sample, sampling-time, sampling-other, sampling-end}
 use Rattle.questions.proofs.fill.fill_samples.Statement.{statement}
 use Rattle.questions.proofs.fill.fill_samples.Tie as tie
-use Rattle.book.proofs.items.Sample.of_word.Reads as items-Sample-of-word-reads
-use Rattle.book.proofs.items.TimeBin.of_word.Reads as items-TimeBin-of-word-reads
 
 abbrev Inv-loop : tie.InvT-loop
-Inv-loop s from out₀ last at₀ time₀ out at time = (last ≡ length s / 2) × (512 ≤ length out₀) × Sampling s from out₀ at time out
+Inv-loop s from out₀ last at₀ time₀ out at time = (last ≡ lastOf s) × (512 ≤ length out₀) × Sampling s from out₀ at time out
 
 abbrev μ-loop : tie.MeasureT-loop
 μ-loop s from out₀ last at₀ time₀ out at time = last - at
+
+sub-last : tie.Need-sub-last Inv-loop μ-loop
+sub-last c = let r = on-range _ _ (c .before .before .pre .0 .on) in omega arith
 
 loop-holds : tie.Need-loop-holds Inv-loop μ-loop
 loop-holds c = let p = c .before .before .pre in (refl, p .1, sampling-start _ _ _ (p .0))
@@ -77,6 +80,7 @@ fill-samples-spec =
     (tie.spec
     Inv-loop
     μ-loop
+    sub-last
     loop-holds
     word-in-requires
     of-word-requires

@@ -1,9 +1,9 @@
 -- `questions::samples::samples_in` meets its contract.
 -- Assumes nothing.
 use denote.Ref.{now}
-use mathlib.Core.Path.{_≡_, subst}
+use mathlib.Core.Path.{subst}
 use native.Mathlib.Omega.{arith}
-use Rattle.questions.specs.Standing.{ChannelFound, SamplesSought}
+use Rattle.questions.specs.Sought.{ChannelFound, SamplesSought}
 use Rattle.questions.proofs.SamplesAnswers.{samples-missing, samples-put}
 use borrow.Author.Needs.{needs}
 use Rattle.questions.proofs.samples.samples_in.Statement.{statement}

@@ -1,24 +1,27 @@
 -- `questions::scan::end_size` meets its contract.
 -- Assumes nothing.
-use Prim.Native.Nat.{ℕ, _-_, _/_}
-use mathlib.Core.Path.{_≡_, refl}
+use Prim.Native.Nat.{_-_}
+use mathlib.Core.Path.{_≡_, refl, sym, ap, _∙_}
 use native.Mathlib.Omega.{arith}
-use lib.ListN.{length}
+use Rattle.format.specs.Frames.{lastOf}
+use Rattle.frame.specs.Views.{viewStanding}
+use Rattle.questions.proofs.Turns.{amid-range, next-further, nothing-there}
+use Rattle.questions.proofs.EventScan.{Sizing, sizing-start, sizing-one, sizing-next, sizing-found, sizing-none}
 use borrow.Author.Needs.{needs}
-use Rattle.format.specs.Rules.{dataKind}
-use Rattle.questions.specs.Standing.{Standing}
-use Rattle.questions.proofs.EventScan.{Sizing, sizing-start, sizing-one, sizing-start-word, sizing-found, sizing-none}
 use Rattle.questions.proofs.scan.end_size.Statement.{statement}
 use Rattle.questions.proofs.scan.end_size.Tie as tie
 
 abbrev Inv-loop : tie.InvT-loop
-Inv-loop s from last at₀ at = (last ≡ length s / 2) × ((card : ℕ) → Standing s dataKind card from → Sizing s card from at)
+Inv-loop s from last at₀ at = (last ≡ lastOf s) × Sizing s from at
 
 abbrev μ-loop : tie.MeasureT-loop
 μ-loop s from last at₀ at = last - at
 
+sub-last : tie.Need-sub-last Inv-loop μ-loop
+sub-last c = let r = amid-range _ _ _ (c .before .pre) in omega arith
+
 loop-holds : tie.Need-loop-holds Inv-loop μ-loop
-loop-holds c = (refl, λ card g. sizing-start _ card _ g)
+loop-holds c = (refl, sizing-start _ _ (c .before .pre))
 
 word-in-requires : tie.Need-word-in-requires Inv-loop μ-loop
 word-in-requires c κs = omega arith
@@ -30,7 +33,16 @@ loop-less : tie.Need-loop-less Inv-loop μ-loop
 loop-less c = omega arith
 
 loop-again : tie.Need-loop-again Inv-loop μ-loop
-loop-again c = let w = c .before in let v = w .before .before .loop .inv in (v .0, λ card g. sizing-one _ card _ _ (v .1 card g) (omega arith) _ (w .word-in .ensures) (c .if1 .taken))
+loop-again c = let w = c .before in let v = w .before .before .loop .inv in (v .0, sizing-one _ _ _ (v .1) (omega arith) _ (w .word-in .ensures) (c .if1 .taken))
+
+item-at-requires : tie.Need-item-at-requires Inv-loop μ-loop
+item-at-requires c κs = search needs
+
+enum-known-standing : tie.Need-enum-known-standing Inv-loop μ-loop
+enum-known-standing c = search needs
+
+is-end-requires : tie.Need-is-end-requires Inv-loop μ-loop
+is-end-requires c κs = search needs
 
 add-long : tie.Need-add-long Inv-loop μ-loop
 add-long c = omega arith
@@ -39,19 +51,22 @@ long-requires : tie.Need-long-requires Inv-loop μ-loop
 long-requires c κs = search needs
 
 returns : tie.Need-returns Inv-loop μ-loop
-returns c = λ card g. let w = c .before .before .before in let v = w .before .before .loop .inv in sizing-found _ card _ _ (v .1 card g) (omega arith) _ (w .word-in .ensures) (omega arith) _ (c .long .ensures)
-
-add-at-2 : tie.Need-add-at-2 Inv-loop μ-loop
-add-at-2 c = omega arith
+returns c = let m = c .before .before .before .before in let v = m .before .before .before .before .before .before .loop .inv in sizing-found _ _ _ (v .1) _ _ (sym (ap viewStanding (m .standing .given .1)) ∙ m .before .before .item-at .ensures) (sym (c .before .before .is-end .ensures) ∙ c .before .if2 .taken) _ (c .long .ensures)
 
 loop-less-2 : tie.Need-loop-less-2 Inv-loop μ-loop
-loop-less-2 c = omega arith
+loop-less-2 c = let m = c .before .before .before in let v = m .before .before .before .before .before .before .loop .inv in let f = next-further _ _ _ (v .1 .amid) _ _ (sym (ap viewStanding (m .standing .given .1)) ∙ m .before .before .item-at .ensures) in omega arith
 
 loop-again-2 : tie.Need-loop-again-2 Inv-loop μ-loop
-loop-again-2 c = let w = c .before .before in let v = w .before .before .loop .inv in (v .0, λ card g. sizing-start-word _ card _ _ (v .1 card g) (omega arith) _ (w .word-in .ensures) (omega arith) (omega arith))
+loop-again-2 c = let m = c .before .before .before in let v = m .before .before .before .before .before .before .loop .inv in (v .0, sizing-next _ _ _ (v .1) _ _ (sym (ap viewStanding (m .standing .given .1)) ∙ m .before .before .item-at .ensures) (sym (c .before .is-end .ensures) ∙ c .if2 .left))
+
+enum-told : tie.Need-enum-told Inv-loop μ-loop
+enum-told c = search needs
 
 returns-2 : tie.Need-returns-2 Inv-loop μ-loop
-returns-2 c = λ card g. let v = c .before .loop .inv in sizing-none _ card _ _ (v .1 card g) (omega arith)
+returns-2 c = let v = c .before .before .before .before .before .before .loop .inv in nothing-there _ _ _ (v .1 .amid) (omega arith) (sym (ap viewStanding (c .enum-told .given .1)) ∙ c .before .before .item-at .ensures)
+
+returns-3 : tie.Need-returns-3 Inv-loop μ-loop
+returns-3 c = let v = c .before .loop .inv in sizing-none _ _ _ (v .1) (omega arith)
 
 pub end-size-spec : {M : Type 1} → statement M
 end-size-spec =
@@ -59,15 +74,20 @@ end-size-spec =
     (tie.spec
     Inv-loop
     μ-loop
+    sub-last
     loop-holds
     word-in-requires
     add-at
     loop-less
     loop-again
+    item-at-requires
+    enum-known-standing
+    is-end-requires
     add-long
     long-requires
     returns
-    add-at-2
     loop-less-2
     loop-again-2
-    returns-2)
+    enum-told
+    returns-2
+    returns-3)

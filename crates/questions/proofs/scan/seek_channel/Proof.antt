@@ -1,33 +1,39 @@
 -- `questions::scan::seek_channel` meets its contract.
 -- Assumes nothing.
-use Prim.Native.Nat.{ℕ, _-_, _/_, _≤_}
-use mathlib.Core.Path.{_≡_, refl}
+use Prim.Native.Nat.{_-_}
+use mathlib.Core.Path.{_≡_, refl, sym, ap, _∙_}
 use native.Mathlib.Omega.{arith}
-use lib.ListN.{length}
+use Rattle.format.specs.Frames.{lastOf}
+use Rattle.frame.specs.Views.{viewStanding}
+use Rattle.questions.proofs.Turns.{amid-range, next-further, nothing-there}
+use Rattle.questions.proofs.ChannelScan.{Seeking, seeking-start, seeking-header, seeking-hit, seeking-one, seeking-end, seeking-next, seeking-found, seeking-none}
 use borrow.Author.Needs.{needs}
-use Rattle.format.specs.Rules.{dataKind}
-use Rattle.questions.specs.Standing.{Standing, Header}
-use Rattle.questions.proofs.ChannelScan.{Seeking, seeking-start, seeking-other, seeking-found, seeking-start-word, seeking-end, seeking-none}
 use Rattle.questions.proofs.scan.seek_channel.Statement.{statement}
 use Rattle.questions.proofs.scan.seek_channel.Tie as tie
 
 abbrev Inv-loop : tie.InvT-loop
-Inv-loop s from header last at₀ at = (last ≡ length s / 2) × ((card chip ch : ℕ) → Header 0xC000 header card chip ch → Standing s dataKind card from → Seeking s card from chip ch at)
+Inv-loop s from chip channel last at₀ at = (last ≡ lastOf s) × Seeking s from chip channel at
 
 abbrev μ-loop : tie.MeasureT-loop
-μ-loop s from header last at₀ at = last - at
+μ-loop s from chip channel last at₀ at = last - at
+
+sub-last : tie.Need-sub-last Inv-loop μ-loop
+sub-last c = let r = amid-range _ _ _ (c .before .pre) in omega arith
 
 loop-holds : tie.Need-loop-holds Inv-loop μ-loop
-loop-holds c = (refl, λ card chip ch q g. seeking-start _ card _ chip ch g)
+loop-holds c = (refl, seeking-start _ _ _ _ (c .before .pre))
 
 word-in-requires : tie.Need-word-in-requires Inv-loop μ-loop
 word-in-requires c κs = omega arith
 
-add-t10 : tie.Need-add-t10 Inv-loop μ-loop
-add-t10 c = omega arith
+of-word-requires : tie.Need-of-word-requires Inv-loop μ-loop
+of-word-requires c κs = search needs
+
+add-t18 : tie.Need-add-t18 Inv-loop μ-loop
+add-t18 c = omega arith
 
 returns : tie.Need-returns Inv-loop μ-loop
-returns c = let w = c .before .before in let v = w .before .before .loop .inv in λ card chip ch q g. seeking-found _ card _ chip ch _ (v .1 card chip ch q g) (omega arith) _ (w .word-in .ensures) _ q (c .before .if1 .taken) (c .if2 .taken)
+returns c = let o = c .before .before .before in let w = o .before .before in let v = w .before .before .loop .inv in seeking-hit _ _ _ _ _ (v .1) (omega arith) _ (w .word-in .ensures) (o .before .if1 .taken) _ (o .of-word .ensures) (c .if2 .taken)
 
 add-at : tie.Need-add-at Inv-loop μ-loop
 add-at c = omega arith
@@ -36,10 +42,7 @@ loop-less : tie.Need-loop-less Inv-loop μ-loop
 loop-less c = omega arith
 
 loop-again : tie.Need-loop-again Inv-loop μ-loop
-loop-again c = let w = c .before .before in let v = w .before .before .loop .inv in (v .0, λ card chip ch q g. seeking-other _ card _ chip ch _ (v .1 card chip ch q g) (omega arith) _ (w .word-in .ensures) _ q (c .before .if1 .taken) (c .if2 .left))
-
-returns-2 : tie.Need-returns-2 Inv-loop μ-loop
-returns-2 c = let w = c .before .before in let v = w .before .before .loop .inv in λ card chip ch q g. seeking-end _ card _ chip ch _ (v .1 card chip ch q g) (omega arith) _ (w .word-in .ensures) _ q (c .if3 .taken)
+loop-again c = let o = c .before .before .before in let w = o .before .before in let v = w .before .before .loop .inv in (v .0, seeking-header _ _ _ _ _ (v .1) (omega arith) _ (w .word-in .ensures) (o .before .if1 .taken) _ (o .of-word .ensures) (c .if2 .left))
 
 add-at-2 : tie.Need-add-at-2 Inv-loop μ-loop
 add-at-2 c = omega arith
@@ -48,10 +51,40 @@ loop-less-2 : tie.Need-loop-less-2 Inv-loop μ-loop
 loop-less-2 c = omega arith
 
 loop-again-2 : tie.Need-loop-again-2 Inv-loop μ-loop
-loop-again-2 c = let w = c .before .before in let v = w .before .before .loop .inv in (v .0, λ card chip ch q g. seeking-start-word _ card _ chip ch _ (v .1 card chip ch q g) (omega arith) _ (w .word-in .ensures) _ q (omega arith) (omega arith))
+loop-again-2 c = let w = c .before .before in let v = w .before .before .loop .inv in (v .0, seeking-one _ _ _ _ _ (v .1) (omega arith) _ (w .word-in .ensures) (c .if3 .taken) (omega arith))
+
+item-at-requires : tie.Need-item-at-requires Inv-loop μ-loop
+item-at-requires c κs = search needs
+
+enum-known-standing : tie.Need-enum-known-standing Inv-loop μ-loop
+enum-known-standing c = search needs
+
+is-end-requires : tie.Need-is-end-requires Inv-loop μ-loop
+is-end-requires c κs = search needs
+
+returns-2 : tie.Need-returns-2 Inv-loop μ-loop
+returns-2 c = let m = c .before .before .before in let v = m .before .before .before .before .before .before .before .loop .inv in seeking-end _ _ _ _ _ (v .1) _ _ (sym (ap viewStanding (m .standing .given .1)) ∙ m .before .before .item-at .ensures) (sym (c .before .is-end .ensures) ∙ c .if4 .taken)
+
+is-channel-requires : tie.Need-is-channel-requires Inv-loop μ-loop
+is-channel-requires c κs = search needs
 
 returns-3 : tie.Need-returns-3 Inv-loop μ-loop
-returns-3 c = λ card chip ch q g. let v = c .before .loop .inv in seeking-none _ card _ chip ch _ (v .1 card chip ch q g) (omega arith)
+returns-3 c = let m = c .before .before .before .before .before in let v = m .before .before .before .before .before .before .before .loop .inv in seeking-found _ _ _ _ _ (v .1) _ _ (sym (ap viewStanding (m .standing .given .1)) ∙ m .before .before .item-at .ensures) (sym (c .before .before .before .is-end .ensures) ∙ c .before .before .if4 .left) (sym (c .before .is-channel .ensures) ∙ c .if5 .taken)
+
+loop-less-3 : tie.Need-loop-less-3 Inv-loop μ-loop
+loop-less-3 c = let m = c .before .before .before .before .before in let v = m .before .before .before .before .before .before .before .loop .inv in let f = next-further _ _ _ (v .1 .amid) _ _ (sym (ap viewStanding (m .standing .given .1)) ∙ m .before .before .item-at .ensures) in omega arith
+
+loop-again-3 : tie.Need-loop-again-3 Inv-loop μ-loop
+loop-again-3 c = let m = c .before .before .before .before .before in let v = m .before .before .before .before .before .before .before .loop .inv in (v .0, seeking-next _ _ _ _ _ (v .1) _ _ (sym (ap viewStanding (m .standing .given .1)) ∙ m .before .before .item-at .ensures) (sym (c .before .before .before .is-end .ensures) ∙ c .before .before .if4 .left) (sym (c .before .is-channel .ensures) ∙ c .if5 .left))
+
+enum-told : tie.Need-enum-told Inv-loop μ-loop
+enum-told c = search needs
+
+returns-4 : tie.Need-returns-4 Inv-loop μ-loop
+returns-4 c = let v = c .before .before .before .before .before .before .before .loop .inv in nothing-there _ _ _ (v .1 .amid) (omega arith) (sym (ap viewStanding (c .enum-told .given .1)) ∙ c .before .before .item-at .ensures)
+
+returns-5 : tie.Need-returns-5 Inv-loop μ-loop
+returns-5 c = let v = c .before .loop .inv in seeking-none _ _ _ _ _ (v .1) (omega arith)
 
 pub seek-channel-spec : {M : Type 1} → statement M
 seek-channel-spec =
@@ -59,15 +92,26 @@ seek-channel-spec =
     (tie.spec
     Inv-loop
     μ-loop
+    sub-last
     loop-holds
     word-in-requires
-    add-t10
+    of-word-requires
+    add-t18
     returns
     add-at
     loop-less
     loop-again
-    returns-2
     add-at-2
     loop-less-2
     loop-again-2
-    returns-3)
+    item-at-requires
+    enum-known-standing
+    is-end-requires
+    returns-2
+    is-channel-requires
+    returns-3
+    loop-less-3
+    loop-again-3
+    enum-told
+    returns-4
+    returns-5)

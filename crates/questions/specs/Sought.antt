@@ -1,0 +1,114 @@
+-- What the scans over an accepted frame find: for the functions that only this crate calls. Words are counted from the frame's first.
+-- Assumes nothing.
+use Prim.Native.Nat.{ℕ, _+_, _%_, _<_}
+use mathlib.Core.Path.{_≡_}
+use mathlib.Core.List.{List, [], _∷_}
+use mathlib.Core.Bool.{Bool, true, false}
+use mathlib.Core.Option.{none, some}
+use lib.ListN.{length}
+use Rattle.format.specs.Words.{wordAt, timeAt, longAt}
+use Rattle.format.specs.Answers.{Outcome, accepted, refused, andThen, Done}
+use Rattle.format.specs.Book.{endEvent}
+use Rattle.format.specs.Items.{ItemOf, Item, Channel, Histogram, HitCount, Sample, Bin, LastCell, TimeBin, Text, StartEvent, EndEvent}
+use Rattle.format.specs.Rules.{Kind, dataKind, gather, first}
+use Rattle.format.specs.Frames.{behind}
+use Rattle.format.specs.Cursor.{itemsFrom, On}
+use Rattle.format.specs.Questions.{Event, Opened, endSize, events, pickNth, present, done, until, past, isChannel, isHistogram, channelIn}
+use Rattle.questions.specs.declared.answers.Place.{Place}
+use Rattle.questions.specs.declared.answers.Place.the-variants as place
+
+-- the cursor stands at word `at` of an accepted frame of the kind
+pub record Amid (s : List ℕ) (kind : Kind) (at : ℕ) : Type 0 where
+  pub on : On s at
+  pub kind-is : on .frame .kind ≡ kind
+
+-- an item, as it is answered, that starts an event, and one that ends it
+abbrev pub startsEvent : ItemOf ℕ → Bool
+startsEvent (Channel a b c) = false
+startsEvent (Histogram a b c) = false
+startsEvent (HitCount a b c) = false
+startsEvent (Sample v) = false
+startsEvent (Bin b n) = false
+startsEvent (LastCell a b) = false
+startsEvent (TimeBin t) = false
+startsEvent (Text n) = false
+startsEvent (StartEvent t ts n) = true
+startsEvent (EndEvent n) = false
+
+abbrev pub endsEvent : ItemOf ℕ → Bool
+endsEvent (Channel a b c) = false
+endsEvent (Histogram a b c) = false
+endsEvent (HitCount a b c) = false
+endsEvent (Sample v) = false
+endsEvent (Bin b n) = false
+endsEvent (LastCell a b) = false
+endsEvent (TimeBin t) = false
+endsEvent (Text n) = false
+endsEvent (StartEvent t ts n) = false
+endsEvent (EndEvent n) = true
+
+-- the event whose Start event stands at word q
+abbrev pub openedAt : List ℕ → ℕ → Opened
+openedAt s q = record {
+  event = record {
+    kind = wordAt s q % 16;
+    timestamp = timeAt s (q + 1);
+    number = longAt s (q + 4);
+    size = first (gather endSize (itemsFrom s (q + 6)));
+    index = q;
+  };
+  items = itemsFrom s (q + 6);
+}
+
+-- event e begins at word q
+pub record EventAt (s : List ℕ) (e q : ℕ) : Type 0 where
+  pub within : q < length s
+  pub picked : pickNth e (events 3 (itemsFrom s 3)) ≡ some (openedAt s q)
+  pub amid : Amid s dataKind (q + 6)
+
+abbrev pub EventSought : List ℕ → ℕ → Place → Type 0
+EventSought s e (place.At q) = EventAt s e q
+EventSought s e place.Nothing = pickNth e (events 3 (itemsFrom s 3)) ≡ none
+
+-- what event e of some items answers
+abbrev pub eventIn : List Item → ℕ → Outcome Event
+eventIn xs e = andThen (present (pickNth e (events 3 xs))) (λ o. accepted (o .event))
+
+-- what a question that fills lent words answers, and how it leaves them
+pub record Filling (o : Outcome (List Item)) (written : Outcome (List Item) → List ℕ → List ℕ) (found : List ℕ) (answer : Done) (left : List ℕ) : Type 0 where
+  pub answered : answer ≡ done o
+  pub filled : left ≡ written o found
+
+-- behind word q stands what is behind a Channel header: its time bins and samples come first
+pub record Headed (s : List ℕ) (q : ℕ) : Type 0 where
+  pub on : On s q
+  pub card : ℕ
+  pub chip : ℕ
+  pub channel : ℕ
+  pub before : List Item
+  pub header : behind [] (on .before) ≡ Channel card chip channel ∷ before
+
+pub record ChannelAt (s : List ℕ) (from chip c q : ℕ) : Type 0 where
+  pub passed : past (isChannel chip c) (until endEvent (itemsFrom s from)) ≡ some (until endEvent (itemsFrom s q))
+  pub headed : Headed s q
+
+abbrev pub ChannelSought : List ℕ → ℕ → ℕ → ℕ → Place → Type 0
+ChannelSought s from chip c (place.At q) = ChannelAt s from chip c q
+ChannelSought s from chip c place.Nothing = past (isChannel chip c) (until endEvent (itemsFrom s from)) ≡ none
+
+-- of event e of a frame's items
+pub record ChannelFound (s : List ℕ) (e chip c q : ℕ) : Type 0 where
+  pub found : channelIn e chip c (itemsFrom s 3) ≡ accepted (until endEvent (itemsFrom s q))
+  pub headed : Headed s q
+
+abbrev pub SamplesSought : List ℕ → ℕ → ℕ → ℕ → Place → Type 0
+SamplesSought s e chip c (place.At q) = ChannelFound s e chip c q
+SamplesSought s e chip c place.Nothing = channelIn e chip c (itemsFrom s 3) ≡ refused 13 0
+
+pub record HistogramAt (s : List ℕ) (chip c q : ℕ) : Type 0 where
+  pub passed : past (isHistogram chip c) (itemsFrom s 3) ≡ some (itemsFrom s q)
+  pub on : On s q
+
+abbrev pub HistogramSought : List ℕ → ℕ → ℕ → Place → Type 0
+HistogramSought s chip c (place.At q) = HistogramAt s chip c q
+HistogramSought s chip c place.Nothing = past (isHistogram chip c) (itemsFrom s 3) ≡ none
