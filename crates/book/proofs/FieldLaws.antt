@@ -1,5 +1,5 @@
 -- T3 of the code's item structs, the way back: fields that fit go into a word and come out again, and a word of a class is the word of its
--- fields. One law over the widths (format's proofs/FieldLaws) stands behind all of them; a struct is tied to it by how it lists its fields.
+-- fields. One law over the widths (format's proofs/book/FieldLaws) stands behind all of them; a struct is tied to it by how it lists its fields.
 -- Then: the code's fields are the meaning's. Its word is the first of `wordsOf`, and `decode` gives what its `of_word` gives.
 -- Assumes nothing.
 use Prim.Native.Nat.{ℕ, _+_, _*_, _/_, _%_, _^_, _<_}
@@ -15,9 +15,9 @@ use Rattle.format.specs.Book as paper
 use Rattle.format.specs.Book.{classOf}
 use Rattle.format.specs.Items as items
 use Rattle.format.specs.Items.{wordsOf, fits, decode, tokenOf, whole}
-use Rattle.format.proofs.BookLaws.{ranged}
-use Rattle.format.proofs.FieldLaws.{total, cut, pack, Fit, widths, cut-fit, cut-packed, pack-cut}
-use Rattle.format.proofs.WrittenLaws.{content-fit, first-word, read-content}
+use Rattle.format.proofs.book.BookLaws.{ranged}
+use Rattle.format.proofs.book.FieldLaws.{total, cut, pack, Fit, widths, cut-fit, cut-packed, pack-cut}
+use Rattle.format.proofs.items.WrittenLaws.{content-fit, first-word, read-content}
 use Rattle.book.specs.declared.items.Channel.{Channel}
 use Rattle.book.specs.declared.items.Histogram.{Histogram}
 use Rattle.book.specs.declared.items.HitCount.{HitCount}

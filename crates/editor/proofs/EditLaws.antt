@@ -19,7 +19,7 @@ use Rattle.format.specs.Questions.{Shown}
 use Rattle.format.specs.Cursor.{standingAt, shownBy}
 use Rattle.format.specs.Spots.{Header, Spot, spotOf, headed, legalValue, valueWord, valueWords}
 use Rattle.format.specs.Scans.{spotBy}
-use Rattle.format.proofs.ScanLaws.{spot-by}
+use Rattle.format.proofs.spots.ScanLaws.{spot-by}
 use Rattle.ledger.specs.Frames.{Settable}
 use Rattle.ledger.specs.Formats as formats
 use Rattle.ledger.specs.Records.{countIn, frameIn, entryBytes, entriesIn, length-entries, signed, recordVerdict}
@@ -27,9 +27,9 @@ use Rattle.ledger.specs.Calls.{Summary, entryFor, newValue, editTests, editAnsw
 use Rattle.ledger.specs.Chains.{Allowed}
 use Rattle.ledger.specs.First.{first}
 use Rattle.ledger.specs.House.{house, house-spot}
-use Rattle.ledger.proofs.Editing.{edit-exactly, exit-written, exit-found}
-use Rattle.ledger.proofs.FirstLaws.{full-limit}
-use Rattle.ledger.proofs.House.{house-lawful}
+use Rattle.ledger.proofs.calls.Editing.{edit-exactly, exit-written, exit-found}
+use Rattle.ledger.proofs.house.FirstLaws.{full-limit}
+use Rattle.ledger.proofs.house.House.{house-lawful}
 use Rattle.plane.specs.Stored.{stored}
 use Rattle.plane.proofs.UndoLaws.{stored-put}
 use Rattle.editor.specs.declared.editing.Correction.{Correction}

@@ -14,15 +14,15 @@ use Rattle.format.specs.Answers.{Outcome, accepted, refused}
 use Rattle.format.specs.Frames.{Frame, verdict}
 use Rattle.format.specs.Questions.{done}
 use Rattle.format.specs.Spots.{put}
-use Rattle.format.proofs.Refusals.{places}
+use Rattle.format.proofs.front.Refusals.{places}
 use Rattle.ledger.specs.Formats.{Correction}
 use Rattle.ledger.specs.Records.{lengthIn, totalIn, frameIn}
 use Rattle.ledger.specs.First.{first}
 use Rattle.ledger.specs.House.{house, house-judge}
-use Rattle.ledger.proofs.Writes as writes
-use Rattle.ledger.proofs.Restoring.{restore-parts, restore-rest}
-use Rattle.ledger.proofs.Refusals as refusals
-use Rattle.ledger.proofs.House.{house-first}
+use Rattle.ledger.proofs.calls.Writes as writes
+use Rattle.ledger.proofs.calls.Restoring.{restore-parts, restore-rest}
+use Rattle.ledger.proofs.answers.Refusals as refusals
+use Rattle.ledger.proofs.house.House.{house-first}
 use Rattle.editor.specs.Promises.{Opened, Edited, Restored}
 
 -- ---- T33

@@ -16,11 +16,11 @@ use Rattle.ledger.specs.Chains.{Header}
 use Rattle.ledger.specs.First.{first}
 use Rattle.ledger.specs.House.{house}
 use Rattle.ledger.specs.Judged.{Judged, judgedAt}
-use Rattle.ledger.proofs.Codecs.{bytes-part}
-use Rattle.ledger.proofs.Headers.{header-words, frame-length, few-entries}
-use Rattle.ledger.proofs.Judging.{verdict-parts}
-use Rattle.ledger.proofs.FirstLaws.{first-lawful}
-use Rattle.ledger.proofs.House.{house-lawful}
+use Rattle.ledger.proofs.records.Codecs.{bytes-part}
+use Rattle.ledger.proofs.records.Headers.{header-words, frame-length, few-entries}
+use Rattle.ledger.proofs.records.Judging.{verdict-parts}
+use Rattle.ledger.proofs.house.FirstLaws.{first-lawful}
+use Rattle.ledger.proofs.house.House.{house-lawful}
 use Rattle.editor.specs.Writes.{Known}
 
 -- ---- from the answer of judging

@@ -1,3 +1,4 @@
+pub mod front
 pub mod Orders
 pub mod Storing
 pub mod OpenLaws
@@ -8,4 +9,3 @@ pub mod Unique
 pub mod Effects
 pub mod CallLaws
 pub mod SequenceLaws
-pub mod Demand3

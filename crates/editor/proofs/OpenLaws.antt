@@ -16,10 +16,10 @@ use Rattle.ledger.specs.Records.{header}
 use Rattle.ledger.specs.Calls.{openAnswer, openExit}
 use Rattle.ledger.specs.First.{first}
 use Rattle.ledger.specs.House.{house, house-judge}
-use Rattle.ledger.proofs.Answering.{leaves-found, leaves-written}
-use Rattle.ledger.proofs.Stores.{part-stores}
-use Rattle.ledger.proofs.Opening.{open-exactly, open-refused, open-no-room}
-use Rattle.ledger.proofs.House.{house-first}
+use Rattle.ledger.proofs.answers.Answering.{leaves-found, leaves-written}
+use Rattle.ledger.proofs.records.Stores.{part-stores}
+use Rattle.ledger.proofs.calls.Opening.{open-exactly, open-refused, open-no-room}
+use Rattle.ledger.proofs.house.House.{house-first}
 use Rattle.editor.specs.Promises.{Opened}
 
 -- the eight words of a header with no entries

@@ -16,12 +16,12 @@ use Rattle.ledger.specs.Records.{lengthIn, countIn, frameIn, entryOf, numbered,
 use Rattle.ledger.specs.Calls.{Summary, undone, restored, restoreAnswer, restoreExit}
 use Rattle.ledger.specs.First.{first}
 use Rattle.ledger.specs.House.{house}
-use Rattle.ledger.proofs.Codecs.{numbered-suc}
-use Rattle.ledger.proofs.Judging.{step-accepted}
-use Rattle.ledger.proofs.Walking.{restore-done, restore-back}
-use Rattle.ledger.proofs.Answering.{leaves-found, leaves-written}
-use Rattle.ledger.proofs.Restoring.{restore-parts, restored-long}
-use Rattle.ledger.proofs.House.{house-first}
+use Rattle.ledger.proofs.records.Codecs.{numbered-suc}
+use Rattle.ledger.proofs.records.Judging.{step-accepted}
+use Rattle.ledger.proofs.records.Walking.{restore-done, restore-back}
+use Rattle.ledger.proofs.answers.Answering.{leaves-found, leaves-written}
+use Rattle.ledger.proofs.calls.Restoring.{restore-parts, restored-long}
+use Rattle.ledger.proofs.house.House.{house-first}
 use Rattle.plane.specs.Stored.{storedOld}
 use Rattle.plane.proofs.UndoLaws.{stored-before, before-accepted}
 use Rattle.editor.specs.Views.{also}

@@ -10,7 +10,7 @@ use native.Mathlib.Omega.{arith}
 use lib.ListN.{length, take}
 use Rattle.format.specs.Words.{Bytes}
 use Rattle.format.specs.Answers.{Done, accepted, refused, andThen}
-use Rattle.format.proofs.WordLaws.{below-drop}
+use Rattle.format.proofs.items.WordLaws.{below-drop}
 use Rattle.ledger.specs.Formats as formats
 use Rattle.ledger.specs.Formats.{Entry}
 use Rattle.ledger.specs.Records.{lengthIn, countIn, totalIn, entryOf, numbered, entriesTo, entriesIn, recordVerdict}
@@ -21,9 +21,9 @@ use Rattle.ledger.specs.First.{first}
 use Rattle.ledger.specs.House.{house}
 use Rattle.ledger.specs.Layout.{totalLength}
 use Rattle.ledger.specs.Reasons.{cut}
-use Rattle.ledger.proofs.Backward.{restored-first}
-use Rattle.ledger.proofs.House.{house-first}
-use Rattle.ledger.proofs.HouseDemand3 as house3
+use Rattle.ledger.proofs.histories.Backward.{restored-first}
+use Rattle.ledger.proofs.house.House.{house-first}
+use Rattle.ledger.proofs.front.HouseDemand3 as house3
 use Rattle.plane.specs.declared.answers.Record.{Record}
 use Rattle.plane.specs.declared.answers.RecordFound.{RecordFound}
 use Rattle.plane.specs.declared.answers.RecordFound.the-variants as records

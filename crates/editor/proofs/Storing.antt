@@ -12,7 +12,7 @@ use Rattle.format.specs.Words.{bytes}
 use Rattle.ledger.specs.Formats.{Entry}
 use Rattle.ledger.specs.Records.{entryBytes}
 use Rattle.ledger.specs.First.{first}
-use Rattle.ledger.proofs.Stores.{sets-whole, part-stores}
+use Rattle.ledger.proofs.records.Stores.{sets-whole, part-stores}
 
 -- from word i on, the words ws are left to store in buf, and that makes `all`
 pub record Left (at : ℕ) (ws buf : List ℕ) (i : ℕ) (all : List ℕ) : Type 0 where

@@ -11,7 +11,7 @@ use Rattle.format.specs.Items.{Token, flawed}
 use Rattle.format.specs.Rules.{check}
 use Rattle.format.specs.Writing.{Partial, partialVerdict, addChecked, addAnswer, addLeft}
 use Rattle.format.specs.PartialSteps.{PartialOverview, partialReadOf}
-use Rattle.format.proofs.PartialJudging.{add-refused, contained}
+use Rattle.format.proofs.reader.PartialJudging.{add-refused, contained}
 use Rattle.exports.specs.declared.answers.PlaneItem.{PlaneItem}
 use Rattle.exports.specs.declared.answers.PlaneWritten.{PlaneWritten}
 use Rattle.exports.specs.Flat.{flatWritten}

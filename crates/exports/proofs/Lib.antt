@@ -1,6 +1,6 @@
+pub mod front
 pub mod TextLaws
 pub mod GivenLaws
 pub mod NumberLaws
 pub mod Unique
-pub mod Exports
 pub mod Once

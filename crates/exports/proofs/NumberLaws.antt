@@ -19,13 +19,13 @@ use Rattle.format.specs.Steps.{readOf}
 use Rattle.format.specs.Questions.{nth, itemAt, shownAt, present, events, pickNth, eventAt, until, past, isChannel, isHistogram, channelIn, samplesAt, countsAt, done}
 use Rattle.format.specs.Writing.{partialVerdict, beginAnswer, addAnswer, closeAnswer}
 use Rattle.format.specs.WriterCases.{oneOf, handed}
-use Rattle.format.proofs.Refusals.{places}
-use Rattle.format.proofs.Writing.{partial-list, begin-list, add-list, close-list}
+use Rattle.format.proofs.front.Refusals.{places}
+use Rattle.format.proofs.front.Writing.{partial-list, begin-list, add-list, close-list}
 use Rattle.ledger.specs.Formats.{Correction}
 use Rattle.ledger.specs.Calls.{recordAnswer, entryAnswer, openAnswer, editAnswer, restoreAnswer}
 use Rattle.ledger.specs.First.{first}
 use Rattle.ledger.specs.House.{house, house-judge}
-use Rattle.ledger.proofs.Refusals as ledger
+use Rattle.ledger.proofs.answers.Refusals as ledger
 use Rattle.exports.specs.declared.answers.PlaneItem.{PlaneItem}
 use Rattle.exports.specs.declared.answers.PlaneCorrection.{PlaneCorrection}
 use Rattle.exports.specs.Given.{asked, begun, said, tokenOf}

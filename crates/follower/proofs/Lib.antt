@@ -1,5 +1,5 @@
+pub mod front
 pub mod LineLaws
 pub mod LossLaws
 pub mod SenderLaws
 pub mod Unique
-pub mod Sequence

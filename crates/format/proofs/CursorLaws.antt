@@ -20,16 +20,16 @@ use Rattle.format.specs.Frames.{Frame, behind, Allowed, Sound, startWord
 use Rattle.format.specs.Steps.{tokenAt, nextAt, rest}
 use Rattle.format.specs.Questions.{Found, Shown, shown}
 use Rattle.format.specs.Cursor.{standingBy, standingAt, shownBy, unshown, wholes, itemsFrom, Meets, ended, met, On}
-use Rattle.format.proofs.PrefixLaws.{and-left, and-right, and-both}
-use Rattle.format.proofs.WordLaws.{words-bytes, words-below, below-take, below-drop}
-use Rattle.format.proofs.ItemLaws.{read-written, written-read}
-use Rattle.format.proofs.WalkLaws.{allowed-fits}
-use Rattle.format.proofs.SoundLaws.{behind-append, sound-right, sound-head, sound-tail}
-use Rattle.format.proofs.StepLaws.{rest-at, Next, next-at}
-use Rattle.format.proofs.TurnLaws.{Stands, alone, bin-there, start-there, end-there, end-broken}
-use Rattle.format.proofs.ItemQuestions.{no-some, some-is, some-word, all-words}
-use Rattle.format.proofs.PutLaws.{length-encode}
-use Rattle.format.proofs.Acceptance.{sound}
+use Rattle.format.proofs.book.PrefixLaws.{and-left, and-right, and-both}
+use Rattle.format.proofs.items.WordLaws.{words-bytes, words-below, below-take, below-drop}
+use Rattle.format.proofs.items.ItemLaws.{read-written, written-read}
+use Rattle.format.proofs.verdict.WalkLaws.{allowed-fits}
+use Rattle.format.proofs.rules.SoundLaws.{behind-append, sound-right, sound-head, sound-tail}
+use Rattle.format.proofs.reader.StepLaws.{rest-at, Next, next-at}
+use Rattle.format.proofs.reader.TurnLaws.{Stands, alone, bin-there, start-there, end-there, end-broken}
+use Rattle.format.proofs.questions.ItemQuestions.{no-some, some-is, some-word, all-words}
+use Rattle.format.proofs.spots.PutLaws.{length-encode}
+use Rattle.format.proofs.verdict.Acceptance.{sound}
 
 -- ---- an item stands where the words before it end
 

@@ -1,4 +1,4 @@
--- A word's class by prefixes of varying length, tried in the table's order: for any table and any kind of class. The laws are in proofs/PrefixLaws.
+-- A word's class by prefixes of varying length, tried in the table's order: for any table and any kind of class. The laws are in proofs/book/PrefixLaws.
 -- Assumes nothing.
 use mathlib.Core.Bool.{Bool, true, not, _&&_}
 use mathlib.Core.List.{List, [], _∷_}

@@ -1,5 +1,5 @@
 -- What a scan of an accepted frame notes where an item begins: the word of the header that the item stands under, by its index. The rules of a
--- frame are not asked again. That spots and headers are what this and the cursor tell is in proofs/ScanLaws.
+-- frame are not asked again. That spots and headers are what this and the cursor tell is in proofs/spots/ScanLaws.
 -- Assumes nothing.
 use Prim.Native.Nat.{ℕ, zero, suc, _+_}
 use mathlib.Core.List.{List, [], _∷_}

@@ -1,5 +1,5 @@
 -- What stands where in a frame's items, said by splitting the list and with no word of how it is looked up (document 01, "Reading and writing
--- items"). The questions answer exactly this: proofs/Questions.
+-- items"). The questions answer exactly this: proofs/front/Questions.
 -- Assumes nothing.
 use Prim.Native.Nat.{ℕ, _+_, _<_, _≤_}
 use mathlib.Core.Path.{_≡_}

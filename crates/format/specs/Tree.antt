@@ -1,5 +1,5 @@
 -- A frame's items as a tree: a second writing of place, value and order, with limits of its own, apart from the one in Rules and Items (document
--- 01, "Shape of a frame"). That the two say the same is proved in proofs/Tree.
+-- 01, "Shape of a frame"). That the two say the same is proved in proofs/front/Tree.
 -- Assumes nothing.
 use Prim.Native.Nat.{ℕ, suc, _+_, _*_, _^_, _<_, _≤_}
 use mathlib.Core.Path.{_≡_}

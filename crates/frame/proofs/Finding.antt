@@ -14,11 +14,11 @@ use Rattle.format.specs.Stands as stands
 use Rattle.format.specs.Stands.{ItemIs}
 use Rattle.format.specs.Steps.{tokenAt, nextAt, indexOf}
 use Rattle.format.specs.Questions.{shown, Found, itemAt, Shown, shownAt, textFound, textAt}
-use Rattle.format.proofs.WordLaws.{length-words}
-use Rattle.format.proofs.StepLaws.{next-at}
-use Rattle.format.proofs.ItemQuestions.{item-there}
-use Rattle.format.proofs.Placed.{index-refused, found-placed}
-use Rattle.format.proofs.TextPlaced.{texted}
+use Rattle.format.proofs.items.WordLaws.{length-words}
+use Rattle.format.proofs.reader.StepLaws.{next-at}
+use Rattle.format.proofs.questions.ItemQuestions.{item-there}
+use Rattle.format.proofs.reader.Placed.{index-refused, found-placed}
+use Rattle.format.proofs.reader.TextPlaced.{texted}
 use Rattle.frame.specs.Parts.{textCount, fromFound, textFrom}
 
 -- ---- the item question

@@ -11,7 +11,7 @@ use Rattle.format.specs.Answers.{Outcome, accepted, refused}
 use Rattle.format.specs.Rules.{Kind}
 use Rattle.format.specs.Frames.{lastOf, headFault, kindIn, cardIn}
 use Rattle.format.specs.Steps.{endedBy, Summary, summed, readOf, Indexed, indexOf}
-use Rattle.format.proofs.JudgeLaws.{walk-refused, Told, told, still-open, all-read, read-index}
+use Rattle.format.proofs.reader.JudgeLaws.{walk-refused, Told, told, still-open, all-read, read-index}
 use Rattle.frame.specs.Views.{endingOf}
 
 module _ (s : List ℕ) (n : ℕ) (e : 0 ≡ headFault s) (kind : Kind) (card last : ℕ) (k : kind ≡ kindIn s) (c : card ≡ cardIn s) (l : last ≡ lastOf s)

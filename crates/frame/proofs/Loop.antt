@@ -14,7 +14,7 @@ use Rattle.format.specs.Answers.{Outcome, accepted, refused}
 use Rattle.format.specs.Rules.{Kind, dataKind, monitorKind, commandKind, Where, outside, unheaded, commands}
 use Rattle.format.specs.Steps.{St, start, Stepped, moved, stopped, stepOf, Summary, summed}
 use Rattle.frame.specs.Runs.{onward, turnsOf}
-use Rattle.format.proofs.StepLaws.{Going, going-start, going-moved, going-stopped, going-end}
+use Rattle.format.proofs.reader.StepLaws.{Going, going-start, going-moved, going-stopped, going-end}
 
 -- two kinds with one first state are one
 start-one : (j k : Kind) → start j ≡ start k → j ≡ k

@@ -10,7 +10,7 @@ use Rattle.format.specs.Frames.{kindIn, cardIn}
 use Rattle.format.specs.Steps.{Summary, summed}
 use Rattle.format.specs.Writing.{partialFault}
 use Rattle.format.specs.PartialSteps.{PartialOverview, partialReadOf}
-use Rattle.format.proofs.PartialJudging.{partial-summed}
+use Rattle.format.proofs.reader.PartialJudging.{partial-summed}
 
 module _ (buf : List ℕ) (n : ℕ) (e : 0 ≡ partialFault buf n) (kind : Kind) (card : ℕ) (k : kind ≡ kindIn buf) (c : card ≡ cardIn buf)
     (o : Outcome Summary) (f : o ≡ summed kind card buf (n / 2) 0) where

@@ -8,12 +8,12 @@ use native.Mathlib.Omega.{arith}
 use lib.ListN.{length}
 use lib.Dec.{leb, ltb, eqb}
 use borrow.Author.Tests.{le-leb, lt-ltb, ne-eqb, eqb-true}
-use Rattle.format.proofs.PrefixLaws.{and-left, and-right}
+use Rattle.format.proofs.book.PrefixLaws.{and-left, and-right}
 use Rattle.format.specs.Words.{wordAt, longAt}
 use Rattle.format.specs.Items.{inRange, whole, Sample, Bin, HitCount}
 use Rattle.format.specs.Rules.{Where, inside, afterSample, headed}
 use Rattle.format.specs.Steps.{St, Stepped, moved, marked, checkBy, stepOf}
-use Rattle.format.proofs.RangeLaws.{bin-is, sample-is, hits-is}
+use Rattle.format.proofs.book.RangeLaws.{bin-is, sample-is, hits-is}
 use Rattle.book.specs.Fields.{hitsOf, hitsItem}
 use Rattle.book.specs.declared.items.HitCount as hc
 use Rattle.frame.specs.Runs.{onward, turnsOf, Turns, Ran}

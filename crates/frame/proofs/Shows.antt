@@ -14,9 +14,9 @@ use Rattle.format.specs.Items.{Channel, Histogram, HitCount, Sample, Bin, LastC
 use Rattle.format.specs.Frames.{lastOf}
 use Rattle.format.specs.Questions.{shown}
 use Rattle.format.specs.Cursor.{standingBy, standingAt, shownBy}
-use Rattle.format.proofs.TurnLaws.{Stands, alone, not-there, no-class, bin-there, start-there, end-there, end-broken, text-there, text-broken}
-use Rattle.format.proofs.TextPlaced.{texted}
-use Rattle.format.proofs.PartLaws.{payload-bytes}
+use Rattle.format.proofs.reader.TurnLaws.{Stands, alone, not-there, no-class, bin-there, start-there, end-there, end-broken, text-there, text-broken}
+use Rattle.format.proofs.reader.TextPlaced.{texted}
+use Rattle.format.proofs.items.PartLaws.{payload-bytes}
 use Rattle.format.proofs.CursorLaws.{within-bytes, standing-in, standing-flawed}
 use Rattle.book.specs.Fields.{channelOf, histogramOf, hitsOf, cellOf, channelItem, histogramItem, hitsItem, cellItem}
 use Rattle.book.specs.declared.items.Channel as ch

@@ -8,16 +8,16 @@ use native.Mathlib.Omega.{arith}
 use lib.ListN.{length, take, drop, length-take}
 use lib.Dec.{leb, eqb}
 use borrow.Author.Tests.{eqb-true, eqb-false, le-leb, lt-ltb}
-use Rattle.format.proofs.PrefixLaws.{and-left, and-right, and-both}
-use Rattle.format.proofs.WordLaws.{below-drop, below-take}
-use Rattle.format.proofs.TextLaws.{bytes-are}
-use Rattle.format.proofs.PartLaws.{payload-bytes}
+use Rattle.format.proofs.book.PrefixLaws.{and-left, and-right, and-both}
+use Rattle.format.proofs.items.WordLaws.{below-drop, below-take}
+use Rattle.format.proofs.items.TextLaws.{bytes-are}
+use Rattle.format.proofs.items.PartLaws.{payload-bytes}
 use Rattle.format.specs.Words.{Bytes, words, bytes, wordAt, longAt, timeAt, nonZero, allZero}
 use Rattle.format.specs.Book.{Class, channel, histogram, hitCount, sample, bin, lastCell, timeBin, dataFrame, monitorFrame, commandFrame, text, startEvent, endEvent, frameEnd, unassigned, classOf, after, assigned, textWords}
 use Rattle.format.specs.Items.{Item, Channel, Histogram, HitCount, Sample, Bin, LastCell, TimeBin, Text, StartEvent, EndEvent, inRange, closed, decode, Token, whole, broken, flawed, tokenFor}
 use Rattle.format.specs.Rules.{Where, outside, inside, afterChannel, afterTime, afterSample, unheaded, headed, commands, allowed, among, bad}
 use Rattle.format.specs.Steps.{St, placeBy, checkBy, Stepped, stopped, marked, stepOf}
-use Rattle.format.proofs.TurnLaws.{Stands, step-at, stop-at, alone, no-class, not-there, bin-there, start-there, end-there, end-broken, text-there, text-broken}
+use Rattle.format.proofs.reader.TurnLaws.{Stands, step-at, stop-at, alone, no-class, not-there, bin-there, start-there, end-there, end-broken, text-there, text-broken}
 use Rattle.frame.specs.Views.{tested, endTested, textTested}
 use Rattle.book.specs.Fields.{channelOf, histogramOf, hitsOf, cellOf, channelItem, histogramItem, hitsItem, sampleItem, cellItem, timeItem}
 use Rattle.book.specs.declared.items.Channel as ch

@@ -18,9 +18,9 @@ use Rattle.ledger.specs.Records.{lengthIn, countIn, totalIn, frameIn, entryOf, 
 use Rattle.ledger.specs.Calls.{Summary, recordAnswer}
 use Rattle.ledger.specs.First.{first}
 use Rattle.ledger.specs.House.{house}
-use Rattle.ledger.proofs.Headers.{header-words, few-entries}
-use Rattle.ledger.proofs.Judging.{verdict-parts}
-use Rattle.ledger.proofs.FirstLaws.{first-lawful}
+use Rattle.ledger.proofs.records.Headers.{header-words, few-entries}
+use Rattle.ledger.proofs.records.Judging.{verdict-parts}
+use Rattle.ledger.proofs.house.FirstLaws.{first-lawful}
 use Rattle.plane.proofs.RecordLaws.{judge-refused, frame-part, room, told}
 use Rattle.lines.specs.Listing.{frameLine, changeText, signerText, entryLine, endLine, refusedLine, entryLines, frameOf, listingOf, listing, listingAnswer, listingExit}
 use Rattle.lines.specs.Writes.{Put, Known}

@@ -8,7 +8,7 @@ use native.Mathlib.Omega.{arith}
 use lib.ListN.{length, take, drop, set, length-append}
 use lib.Seq.{sets}
 use borrow.Rule.Slice.PartMut.{putMid}
-use Rattle.ledger.proofs.Stores.{part-stores}
+use Rattle.ledger.proofs.records.Stores.{part-stores}
 use Rattle.io.specs.Digits.{digits, Fewest}
 use Rattle.lines.specs.Text.{decimal}
 use Rattle.lines.specs.Writes.{Put}

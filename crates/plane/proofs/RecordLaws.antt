@@ -17,9 +17,9 @@ use Rattle.format.specs.Frames.{Frame, verdict}
 use Rattle.format.specs.Steps.{Overview, overview, readOf}
 use Rattle.format.specs.Questions.{done}
 use Rattle.format.specs.Spots.{Header, spot, headed, legalValue}
-use Rattle.format.proofs.PrefixLaws.{and-left, and-right}
-use Rattle.format.proofs.WordLaws.{below-drop, below-take}
-use Rattle.format.proofs.PutLaws.{spot-refused}
+use Rattle.format.proofs.book.PrefixLaws.{and-left, and-right}
+use Rattle.format.proofs.items.WordLaws.{below-drop, below-take}
+use Rattle.format.proofs.spots.PutLaws.{spot-refused}
 use Rattle.ledger.specs.Tests.{all}
 use Rattle.ledger.specs.Frames.{Accepted}
 use Rattle.ledger.specs.Formats.{Entry}
@@ -28,8 +28,8 @@ use Rattle.ledger.specs.Calls.{Summary, recordAnswer, entryAnswer}
 use Rattle.ledger.specs.Judged.{Judged, judgedAt}
 use Rattle.ledger.specs.First.{first}
 use Rattle.ledger.specs.House.{house, house-judge}
-use Rattle.ledger.proofs.Headers.{header-words}
-use Rattle.ledger.proofs.Judging.{verdict-parts, parts-verdict, frame-refused}
+use Rattle.ledger.proofs.records.Headers.{header-words}
+use Rattle.ledger.proofs.records.Judging.{verdict-parts, parts-verdict, frame-refused}
 use Rattle.plane.specs.Views.{unfit, toldBy}
 use Rattle.plane.specs.Stored.{stored, storedOld}
 

@@ -22,13 +22,13 @@ use Rattle.format.specs.Questions.{done, shown}
 use Rattle.format.specs.Cursor.{standingAt, shownBy, On}
 use Rattle.format.specs.Spots.{Header, noHeader, Spot, spotOf, under, spot}
 use Rattle.format.specs.Scans.{headBy, head, headerBy, headerAt}
-use Rattle.format.proofs.RangeLaws.{bin-is, sample-is, hits-is, histogram-is, channel-is}
-use Rattle.format.proofs.HeadLaws.{head-of}
+use Rattle.format.proofs.book.RangeLaws.{bin-is, sample-is, hits-is, histogram-is, channel-is}
+use Rattle.format.proofs.verdict.HeadLaws.{head-of}
 use Rattle.format.proofs.CursorLaws.{last-is, Turn, answered, nothing-answered, channel-turn, histogram-turn, hits-turn, sample-turn, bin-turn}
-use Rattle.format.proofs.ScanLaws.{shown-head, shown-spot, Blank, Ahead, ahead-start, blank-first, Passed, pass, ahead-end}
+use Rattle.format.proofs.spots.ScanLaws.{shown-head, shown-spot, Blank, Ahead, ahead-start, blank-first, Passed, pass, ahead-end}
 use Rattle.ledger.specs.Frames.{Accepted}
 use Rattle.ledger.specs.House.{house, house-judge}
-use Rattle.ledger.proofs.House.{house-lawful}
+use Rattle.ledger.proofs.house.House.{house-lawful}
 use Rattle.book.specs.Views.{viewItem}
 use Rattle.book.specs.declared.items.Item as declared
 use Rattle.book.proofs.items.Item.{the-type}

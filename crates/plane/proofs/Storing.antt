@@ -11,7 +11,7 @@ use borrow.Author.Tests.{eq-eqb, ne-eqb}
 use lib.Dec.{eqb}
 use Rattle.format.specs.Words.{pick, bytes}
 use Rattle.format.specs.Spots.{legalValue, valueWord, valueWords}
-use Rattle.format.proofs.Stability.{legal-sample}
+use Rattle.format.proofs.front.Stability.{legal-sample}
 use Rattle.plane.specs.Stored.{stored}
 
 -- ---- a word

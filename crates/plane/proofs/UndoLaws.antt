@@ -20,10 +20,10 @@ use Rattle.format.specs.Questions.{Shown}
 use Rattle.format.specs.Cursor.{standingAt, shownBy}
 use Rattle.format.specs.Spots.{Header, noHeader, Spot, spotOf, underAll, spot, headed, put, legalValue}
 use Rattle.format.specs.Scans.{head, headerAt, headedBy, spotBy}
-use Rattle.format.proofs.PutLaws.{stands, put-stores}
-use Rattle.format.proofs.ItemQuestions.{no-some}
+use Rattle.format.proofs.spots.PutLaws.{stands, put-stores}
+use Rattle.format.proofs.questions.ItemQuestions.{no-some}
 use Rattle.format.proofs.CursorLaws.{next-there}
-use Rattle.format.proofs.ScanLaws.{headed-by, spot-by, put-heads}
+use Rattle.format.proofs.spots.ScanLaws.{headed-by, spot-by, put-heads}
 use Rattle.ledger.specs.Tests.{all}
 use Rattle.ledger.specs.Frames.{Accepted, Settable}
 use Rattle.ledger.specs.Formats.{Entry}
@@ -31,10 +31,10 @@ use Rattle.ledger.specs.Records.{lengthIn, entryOf, numbered, entriesTo, signed
 use Rattle.ledger.specs.Chains.{Fits}
 use Rattle.ledger.specs.First.{first}
 use Rattle.ledger.specs.House.{house, house-spot}
-use Rattle.ledger.proofs.Judging.{fits-right}
-use Rattle.ledger.proofs.Stores.{sets-whole}
-use Rattle.ledger.proofs.Walking.{judge-none, judge-back, judge-stop}
-use Rattle.ledger.proofs.House.{stands-there, house-lawful}
+use Rattle.ledger.proofs.records.Judging.{fits-right}
+use Rattle.ledger.proofs.records.Stores.{sets-whole}
+use Rattle.ledger.proofs.records.Walking.{judge-none, judge-back, judge-stop}
+use Rattle.ledger.proofs.house.House.{stands-there, house-lawful}
 use Rattle.plane.specs.Views.{unfit}
 use Rattle.plane.specs.Stored.{stored, Inside}
 use Rattle.plane.specs.Undoing.{Heads, Undoing}

@@ -14,8 +14,8 @@ use Rattle.format.specs.Rules.{dataKind, same}
 use Rattle.format.specs.Frames.{behind, lastOf}
 use Rattle.format.specs.Cursor.{standingAt, shownBy, unshown, itemsFrom, On}
 use Rattle.format.specs.Questions.{shown, until, past, isChannel}
-use Rattle.format.proofs.WordLaws.{word-below}
-use Rattle.format.proofs.BookLaws.{ranged, in-range}
+use Rattle.format.proofs.items.WordLaws.{word-below}
+use Rattle.format.proofs.book.BookLaws.{ranged, in-range}
 use Rattle.format.proofs.CursorLaws.{Turn, channel-turn, answered, run-out}
 use Rattle.book.specs.Fields.{channelOf}
 use Rattle.book.specs.declared.items.Channel as ch

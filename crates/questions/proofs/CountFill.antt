@@ -12,7 +12,7 @@ use Rattle.format.specs.Items.{Item, Channel, Histogram, HitCount, Sample, Bin,
 use Rattle.format.specs.Frames.{lastOf}
 use Rattle.format.specs.Cursor.{itemsFrom, On}
 use Rattle.format.specs.Questions.{fillCounts}
-use Rattle.format.proofs.BookLaws.{ranged, in-range}
+use Rattle.format.proofs.book.BookLaws.{ranged, in-range}
 use Rattle.format.proofs.CursorLaws.{Turn, turn, bin-turn, run-out}
 
 pub record Counting (s : List ℕ) (from : ℕ) (l₀ : List ℕ) (at : ℕ) (l : List ℕ) : Type 0 where

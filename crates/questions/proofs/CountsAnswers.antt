@@ -12,7 +12,7 @@ use Rattle.format.specs.Items.{Item}
 use Rattle.format.specs.Rules.{Kind, dataKind, monitorKind, commandKind}
 use Rattle.format.specs.Frames.{behind, verdict}
 use Rattle.format.specs.Questions.{present, past, isHistogram, done, cleared, fillCounts, countsAt, countsLeft, Counted}
-use Rattle.format.proofs.FillQuestions.{counts-of, counts-room, counts-refused}
+use Rattle.format.proofs.questions.FillQuestions.{counts-of, counts-room, counts-refused}
 use Rattle.format.specs.Cursor.{itemsFrom}
 use Rattle.format.proofs.CursorLaws.{on-sound}
 use Rattle.questions.specs.Sought.{Amid, HistogramAt, Filling}

@@ -12,8 +12,8 @@ use Rattle.format.specs.Rules.{Kind, dataKind, monitorKind, commandKind, first,
 use Rattle.format.specs.Frames.{behind, verdict}
 use Rattle.format.specs.Cursor.{itemsFrom}
 use Rattle.format.specs.Questions.{Event, Opened, endSize, events, pickNth, present, eventAt}
-use Rattle.format.proofs.SoundLaws.{no-starts}
-use Rattle.format.proofs.EventQuestions.{event-absent, event-of, event-refused}
+use Rattle.format.proofs.rules.SoundLaws.{no-starts}
+use Rattle.format.proofs.questions.EventQuestions.{event-absent, event-of, event-refused}
 use Rattle.format.proofs.CursorLaws.{on-sound}
 use Rattle.questions.specs.Sought.{Amid, openedAt, EventAt, eventIn}
 use Rattle.questions.proofs.Reading.{Accepted, items-first}

@@ -14,8 +14,8 @@ use Rattle.format.specs.Rules.{dataKind, same, first, gather}
 use Rattle.format.specs.Frames.{lastOf}
 use Rattle.format.specs.Cursor.{standingAt, shownBy, itemsFrom, On}
 use Rattle.format.specs.Questions.{Opened, opens, endSize, events, pickNth}
-use Rattle.format.proofs.ClassLaws.{same-class}
-use Rattle.format.proofs.SoundLaws.{Seen, starts, ends, other, seen}
+use Rattle.format.proofs.tree.ClassLaws.{same-class}
+use Rattle.format.proofs.rules.SoundLaws.{Seen, starts, ends, other, seen}
 use Rattle.format.proofs.CursorLaws.{Turn, start-turn, end-turn, answered, run-out}
 use Rattle.questions.specs.Sought.{Amid, startsEvent, endsEvent, openedAt, EventAt}
 use Rattle.questions.proofs.Turns.{starts-shown, ends-shown, amid-next, one-turn}

@@ -14,7 +14,7 @@ use Rattle.format.specs.Answers.{Outcome, accepted, refused, Done}
 use Rattle.format.specs.Items.{Item}
 use Rattle.format.specs.Frames.{Frame, verdict}
 use Rattle.format.specs.Questions.{done, samplesAt, countsAt, samplesLeft, countsLeft, Sampled, Counted}
-use Rattle.format.proofs.Questions.{samples-refused, samples-kept, samples-room, samples-exactly, samples-left, counts-refused, counts-kept, counts-room, counts-exactly, counts-left}
+use Rattle.format.proofs.front.Questions.{samples-refused, samples-kept, samples-room, samples-exactly, samples-left, counts-refused, counts-kept, counts-room, counts-exactly, counts-left}
 
 no-list : {A : Type 0} (n p : ℕ) (ys : List Item) → _≡_ {A = Outcome (List Item)} (refused n p) (accepted ys) → A
 no-list n p ys e = let z : _≡_ {A = ℕ} 0 1 = cc in absurd (omega arith)

@@ -10,7 +10,7 @@ use Rattle.format.specs.Items.{Item, Channel, Histogram, HitCount, Sample, Bin,
 use Rattle.format.specs.Rules.{Kind, dataKind, monitorKind, commandKind, same, place}
 use Rattle.format.specs.Frames.{Allowed, Sound}
 use Rattle.format.specs.Questions.{until, past, isHistogram}
-use Rattle.format.proofs.SoundLaws.{sound-head, sound-tail}
+use Rattle.format.proofs.rules.SoundLaws.{sound-head, sound-tail}
 use Rattle.questions.proofs.Turns.{never-in-data}
 
 -- ---- one item further

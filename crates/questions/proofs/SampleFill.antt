@@ -13,9 +13,9 @@ use Rattle.format.specs.Items.{Item, Channel, Histogram, HitCount, Sample, Bin,
 use Rattle.format.specs.Frames.{Sound, lastOf}
 use Rattle.format.specs.Cursor.{itemsFrom, On}
 use Rattle.format.specs.Questions.{fillSamples}
-use Rattle.format.proofs.BookLaws.{ranged, in-range}
-use Rattle.format.proofs.MarkLaws.{Rise}
-use Rattle.format.proofs.FillLaws.{sampleMarks, samples-rise}
+use Rattle.format.proofs.book.BookLaws.{ranged, in-range}
+use Rattle.format.proofs.questions.MarkLaws.{Rise}
+use Rattle.format.proofs.questions.FillLaws.{sampleMarks, samples-rise}
 use Rattle.format.proofs.CursorLaws.{Turn, turn, sample-turn, time-turn, run-out, on-sound}
 use Rattle.questions.specs.Sought.{Headed}
 

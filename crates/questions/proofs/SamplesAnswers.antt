@@ -12,7 +12,7 @@ use Rattle.format.specs.Items.{Item, Channel, Histogram, HitCount, Sample, Bin,
 use Rattle.format.specs.Rules.{Kind}
 use Rattle.format.specs.Frames.{verdict}
 use Rattle.format.specs.Questions.{Opened, events, pickNth, present, until, past, isChannel, done, cleared, fillSamples, channelIn, samplesAt, samplesLeft, Sampled}
-use Rattle.format.proofs.FillQuestions.{samples-of, samples-room, samples-refused}
+use Rattle.format.proofs.questions.FillQuestions.{samples-of, samples-room, samples-refused}
 use Rattle.format.specs.Cursor.{itemsFrom}
 use Rattle.questions.specs.Sought.{EventAt, ChannelFound, ChannelSought, SamplesSought, Filling}
 use Rattle.questions.specs.declared.answers.Place.{Place}

@@ -16,9 +16,9 @@ use Rattle.format.specs.Frames.{Frame, behind, lastOf}
 use Rattle.format.specs.Steps.{nextAt}
 use Rattle.format.specs.Cursor.{standingAt, shownBy, On}
 use Rattle.format.specs.Questions.{shown}
-use Rattle.format.proofs.BookLaws.{ranged}
-use Rattle.format.proofs.ClassLaws.{same-class}
-use Rattle.format.proofs.SoundLaws.{Plain, Seen, starts, ends, other, seen, monitor-place}
+use Rattle.format.proofs.book.BookLaws.{ranged}
+use Rattle.format.proofs.tree.ClassLaws.{same-class}
+use Rattle.format.proofs.rules.SoundLaws.{Plain, Seen, starts, ends, other, seen, monitor-place}
 use Rattle.format.proofs.CursorLaws.{Turn, turn, on-range, shown-class, answered, nothing-answered}
 use Rattle.questions.specs.Sought.{Amid, startsEvent, endsEvent}
 

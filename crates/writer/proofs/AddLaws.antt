@@ -9,7 +9,7 @@ use Rattle.format.specs.Items.{Text, Token, whole}
 use Rattle.format.specs.Steps.{checkBy}
 use Rattle.format.specs.Writing.{addAnswer, addLeft, Wrote}
 use Rattle.format.specs.PartialSteps.{PartialOverview, partialReadOf, Put, putAnswer, putLeft, PutWrote}
-use Rattle.format.proofs.PartialJudging.{add-refused, add-put, add-put-left}
+use Rattle.format.proofs.reader.PartialJudging.{add-refused, add-put, add-put-left}
 use Rattle.writer.specs.Views.{lengthOf}
 
 module _ (buf : List ℕ) (n : ℕ) where

@@ -17,9 +17,9 @@ use Rattle.format.specs.Frames.{startWord, allWords}
 use Rattle.format.specs.Steps.{endedBy}
 use Rattle.format.specs.Writing.{Partial, partialWords, partialFault, partialJudged, partialVerdict, beginAnswer, beginLeft, closeAnswer, closeLeft, Wrote}
 use Rattle.format.specs.PartialSteps.{PartialOverview, partialOverview, partialReadOf}
-use Rattle.format.proofs.PartialLaws.{Measured, measured-of, kept, then-kept, partial-head}
-use Rattle.format.proofs.PartialJudging.{close-state, close-refused}
-use Rattle.format.proofs.WriterLaws.{begin-accepted, close-accepted}
+use Rattle.format.proofs.writer.PartialLaws.{Measured, measured-of, kept, then-kept, partial-head}
+use Rattle.format.proofs.reader.PartialJudging.{close-state, close-refused}
+use Rattle.format.proofs.writer.WriterLaws.{begin-accepted, close-accepted}
 
 -- ---- begin
 

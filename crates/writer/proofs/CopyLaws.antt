@@ -25,12 +25,12 @@ use Rattle.format.specs.Stands.{indexOf}
 use Rattle.format.specs.Steps.{Overview, overview, readOf}
 use Rattle.format.specs.Runs.{Ran, ran}
 use Rattle.format.specs.Handing.{StandsFor, Answers, Call, handOver, callOf, writeCalls, CallsWrote}
-use Rattle.format.proofs.PrefixLaws.{and-left, and-right, and-both}
-use Rattle.format.proofs.WalkLaws.{allowed-fits}
-use Rattle.format.proofs.Acceptance.{exactly}
-use Rattle.format.proofs.ItemQuestions.{item-stands}
-use Rattle.format.proofs.HandingLaws.{shown-there}
-use Rattle.format.proofs.Demand2 as format2
+use Rattle.format.proofs.book.PrefixLaws.{and-left, and-right, and-both}
+use Rattle.format.proofs.verdict.WalkLaws.{allowed-fits}
+use Rattle.format.proofs.verdict.Acceptance.{exactly}
+use Rattle.format.proofs.questions.ItemQuestions.{item-stands}
+use Rattle.format.proofs.writer.HandingLaws.{shown-there}
+use Rattle.format.proofs.front.Demand2 as format2
 use Rattle.book.specs.declared.items.Item.{Item}
 use Rattle.book.specs.declared.refusal.Refusal.{Refusal}
 use Rattle.book.proofs.Unique.{same-item}

@@ -1,3 +1,4 @@
+pub mod front
 pub mod CallLaws
 pub mod StoreTurns
 pub mod PutLaws
@@ -7,4 +8,3 @@ pub mod Unique
 pub mod Promises
 pub mod RunLaws
 pub mod CopyLaws
-pub mod Demand2

@@ -16,8 +16,8 @@ use Rattle.format.specs.Writing.{beginAnswer, beginLeft, addAnswer, addLeft, cl
 use Rattle.format.specs.WriterCases.{oneOf, handed}
 use Rattle.format.specs.PartialSteps as steps
 use Rattle.format.specs.PartialSteps.{putAnswer, putLeft, PutWrote}
-use Rattle.format.proofs.Writing as front
-use Rattle.format.proofs.PutSteps as put
+use Rattle.format.proofs.front.Writing as front
+use Rattle.format.proofs.writer.PutSteps as put
 
 -- `add` hands over `given` of its item, `add_text` a whole Text: both are `handed` (format's `items-are-handed`)
 

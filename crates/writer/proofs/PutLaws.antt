@@ -17,9 +17,9 @@ use Rattle.format.specs.Rules.{Checked, good, bad}
 use Rattle.format.specs.Steps.{St, Stepped, moved, stopped, marked, placeBy, valueBy, sizedBy, orderBy, stateAfter, checkBy}
 use Rattle.format.specs.Writing.{given, tokenBytes}
 use Rattle.format.specs.PartialSteps.{Put, putChecked, putAnswer, putLeft, PutWrote}
-use Rattle.format.proofs.PrefixLaws.{and-left, and-right}
-use Rattle.format.proofs.TextLaws.{bytes-are}
-use Rattle.format.proofs.Book.{item-in-range}
+use Rattle.format.proofs.book.PrefixLaws.{and-left, and-right}
+use Rattle.format.proofs.items.TextLaws.{bytes-are}
+use Rattle.format.proofs.front.Book.{item-in-range}
 use Rattle.book.specs.Views.{viewItem}
 use Rattle.book.specs.Fields.{startWord, channelItem, histogramItem, hitsItem, sampleItem, binItem, cellItem, timeItem, startItem, endItem}
 use Rattle.book.specs.declared.items.Item as handed

@@ -12,7 +12,7 @@ use Rattle.format.specs.Writing.{beginAnswer, beginLeft, addAnswer, addLeft, cl
 use Rattle.format.specs.Runs.{ran, addAll}
 use Rattle.format.specs.Handing.{Told, Answers, tokenOfCall, callOf, writeCalls}
 use Rattle.format.specs.Handing as handing
-use Rattle.format.proofs.Completeness.{begin-on, begin-stops, add-on, add-stops, close-on}
+use Rattle.format.proofs.writer.Completeness.{begin-on, begin-stops, add-on, add-stops, close-on}
 use Rattle.frame.specs.declared.state.Kind.{Kind}
 use Rattle.frame.specs.Views.{viewKind, viewFoundItem}
 use Rattle.writer.specs.declared.answers.Written.{Written}

@@ -11,7 +11,7 @@ use lib.ListN.{length, getD, set, length-append}
 use lib.Seq.{sets}
 use borrow.Author.Tests.{eqb-true, eqb-false}
 use Rattle.format.specs.Words.{pick, Bytes, words, bytes, longWords}
-use Rattle.format.proofs.WordLaws.{bytes-append}
+use Rattle.format.proofs.items.WordLaws.{bytes-append}
 use Rattle.writer.specs.Views.{timeCut, finalZero, textBytes}
 
 pub sets-append : (b : List ℕ) (at : ℕ) (vs ws : List ℕ) → sets (sets b at vs) (at + length vs) ws ≡ sets b at (vs ++ ws)

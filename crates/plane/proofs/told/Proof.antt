@@ -1,7 +1,7 @@
 -- `plane::told` meets its contract.
 -- Assumes nothing.
 use native.Mathlib.Omega.{arith}
-use Rattle.ledger.proofs.House.{house-lawful}
+use Rattle.ledger.proofs.house.House.{house-lawful}
 use Rattle.plane.proofs.RecordLaws.{zeros}
 use borrow.Author.Needs.{needs}
 use Rattle.plane.proofs.told.Statement.{statement}

@@ -4,7 +4,7 @@ use mathlib.Core.Path.{sym}
 use lib.Dec.{lit<}
 use native.Mathlib.Omega.{arith}
 use borrow.Author.Needs.{needs}
-use Rattle.format.proofs.BookLaws.{in-range}
+use Rattle.format.proofs.book.BookLaws.{in-range}
 use Rattle.book.proofs.class.classify.Statement.{statement}
 use Rattle.book.proofs.class.classify.Tie as tie
 

@@ -3,7 +3,7 @@
 use Prim.Native.Nat.{_<_}
 use lib.Dec.{lit<}
 use native.Mathlib.Omega.{arith}
-use Rattle.format.proofs.BookLaws.{entry, no-entry}
+use Rattle.format.proofs.book.BookLaws.{entry, no-entry}
 use Rattle.book.proofs.class.classify_long.Statement.{statement}
 use Rattle.book.proofs.class.classify_long.Tie as tie
 

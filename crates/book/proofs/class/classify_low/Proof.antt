@@ -3,7 +3,7 @@
 use mathlib.Core.Path.{sym}
 use lib.Dec.{lit<}
 use native.Mathlib.Omega.{arith}
-use Rattle.format.proofs.BookLaws.{in-range}
+use Rattle.format.proofs.book.BookLaws.{in-range}
 use Rattle.book.proofs.class.classify_low.Statement.{statement}
 use Rattle.book.proofs.class.classify_low.Tie as tie
 

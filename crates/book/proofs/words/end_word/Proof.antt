@@ -3,7 +3,7 @@
 use denote.Ref.{now}
 use mathlib.Core.Path.{_∙_}
 use native.Mathlib.Omega.{arith}
-use Rattle.format.proofs.WordLaws.{word-past, word-half}
+use Rattle.format.proofs.items.WordLaws.{word-past, word-half}
 use borrow.Author.Needs.{needs}
 use Rattle.book.proofs.words.end_word.Statement.{statement}
 use Rattle.book.proofs.words.end_word.Tie as tie

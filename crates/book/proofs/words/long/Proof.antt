@@ -2,7 +2,7 @@
 -- Assumes nothing.
 use denote.Ref.{now}
 use native.Mathlib.Omega.{arith}
-use Rattle.format.proofs.WordLaws.{long-past}
+use Rattle.format.proofs.items.WordLaws.{long-past}
 use borrow.Author.Needs.{needs}
 use Rattle.book.proofs.words.long.Statement.{statement}
 use Rattle.book.proofs.words.long.Tie as tie

@@ -2,7 +2,7 @@
 -- Assumes nothing.
 use denote.Ref.{now}
 use native.Mathlib.Omega.{arith}
-use Rattle.format.proofs.WordLaws.{time-past}
+use Rattle.format.proofs.items.WordLaws.{time-past}
 use borrow.Author.Needs.{needs}
 use Rattle.book.proofs.words.time.Statement.{statement}
 use Rattle.book.proofs.words.time.Tie as tie

@@ -4,7 +4,7 @@ use mathlib.Core.Path.{refl, ap, sym, _∙_}
 use native.Mathlib.Omega.{arith}
 use lib.Dec.{lit<}
 use Rattle.format.specs.Cursor.{shownBy}
-use Rattle.format.proofs.BookLaws.{in-range}
+use Rattle.format.proofs.book.BookLaws.{in-range}
 use Rattle.format.proofs.CursorLaws.{standing-early, standing-late}
 use Rattle.frame.proofs.Shows.{sample-shown}
 use borrow.Author.Needs.{needs}

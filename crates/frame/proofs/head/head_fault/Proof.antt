@@ -6,7 +6,7 @@ use mathlib.Core.Bool.{true}
 use native.Mathlib.Omega.{arith}
 use Rattle.format.specs.Words.{wordAt}
 use Rattle.format.specs.Frames.{startFits}
-use Rattle.format.proofs.HeadTests.{odd, low, high, start-wrong, size-wrong, sequence-wrong, end-wrong, head-right}
+use Rattle.format.proofs.reader.HeadTests.{odd, low, high, start-wrong, size-wrong, sequence-wrong, end-wrong, head-right}
 use borrow.Author.Needs.{needs}
 use Rattle.frame.proofs.head.head_fault.Statement.{statement}
 use Rattle.frame.proofs.head.head_fault.Tie as tie

@@ -1,6 +1,6 @@
 -- `frame::head::is_start` meets its contract.
 -- Assumes nothing.
-use Rattle.format.proofs.HeadTests.{start-high}
+use Rattle.format.proofs.reader.HeadTests.{start-high}
 use Rattle.frame.proofs.head.is_start.Statement.{statement}
 use Rattle.frame.proofs.head.is_start.Tie as tie
 

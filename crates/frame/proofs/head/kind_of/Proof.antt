@@ -1,6 +1,6 @@
 -- `frame::head::kind_of` meets its contract.
 -- Assumes nothing.
-use Rattle.format.proofs.HeadTests.{kind-data, kind-monitor, kind-command}
+use Rattle.format.proofs.reader.HeadTests.{kind-data, kind-monitor, kind-command}
 use Rattle.frame.proofs.head.kind_of.Statement.{statement}
 use Rattle.frame.proofs.head.kind_of.Tie as tie
 

@@ -2,7 +2,7 @@
 -- Assumes nothing.
 use mathlib.Core.Path.{ap, sym, _∙_}
 use Rattle.format.specs.Questions.{present}
-use Rattle.format.proofs.Placed.{item-standing}
+use Rattle.format.proofs.reader.Placed.{item-standing}
 use Rattle.frame.specs.declared.cursor.Standing.{Standing}
 use Rattle.frame.specs.Views.{viewIndexed, viewStanding}
 use Rattle.frame.proofs.Finding.{shown-refused}

@@ -7,7 +7,7 @@ use native.Mathlib.Omega.{arith}
 use lib.Bits.{and-mask}
 use Rattle.format.specs.Book.{classOf}
 use Rattle.format.specs.Frames.{startFits, kindOf}
-use Rattle.format.proofs.PartialJudging.{fault-refused, started}
+use Rattle.format.proofs.reader.PartialJudging.{fault-refused, started}
 use Rattle.frame.specs.Views.{viewWalk}
 use Rattle.frame.proofs.PartialTurns.{stopped, ended}
 use borrow.Author.Needs.{needs}

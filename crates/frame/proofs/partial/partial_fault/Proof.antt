@@ -7,7 +7,7 @@ use native.Mathlib.Omega.{arith}
 use Rattle.format.specs.Words.{wordAt}
 use Rattle.format.specs.Frames.{startFits}
 use Rattle.format.specs.WriterCases.{partialLength}
-use Rattle.format.proofs.PartialJudging.{length-wrong, start-wrong, size-wrong, sequence-wrong, head-right}
+use Rattle.format.proofs.reader.PartialJudging.{length-wrong, start-wrong, size-wrong, sequence-wrong, head-right}
 use borrow.Author.Needs.{needs}
 use Rattle.frame.proofs.partial.partial_fault.Statement.{statement}
 use Rattle.frame.proofs.partial.partial_fault.Tie as tie

@@ -7,8 +7,8 @@ use native.Mathlib.Omega.{arith}
 use lib.Bits.{and-mask}
 use Rattle.format.specs.Book.{classOf}
 use Rattle.format.specs.Frames.{startFits, kindOf}
-use Rattle.format.proofs.HeadTests.{started}
-use Rattle.format.proofs.JudgeLaws.{head-refused}
+use Rattle.format.proofs.reader.HeadTests.{started}
+use Rattle.format.proofs.reader.JudgeLaws.{head-refused}
 use Rattle.frame.specs.Views.{viewWalk}
 use Rattle.frame.proofs.Judging.{stopped, ended}
 use borrow.Author.Needs.{needs}

@@ -1,0 +1,292 @@
+-- Demand 3 at the code, in the client's words, sentence by sentence: of the answers of `open`, `edit`, `restore`, `record` and `entry` and of the
+-- buffers that they leave, with corrections as the code has them. `Opened`, `Edited`, `Restored` (specs/Promises.antt), `Recorded` and `EntryTold`
+-- (specs/Sequences.antt) are what the functions' contracts say; each theorem stands on them and on one theorem of ledger's HouseDemand3. What a
+-- reason is stands in ledger's specs/Reasons.antt, how a record is laid out in its specs/Layout.antt.
+-- Assumes nothing.
+use Prim.Native.Nat.{ℕ, suc, _+_, _*_, _≤_, _<_}
+use mathlib.Core.Path.{_≡_, refl, sym, ap, ap₂, subst, _∙_}
+use mathlib.Core.Logic.{_↔_}
+use mathlib.Core.List.{List, [], _∷_, _++_, map, map-append}
+use mathlib.Core.Option.{some}
+use native.Mathlib.Omega.{arith}
+use lib.ListN.{length, getD, take, drop}
+use Rattle.format.specs.Words.{Bytes, wordAt}
+use Rattle.format.specs.Answers.{accepted}
+use Rattle.format.specs.Frames.{Frame, verdict}
+use Rattle.format.specs.Spots.{Spot, spot, put, revalued, withValue, SpotIs, withItems}
+use Rattle.ledger.specs.Formats as formats
+use Rattle.ledger.specs.Records.{lengthIn, entriesIn}
+use Rattle.ledger.specs.Calls.{entryFor, recordAnswer, entryAnswer, restoreAnswer, restoreExit}
+use Rattle.ledger.specs.Histories.{oldestFirst, frameAfter, entriesOf, recordAfter, acceptedEdits}
+use Rattle.ledger.specs.First.{first}
+use Rattle.ledger.specs.House.{house, Free}
+use Rattle.ledger.specs.Layout.{totalLength, frameOf, headerFor, entryWritten, historyWritten}
+use Rattle.ledger.specs.Reasons.{RecordRefused, OpenRefused, EditRefused, RestoreRefused, EntryRefused}
+use Rattle.ledger.proofs.calls.Restoring.{entry-above}
+use Rattle.ledger.proofs.front.HouseDemand3 as house3
+use Rattle.plane.specs.declared.answers.Record.{Record}
+use Rattle.plane.specs.declared.answers.RecordFound.{RecordFound}
+use Rattle.plane.specs.declared.answers.RecordFound.the-variants as records
+use Rattle.plane.specs.declared.answers.EntryFound.{EntryFound}
+use Rattle.plane.specs.declared.answers.EntryFound.the-variants as entries
+use Rattle.plane.proofs.Unique.{same-record, same-entry}
+use Rattle.editor.specs.declared.answers.Done.{Done}
+use Rattle.editor.specs.declared.answers.Done.the-variants as answer
+use Rattle.editor.specs.declared.editing.Correction.{Correction}
+use Rattle.editor.specs.Views.{viewDone, asked}
+use Rattle.editor.specs.Promises.{Opened, Edited, Restored}
+use Rattle.plane.specs.Promises.{Recorded, EntryTold}
+use Rattle.editor.specs.Sequences.{Calls, madeBy, corrected, entriesFor, correctionFor, Moment, AllGiven, Sequence}
+use Rattle.editor.proofs.CallLaws.{says-accepted, says-refused, after-calls, edits-of-calls, count-of-calls, asked-take, asked-nth, moment}
+use Rattle.editor.proofs.SequenceLaws as sequences
+use Rattle.editor.proofs.Effects as effects
+
+-- > "Put an accepted frame into a record with no history,"
+-- every byte: header, the frame, and the buffer's own beyond
+pub put-into-a-record : (f buf b : List ℕ) → Opened f buf (viewDone answer.Accepted) b → b ≡ headerFor (length f) 0 ++ (f ++ drop (16 + length f) buf)
+put-into-a-record f buf b o = o .left ∙ house3.put-into-a-record f buf (sym (o .answered))
+
+-- > "An accepted frame is refused a record only where the buffer is too short,"
+pub opened-exactly : (f buf : List ℕ) (g : Frame) → verdict f ≡ accepted g → (r : Done) (b : List ℕ) → Opened f buf (viewDone r) b
+    → (r ≡ answer.Accepted) ↔ (16 + length f ≤ length buf)
+opened-exactly f buf g v r b o =
+    let x = house3.opened-exactly f buf g v in
+    (λ e. x .0 (sym (o .answered) ∙ says-accepted r .0 e), λ h. says-accepted r .1 (o .answered ∙ x .1 h))
+
+-- every refusal of an opening: the frame's own, then 12; and it leaves the buffer as found
+pub opening-refused : (f buf : List ℕ) → Bytes f → (r : Done) (b : List ℕ) → Opened f buf (viewDone r) b
+    → (n p : ℕ) → (r ≡ answer.Refused (record { number = n; place = p })) ↔ OpenRefused f buf n p
+opening-refused f buf y r b o n p =
+    let x = house3.opening-refused f buf y n p in
+    (λ e. x .0 (sym (o .answered) ∙ says-refused r n p .0 e), λ h. says-refused r n p .1 (o .answered ∙ x .1 h))
+
+pub opening-leaves : (f buf : List ℕ) (n p : ℕ) (b : List ℕ) → Opened f buf (viewDone (answer.Refused (record { number = n; place = p }))) b → b ≡ buf
+opening-leaves f buf n p b = effects.open-untouched f buf n p b
+
+-- > "and an edit only for a listed reason;"
+-- of a record that `record` accepts: exactly where none of document 01's reasons forbids it (ledger's specs/House.antt, `Free`)
+pub edited-exactly : (b : List ℕ) → Bytes b → (x : Record) → Recorded b (records.Record x) → (c : Correction) (r : Done) (e : List ℕ)
+    → Edited b (asked c) (viewDone r) e → (r ≡ answer.Accepted) ↔ Free b (asked c)
+edited-exactly b y x v c r e o =
+    let h = house3.edited-exactly b (asked c) y refl (sequences.recorded b x v) in
+    (λ a. h .0 (sym (o .answered) ∙ says-accepted r .0 a), λ w. says-accepted r .1 (o .answered ∙ h .1 w))
+
+-- of any buffer: refused by n at p exactly where n is due, the first in the order record refusals, 22, 23, 24, 25, 12
+pub edit-refused : (b : List ℕ) → Bytes b → (c : Correction) (r : Done) (e : List ℕ) → Edited b (asked c) (viewDone r) e
+    → (n p : ℕ) → (r ≡ answer.Refused (record { number = n; place = p })) ↔ EditRefused b (asked c) n p
+edit-refused b y c r e o n p =
+    let x = house3.refused-by-the-first b y (asked c) refl n p in
+    (λ a. x .0 (sym (o .answered) ∙ says-refused r n p .0 a), λ h. says-refused r n p .1 (o .answered ∙ x .1 h))
+
+-- "some refused": such a call leaves every byte
+pub edit-leaves : (b : List ℕ) (c : Correction) (n p : ℕ) (e : List ℕ) → Edited b (asked c) (viewDone (answer.Refused (record { number = n; place = p }))) e → e ≡ b
+edit-leaves b c n p e = effects.edit-untouched b (asked c) n p e
+
+-- > "otherwise the edit puts the value asked for in the item asked for and nowhere else in the frame."
+module _ (b : List ℕ) (y : Bytes b) (c : Correction) (e : List ℕ) (o : Edited b (asked c) (viewDone answer.Accepted) e) where
+  -- there is such an item, in an accepted frame
+  pub item-asked : (f : Frame) × (verdict (frameOf b) ≡ accepted f) × ((p : Spot) × SpotIs (f .items) (c .word) p)
+  unfolding lengthIn
+  item-asked = house3.item-asked b (asked c) y (sym (o .answered))
+
+  -- the frame keeps kind, card, sequence word and items but for the value of the item at that word
+  pub value-put : (f : Frame) → verdict (frameOf b) ≡ accepted f → (p : Spot) (is : SpotIs (f .items) (c .word) p)
+      → verdict (frameOf e) ≡ accepted (withItems f (is .before ++ (withValue (is .item) (c .value) ∷ is .after)))
+  unfolding lengthIn
+  value-put f v p is = ap (λ (l : List ℕ). verdict (frameOf l)) (o .left) ∙ house3.value-put b (asked c) y (sym (o .answered)) f v p is
+
+  -- so the value asked for stands at that word, and every other Sample and Bin is as it was
+  pub value-there : (p : Spot) → spot (frameOf b) (c .word) ≡ some p → spot (frameOf e) (c .word) ≡ some (revalued p (c .value))
+  unfolding lengthIn
+  value-there p h = ap (λ (l : List ℕ). spot (frameOf l) (c .word)) (o .left) ∙ house3.value-there b (asked c) y (sym (o .answered)) p h
+
+  pub nowhere-else : (w : ℕ) → (w ≡ c .word → ⊥) → spot (frameOf e) w ≡ spot (frameOf b) w
+  unfolding lengthIn
+  nowhere-else w n = ap (λ (l : List ℕ). spot (frameOf l) w) (o .left) ∙ house3.nowhere-else b (asked c) y (sym (o .answered)) w n
+
+  -- every byte: header, the frame with the value put, the entries that stood, the new one, and the buffer's own beyond
+  pub edited-bytes : e
+      ≡ headerFor (wordAt b 3) (suc (wordAt b 5))
+      ++ (put (frameOf b) (c .word) (c .value)
+      ++ (take (16 * wordAt b 5) (drop (16 + wordAt b 3) b) ++ (entryWritten (entryFor house (frameOf b) (asked c)) ++ drop (totalLength b + 16) b)))
+  edited-bytes = o .left ∙ house3.edited-bytes b (asked c) y (sym (o .answered))
+
+-- the entry that a correction makes, by the item that stands there
+entry-at : (g : List ℕ) (c : Correction) (p : Spot) → spot g (c .word) ≡ some p
+    → entryFor house g (asked c)
+    ≡ record { word = c .word; kind = p .kind; old = p .value; new = c .value; operator = c .operator; reason = c .reason; extra = [] }
+unfolding house
+entry-at g c p h = rw h
+
+-- > "Put an accepted frame into a record with no history, then make any sequence of edit calls on it, some refused, with nothing else writing to it."
+-- the frame f opened in the buffer buf, which left b; then the corrections cs asked for, which were answered rs, and left e
+module _ (f buf : List ℕ) (y : Bytes f) (b : List ℕ) (o : Opened f buf (viewDone answer.Accepted) b) (cs : List Correction) (rs : List Done) (e : List ℕ) (k : Calls b cs rs e) where
+  after : e ≡ recordAfter house first f buf (map asked cs)
+  after = after-calls f buf b o k
+
+  edits : acceptedEdits house first f buf (map asked cs) ≡ map asked (madeBy cs rs)
+  edits = edits-of-calls f buf b o k
+
+  as-many : length (acceptedEdits house first f buf (map asked cs)) ≡ length (madeBy cs rs)
+  as-many = count-of-calls f buf b o k
+
+  -- `record` accepts what they leave, and tells its lengths and the count of the accepted edits
+  pub record-told : (r : RecordFound) → Recorded e r
+      → r ≡ records.Record (record { length = length f; count = length (madeBy cs rs); total = 16 + length f + 16 * length (madeBy cs rs) })
+  record-told r h =
+      same-record r _
+      (h ∙ ap (recordAnswer house first) after ∙ house3.record-told f buf y (sym (o .answered)) (map asked cs)
+      ∙ ap (λ (n : ℕ). accepted (record { length = length f; count = n; total = 16 + length f + 16 * n })) as-many)
+
+  -- every byte of the buffer: header, the frame with the accepted corrections made, their entries in order, and the caller's own beyond
+  pub whole-record : e
+      ≡ headerFor (length f) (length (madeBy cs rs))
+      ++ (corrected f (madeBy cs rs) ++ (historyWritten (entriesFor f (madeBy cs rs)) ++ drop (16 + length f + 16 * length (madeBy cs rs)) buf))
+  whole-record =
+      after ∙ house3.whole-record f buf y (sym (o .answered)) (map asked cs)
+      ∙ ap₂
+      (λ (m : List formats.Correction) (n : ℕ). headerFor (length f) n ++ (frameAfter house f m ++ (historyWritten (entriesOf house f m) ++ drop (16 + length f + 16 * n) buf)))
+      edits as-many
+
+  -- > "For every number k from 0 to the count of accepted edits, restoring to k, into a buffer with room, gives the exact frame that stood after
+  -- > the k-th accepted edit;"
+  -- there is a moment among the calls when n had been accepted; restoring to n is accepted and gives the frame that stood in the buffer then
+  pub moment-for-every-k : (n : ℕ) → n ≤ length (madeBy cs rs) → Moment b cs rs e n
+  moment-for-every-k = moment k
+
+  pub restores-what-stood : (n : ℕ) (M : Moment b cs rs e n) (out : List ℕ) (r : Done) (left : List ℕ) → Restored e n out (viewDone r) left → length f ≤ length out
+      → (r ≡ answer.Accepted) × (left ≡ frameOf (M .buffer) ++ drop (length f) out)
+  unfolding lengthIn
+  restores-what-stood n M out r left t l =
+      let q = house3.restores-what-stood f buf y (sym (o .answered)) (map asked (M .earlier)) (map asked (M .later)) out l in
+      let x : e ≡ recordAfter house first f buf (map asked (M .earlier) ++ map asked (M .later))
+      = after ∙ ap (recordAfter house first f buf) (ap (map asked) (M .all) ∙ map-append asked (M .earlier) (M .later)) in
+      let j : n ≡ length (acceptedEdits house first f buf (map asked (M .earlier))) = sym (count-of-calls f buf b o (M .before) ∙ M .count) in
+      let z = after-calls f buf b o (M .before) in (
+        says-accepted r .1 (t .answered ∙ ap₂ (λ (a : List ℕ) (i : ℕ). restoreAnswer house first a i out) x j ∙ q .0),
+        t .left ∙ ap₂ (λ (a : List ℕ) (i : ℕ). restoreExit house first a i out) x j ∙ q .1 ∙ ap (λ (a : List ℕ). frameOf a ++ drop (length f) out) (sym z),
+      )
+
+  -- the same in other words: the frame f with the first n accepted corrections made
+  pub restores-to : (n : ℕ) (out : List ℕ) (r : Done) (left : List ℕ) → Restored e n out (viewDone r) left → n ≤ length (madeBy cs rs) → length f ≤ length out
+      → (r ≡ answer.Accepted) × (left ≡ corrected f (take n (madeBy cs rs)) ++ drop (length f) out)
+  restores-to n out r left t h l =
+      let q = house3.restores-to-k f buf y (sym (o .answered)) (map asked cs) n out (subst (λ (m : ℕ). n ≤ m) (sym as-many) h) l in (
+        says-accepted r .1 (t .answered ∙ ap (λ (x : List ℕ). restoreAnswer house first x n out) after ∙ q .0),
+        t .left ∙ ap (λ (x : List ℕ). restoreExit house first x n out) after ∙ q .1
+            ∙ ap (λ (m : List formats.Correction). frameAfter house f m ++ drop (length f) out) (ap (take n) edits ∙ asked-take n (madeBy cs rs)),
+      )
+
+  -- > "k = 0 gives the frame as recorded."
+  pub restores-as-recorded : (out : List ℕ) (r : Done) (left : List ℕ) → Restored e 0 out (viewDone r) left → length f ≤ length out
+      → (r ≡ answer.Accepted) × (left ≡ f ++ drop (length f) out)
+  unfolding frameAfter
+  restores-as-recorded out r left t l = restores-to 0 out r left t (omega arith) l
+
+  -- above the count 26, into a buffer without room 12
+  pub no-such-edit : (n : ℕ) (out : List ℕ) (r : Done) (left : List ℕ) → Restored e n out (viewDone r) left → length (madeBy cs rs) < n
+      → r ≡ answer.Refused (record { number = 26; place = 0 })
+  no-such-edit n out r left t h =
+      says-refused r 26 0 .1
+      (t .answered ∙ ap (λ (x : List ℕ). restoreAnswer house first x n out) after
+      ∙ house3.no-entry f buf y (sym (o .answered)) (map asked cs) n out (subst (λ (m : ℕ). m < n) (sym as-many) h))
+
+  pub no-room : (n : ℕ) (out : List ℕ) (r : Done) (left : List ℕ) → Restored e n out (viewDone r) left → n ≤ length (madeBy cs rs) → length out < length f
+      → r ≡ answer.Refused (record { number = 12; place = 0 })
+  no-room n out r left t h l =
+      says-refused r 12 0 .1
+      (t .answered ∙ ap (λ (x : List ℕ). restoreAnswer house first x n out) after
+      ∙ house3.no-room f buf y (sym (o .answered)) (map asked cs) n out (subst (λ (m : ℕ). n ≤ m) (sym as-many) h) l)
+
+  -- > "The history holds those edits in order and nothing more."
+  -- the entries, oldest first, are those of the accepted corrections; `record` tells their count (above), `entry` the j-th, from 1, as it was asked,
+  -- with the kind and the value that stood there before it; and there is no other
+  pub history-in-order : oldestFirst (entriesIn first e) ≡ entriesFor f (madeBy cs rs)
+  history-in-order =
+      ap (λ (x : List ℕ). oldestFirst (entriesIn first x)) after
+      ∙ house3.history-in-order f buf y (sym (o .answered)) (map asked cs)
+      ∙ ap (entriesOf house f) edits
+
+  pub entry-asked : (j : ℕ) → j < length (madeBy cs rs) → (d : Correction) (r : EntryFound) → EntryTold e (suc j) r
+      → (p : Spot)
+      × (spot (corrected f (take j (madeBy cs rs))) (getD (madeBy cs rs) j d .word) ≡ some p)
+      × (r
+      ≡ entries.Entry (record {
+        word = getD (madeBy cs rs) j d .word;
+        kind = p .kind;
+        old = p .value;
+        new = getD (madeBy cs rs) j d .value;
+        operator = getD (madeBy cs rs) j d .operator;
+        reason = getD (madeBy cs rs) j d .reason;
+      }))
+  entry-asked j h d r t =
+      let l = subst (λ (m : ℕ). j < m) (sym as-many) h in
+      let m = ap (take j) edits ∙ asked-take j (madeBy cs rs) in
+      let c = ap (λ (m : List formats.Correction). getD m j (asked d)) edits ∙ asked-nth (madeBy cs rs) j d in
+      let s = house3.item-stood f buf y (sym (o .answered)) (map asked cs) j (asked d) l in
+      let q = ap₂ (λ (g : List formats.Correction) (x : formats.Correction). spot (frameAfter house f g) (x .word)) (sym m) (sym c) ∙ s .1 in (
+        s .0,
+        q,
+        same-entry r _
+            (t ∙ ap (λ (x : List ℕ). entryAnswer house first x (suc j)) after
+            ∙ house3.entry-asked f buf y (sym (o .answered)) (map asked cs) j (asked d) l
+            ∙ ap₂ (λ (g : List formats.Correction) (x : formats.Correction). accepted (entryFor house (frameAfter house f g) x)) m c
+            ∙ ap accepted (entry-at (corrected f (take j (madeBy cs rs))) (getD (madeBy cs rs) j d) (s .0) q)),
+      )
+
+  pub no-other-entry : (j : ℕ) → length (madeBy cs rs) < j → (r : EntryFound) → EntryTold e j r → r ≡ entries.Refused (record { number = 26; place = 0 })
+  no-other-entry j h r t =
+      let n = house3.history-count f buf y (sym (o .answered)) (map asked cs) in
+      same-entry r _
+      (t ∙ ap (λ (x : List ℕ). entryAnswer house first x j) after
+      ∙ entry-above house first _ j (house3.accepted-after f buf y (sym (o .answered)) (map asked cs)) (subst (λ (m : ℕ). m < j) (sym (n ∙ as-many)) h))
+
+-- every refusal of a restore, of any buffer: record refusals, 26, 12; and it leaves the second buffer as found
+pub restore-refused : (b : List ℕ) → Bytes b → (n : ℕ) (out : List ℕ) (r : Done) (left : List ℕ) → Restored b n out (viewDone r) left
+    → (m p : ℕ) → (r ≡ answer.Refused (record { number = m; place = p })) ↔ RestoreRefused b n out m p
+restore-refused b y n out r left t m p =
+    let x = house3.restore-refused b y n out m p in
+    (λ e. x .0 (sym (t .answered) ∙ says-refused r m p .0 e), λ h. says-refused r m p .1 (t .answered ∙ x .1 h))
+
+pub restore-leaves : (b : List ℕ) (n : ℕ) (out : List ℕ) (m p : ℕ) (left : List ℕ)
+    → Restored b n out (viewDone (answer.Refused (record { number = m; place = p }))) left → left ≡ out
+restore-leaves b n out m p left = effects.restore-untouched b n out m p left
+
+-- > "And a record is accepted exactly when some such sequence makes its bytes."
+pub accepted-exactly : (b : List ℕ) → Bytes b → (r : RecordFound) → Recorded b r → ((x : Record) × (r ≡ records.Record x)) ↔ Sequence b
+accepted-exactly b y r t = (
+  λ w. sequences.accepted-exactly b y .0 (sequences.recorded b (w .0) (subst (Recorded b) (w .1) t)),
+  λ S. sequences.recorded-back b r t (sequences.accepted-exactly b y .1 S),
+)
+
+-- more than that: opened in that very buffer, it leaves every byte of it
+pub made-again : (b : List ℕ) → Bytes b → (x : Record) → Recorded b (records.Record x) → (S : Sequence b) × (S .buffer ≡ b) × (S .left ≡ b)
+made-again b y x t = let v = sequences.recorded b x t in (sequences.has-sequence b y v, sequences.own-buffer b y v, sequences.own-left b y v)
+
+-- so calls on any accepted record follow such a sequence, and every sentence above holds of them too
+pub continued : (b : List ℕ) → Bytes b → (x : Record) → Recorded b (records.Record x) → (cs : List Correction) (rs : List Done) (e : List ℕ) → Calls b cs rs e → AllGiven cs
+    → Sequence e
+continued b y x t cs rs e k g = sequences.followed b y (sequences.recorded b x t) k g
+
+-- and no other frame and no other accepted corrections make it: these are the ones that its entries tell of
+pub the-only-ones : (b : List ℕ) (S T : Sequence b)
+    → (S .frame ≡ T .frame) × (madeBy (S .corrections) (S .answers) ≡ madeBy (T .corrections) (T .answers))
+the-only-ones b S T =
+    (sequences.only-frame b S ∙ sym (sequences.only-frame b T), sequences.only-corrections b S ∙ sym (sequences.only-corrections b T))
+
+pub told-by-entries : (b : List ℕ) (S : Sequence b) → madeBy (S .corrections) (S .answers) ≡ map correctionFor (oldestFirst (entriesIn first b))
+told-by-entries = sequences.only-corrections
+
+-- else `record` refuses by n at p exactly where n is due: 20, the frame's refusals, then 21 at the newest entry that does not fit; and `entry` as
+-- `record`, then by 26
+pub record-refused : (b : List ℕ) → Bytes b → (r : RecordFound) → Recorded b r
+    → (n p : ℕ) → (r ≡ records.Refused (record { number = n; place = p })) ↔ RecordRefused b n p
+record-refused b y r t n p =
+    let x = house3.refused-record b y n p in
+    (λ e. x .0 (sequences.recorded-refused b n p .0 (subst (Recorded b) e t)), λ h. same-record r _ (t ∙ sym (sequences.recorded-refused b n p .1 (x .1 h))))
+
+pub entry-refused : (b : List ℕ) → Bytes b → (j : ℕ) (r : EntryFound) → EntryTold b j r
+    → (n p : ℕ) → (r ≡ entries.Refused (record { number = n; place = p })) ↔ EntryRefused b j n p
+entry-refused b y j r t n p =
+    let x = house3.entry-refused b y j n p in
+    (λ e. x .0 (sym (subst (EntryTold b j) e t)), λ h. same-entry r _ (t ∙ x .1 h))

@@ -1,0 +1,2 @@
+-- Front page: what a caller of the static library may go by.
+pub mod Exports

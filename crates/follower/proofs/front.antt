@@ -1,0 +1,2 @@
+-- Front page: what is promised of sequence numbers.
+pub mod Sequence

@@ -1,0 +1,211 @@
+-- T6b. The rules of Rules and the trees of Tree say the same: a list of items is sound and ends outside an event exactly where it is the leaves of a
+-- lawful tree; and no two trees have the same leaves.
+-- Assumes nothing.
+use Prim.Native.Nat.{ℕ}
+use mathlib.Core.Path.{_≡_, refl, sym, ap, ap₂, subst, _∙_}
+use mathlib.Core.List.{List, [], _∷_}
+use mathlib.Core.Bool.{true, false, true≢false}
+use mathlib.Core.Logic.{_↔_}
+use native.Mathlib.Omega.{arith}
+use Rattle.format.specs.Book.{Class, sample, bin, timeBin}
+use Rattle.format.specs.Items.{Item, Channel, HitCount, LastCell, EndEvent}
+use Rattle.format.specs.Rules.{Kind, dataKind, monitorKind, commandKind, same, since, count, latest, mayEnd}
+use Rattle.format.specs.Frames.{Frame, behind, Sound, Legal}
+use Rattle.format.specs.Tree.{Run, run, Part, hits, cell, pulse, Event, event, Bar, bar, Pedestal, pedestal, Tree, ofSamples, ofRuns, ofParts, ofEvents, ofBars, ofPedestals, ofTexts, leaves, Shaped, Limited, Lawful}
+use Rattle.format.proofs.tree.Moves.{State, out, empty, texts, kindFor, Leaves, Moves}
+use Rattle.format.proofs.tree.SoundMoves.{sound-moves, moves-sound}
+use Rattle.format.proofs.tree.TreeMoves.{events-moves, monitor-moves, texts-moves, build}
+
+-- ---- no two trees have the same leaves: each level ends where an item of another class begins
+
+-- the first item is none of the class
+abbrev Off : Class → List Item → Type 0
+Off c xs = same c (latest xs) ≡ false
+
+differ : {A : Type 0} (c : Class) (xs ys : List Item) → Off c xs → same c (latest ys) ≡ true → xs ≡ ys → A
+differ c xs ys o s e = absurd (true≢false (sym s ∙ ap (λ (l : List Item). same c (latest l)) (sym e) ∙ o))
+
+same-samples : (vs vs′ : List ℕ) (xs xs′ : List Item) → Off sample xs → Off sample xs′ → ofSamples vs xs ≡ ofSamples vs′ xs′ → (vs ≡ vs′) × (xs ≡ xs′)
+unfolding ofSamples
+same-samples [] [] xs xs′ o o′ e = (refl, e)
+same-samples [] (v ∷ vs′) xs xs′ o o′ e = differ sample xs _ o refl e
+same-samples (v ∷ vs) [] xs xs′ o o′ e = differ sample xs′ _ o′ refl (sym e)
+same-samples (v ∷ vs) (v′ ∷ vs′) xs xs′ o o′ e =
+    let r : ofSamples vs xs ≡ ofSamples vs′ xs′ = cc in
+    let f : v ≡ v′ = cc in
+    let (g, h) = same-samples vs vs′ xs xs′ o o′ r in
+    (ap₂ _∷_ f g, h)
+
+runs-off : (rs : List Run) (xs : List Item) → Off sample xs → Off sample (ofRuns rs xs)
+unfolding ofRuns
+runs-off [] xs o = o
+runs-off (run t v vs ∷ rs) xs o = refl
+
+same-runs : (rs rs′ : List Run) (xs xs′ : List Item) → Off sample xs → Off sample xs′ → Off timeBin xs → Off timeBin xs′
+    → ofRuns rs xs ≡ ofRuns rs′ xs′ → (rs ≡ rs′) × (xs ≡ xs′)
+unfolding ofRuns
+same-runs [] [] xs xs′ o o′ t t′ e = (refl, e)
+same-runs [] (run u v vs ∷ rs′) xs xs′ o o′ t t′ e = differ timeBin xs _ t refl e
+same-runs (run u v vs ∷ rs) [] xs xs′ o o′ t t′ e = differ timeBin xs′ _ t′ refl (sym e)
+same-runs (run u v vs ∷ rs) (run u′ v′ vs′ ∷ rs′) xs xs′ o o′ t t′ e =
+    let r : ofSamples vs (ofRuns rs xs) ≡ ofSamples vs′ (ofRuns rs′ xs′) = cc in
+    let f : u ≡ u′ = cc in
+    let g : v ≡ v′ = cc in
+    let (i, j) = same-samples vs vs′ (ofRuns rs xs) (ofRuns rs′ xs′) (runs-off rs xs o) (runs-off rs′ xs′ o′) r in
+    let (k, l) = same-runs rs rs′ xs xs′ o o′ t t′ j in
+    (cc, l)
+
+parts-off : (c : Class) (ps : List Part) (z : ℕ) (xs : List Item) → Off c (HitCount 0 0 0 ∷ []) → Off c (LastCell 0 0 ∷ []) → Off c (Channel 0 0 0 ∷ []) → Off c (EndEvent 0 ∷ [])
+    → Off c (ofParts ps (EndEvent z ∷ xs))
+unfolding ofParts
+parts-off c [] z xs h l k e = e
+parts-off c (hits a₁ a₂ a₃ ∷ ps) z xs h l k e = h
+parts-off c (cell a₁ a₂ ∷ ps) z xs h l k e = l
+parts-off c (pulse a₁ a₂ a₃ r rs ∷ ps) z xs h l k e = k
+
+record SameBody (ps ps′ : List Part) (z z′ : ℕ) (xs xs′ : List Item) : Type 0 where
+  parts : ps ≡ ps′
+  size : z ≡ z′
+  rest : xs ≡ xs′
+
+no-body : {A : Type 0} → _≡_ {A = ℕ} 0 1 → A
+no-body e = absurd (omega arith)
+
+same-parts : (ps ps′ : List Part) (z z′ : ℕ) (xs xs′ : List Item) → ofParts ps (EndEvent z ∷ xs) ≡ ofParts ps′ (EndEvent z′ ∷ xs′) → SameBody ps ps′ z z′ xs xs′
+unfolding ofParts
+same-parts [] [] z z′ xs xs′ e = record { parts = refl; size = cc; rest = cc }
+same-parts [] (hits a₁ a₂ a₃ ∷ qs) z z′ xs xs′ e = no-body (cc)
+same-parts [] (cell a₁ a₂ ∷ qs) z z′ xs xs′ e = no-body (cc)
+same-parts [] (pulse a₁ a₂ a₃ r rs ∷ qs) z z′ xs xs′ e = no-body (cc)
+same-parts (hits a₁ a₂ a₃ ∷ ps) [] z z′ xs xs′ e = no-body (cc)
+same-parts (hits a₁ a₂ a₃ ∷ ps) (hits b₁ b₂ b₃ ∷ qs) z z′ xs xs′ e =
+    let h = same-parts ps qs z z′ xs xs′ (cc) in
+    let g = h .parts in
+    record { parts = cc; size = h .size; rest = h .rest }
+same-parts (hits a₁ a₂ a₃ ∷ ps) (cell b₁ b₂ ∷ qs) z z′ xs xs′ e = no-body (cc)
+same-parts (hits a₁ a₂ a₃ ∷ ps) (pulse b₁ b₂ b₃ r rs ∷ qs) z z′ xs xs′ e = no-body (cc)
+same-parts (cell a₁ a₂ ∷ ps) [] z z′ xs xs′ e = no-body (cc)
+same-parts (cell a₁ a₂ ∷ ps) (hits b₁ b₂ b₃ ∷ qs) z z′ xs xs′ e = no-body (cc)
+same-parts (cell a₁ a₂ ∷ ps) (cell b₁ b₂ ∷ qs) z z′ xs xs′ e =
+    let h = same-parts ps qs z z′ xs xs′ (cc) in
+    let g = h .parts in
+    record { parts = cc; size = h .size; rest = h .rest }
+same-parts (cell a₁ a₂ ∷ ps) (pulse b₁ b₂ b₃ r rs ∷ qs) z z′ xs xs′ e = no-body (cc)
+same-parts (pulse a₁ a₂ a₃ r rs ∷ ps) [] z z′ xs xs′ e = no-body (cc)
+same-parts (pulse a₁ a₂ a₃ r rs ∷ ps) (hits b₁ b₂ b₃ ∷ qs) z z′ xs xs′ e = no-body (cc)
+same-parts (pulse a₁ a₂ a₃ r rs ∷ ps) (cell b₁ b₂ ∷ qs) z z′ xs xs′ e = no-body (cc)
+same-parts (pulse a₁ a₂ a₃ r rs ∷ ps) (pulse b₁ b₂ b₃ r′ rs′ ∷ qs) z z′ xs xs′ e =
+    let (f, i) = same-runs (r ∷ rs) (r′ ∷ rs′) (ofParts ps (EndEvent z ∷ xs)) (ofParts qs (EndEvent z′ ∷ xs′))
+    (parts-off sample ps z xs refl refl refl refl) (parts-off sample qs z′ xs′ refl refl refl refl)
+    (parts-off timeBin ps z xs refl refl refl refl) (parts-off timeBin qs z′ xs′ refl refl refl refl) (cc) in
+    let h = same-parts ps qs z z′ xs xs′ i in
+    let g = h .parts in
+    record { parts = cc; size = h .size; rest = h .rest }
+
+same-events : (es es′ : List Event) → ofEvents es ≡ ofEvents es′ → es ≡ es′
+unfolding ofEvents
+same-events [] [] e = refl
+same-events [] (event t ts n ps z ∷ es′) e = no-body (cc)
+same-events (event t ts n ps z ∷ es) [] e = no-body (cc)
+same-events (event t ts n ps z ∷ es) (event t′ ts′ n′ ps′ z′ ∷ es′) e =
+    let h = same-parts ps ps′ z z′ (ofEvents es) (ofEvents es′) (cc) in
+    let g = same-events es es′ (h .rest) in
+    let i = h .parts in
+    let j = h .size in
+    cc
+
+same-bars : (bs bs′ : List Bar) (xs xs′ : List Item) → Off bin xs → Off bin xs′ → ofBars bs xs ≡ ofBars bs′ xs′ → (bs ≡ bs′) × (xs ≡ xs′)
+unfolding ofBars
+same-bars [] [] xs xs′ o o′ e = (refl, e)
+same-bars [] (bar b n ∷ bs′) xs xs′ o o′ e = differ bin xs _ o refl e
+same-bars (bar b n ∷ bs) [] xs xs′ o o′ e = differ bin xs′ _ o′ refl (sym e)
+same-bars (bar b n ∷ bs) (bar b′ n′ ∷ bs′) xs xs′ o o′ e =
+    let (f, g) = same-bars bs bs′ xs xs′ o o′ (cc) in
+    (cc, g)
+
+pedestals-off : (hs : List Pedestal) → Off bin (ofPedestals hs)
+unfolding ofPedestals
+pedestals-off [] = refl
+pedestals-off (pedestal a b c bs ∷ hs) = refl
+
+same-pedestals : (hs hs′ : List Pedestal) → ofPedestals hs ≡ ofPedestals hs′ → hs ≡ hs′
+unfolding ofPedestals
+same-pedestals [] [] e = refl
+same-pedestals [] (pedestal a b c bs ∷ hs′) e = no-body (cc)
+same-pedestals (pedestal a b c bs ∷ hs) [] e = no-body (cc)
+same-pedestals (pedestal a b c bs ∷ hs) (pedestal a′ b′ c′ bs′ ∷ hs′) e =
+    let (f, g) = same-bars bs bs′ (ofPedestals hs) (ofPedestals hs′) (pedestals-off hs) (pedestals-off hs′) (cc) in
+    let h = same-pedestals hs hs′ g in
+    cc
+
+same-texts : (ss ss′ : List (List ℕ)) → ofTexts ss ≡ ofTexts ss′ → ss ≡ ss′
+unfolding ofTexts
+same-texts [] [] e = refl
+same-texts [] (s ∷ ss′) e = no-body (cc)
+same-texts (s ∷ ss) [] e = no-body (cc)
+same-texts (s ∷ ss) (s′ ∷ ss′) e =
+    let g = same-texts ss ss′ (cc) in
+    cc
+
+pub one-tree : (kind : Kind) (t u : Tree kind) → leaves kind t ≡ leaves kind u → t ≡ u
+one-tree dataKind t u e = same-events t u e
+one-tree monitorKind t u e = same-pedestals t u e
+one-tree commandKind t u e = same-texts t u e
+
+-- ---- the two writings say the same
+
+-- where a frame of the kind begins
+abbrev begin : Kind → State
+begin dataKind = out
+begin monitorKind = empty
+begin commandKind = texts
+
+kind-back : (kind : Kind) → kindFor (begin kind) ≡ kind
+kind-back dataKind = refl
+kind-back monitorKind = refl
+kind-back commandKind = refl
+
+begins : (kind : Kind) (card : ℕ) → Leaves card [] (begin kind)
+unfolding since count
+begins dataKind card = refl
+begins monitorKind card = refl
+begins commandKind card = refl
+
+tree-moves : (kind : Kind) (tree : Tree kind) → Shaped kind tree → Moves (begin kind) (leaves kind tree)
+tree-moves dataKind es h = events-moves es h
+tree-moves monitorKind hs h = monitor-moves hs (h .0) (h .1)
+tree-moves commandKind ss h = texts-moves ss
+
+moves-tree : (kind : Kind) (xs : List Item) → Moves (begin kind) xs → (tree : Tree kind) × Shaped kind tree × (leaves kind tree ≡ xs)
+moves-tree dataKind xs ms = build xs out ms tt
+moves-tree monitorKind xs ms = let (hs, r, a, e) = build xs empty ms tt in (hs, (r, a), e)
+moves-tree commandKind xs ms = let (ss, e) = build xs texts ms tt in (ss, tt, e)
+
+pub record TreeOf (kind : Kind) (card : ℕ) (xs : List Item) : Type 0 where
+  pub tree : Tree kind
+  pub lawful : Lawful kind card tree
+  pub leaves-are : leaves kind tree ≡ xs
+
+-- the leaves of a lawful tree are sound, and end outside an event
+pub of-tree : (kind : Kind) (card : ℕ) (tree : Tree kind) → Lawful kind card tree → Sound kind card [] (leaves kind tree) × (mayEnd (behind [] (leaves kind tree)) ≡ true)
+of-tree kind card tree l =
+    let (s, e) = moves-sound card (leaves kind tree) (begin kind) (tree-moves kind tree (l .shaped)) [] (begins kind card) (l .limited) in
+    (subst (λ (k : Kind). Sound k card [] (leaves kind tree)) (kind-back kind) s, e)
+
+-- and such a list is the leaves of a lawful tree
+pub tree-of : (kind : Kind) (card : ℕ) (xs : List Item) → Sound kind card [] xs → mayEnd (behind [] xs) ≡ true → TreeOf kind card xs
+tree-of kind card xs s e =
+    let (ms, r) = sound-moves card xs [] (begin kind) (begins kind card) (subst (λ (k : Kind). Sound k card [] xs) (sym (kind-back kind)) s) e in
+    let (t, h, l) = moves-tree kind xs ms in
+    record { tree = t; lawful = record { shaped = h; limited = subst (Limited card) (sym l) r }; leaves-are = l }
+
+-- T6b, both ways; by `one-tree` the tree is the only one
+pub as-tree : (kind : Kind) (card : ℕ) (xs : List Item) → (Sound kind card [] xs × (mayEnd (behind [] xs) ≡ true)) ↔ TreeOf kind card xs
+as-tree kind card xs = (
+  λ h. tree-of kind card xs (h .0) (h .1),
+  λ h. subst (λ (l : List Item). Sound kind card [] l × (mayEnd (behind [] l) ≡ true)) (h .leaves-are) (of-tree kind card (h .tree) (h .lawful)),
+)
+
+-- so the items of every legal frame are a lawful tree's
+pub frame-tree : (f : Frame) → Legal f → TreeOf (f .kind) (f .card) (f .items)
+frame-tree f l = tree-of (f .kind) (f .card) (f .items) (l .sound) (l .ended)

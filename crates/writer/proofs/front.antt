@@ -1,0 +1,2 @@
+-- Front page: demand 2 at the calls.
+pub mod Demand2
