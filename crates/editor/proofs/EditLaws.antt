@@ -14,16 +14,19 @@ use lib.Dec.{leb, ltb, eqb}
 use borrow.Rule.Slice.PartMut.{putMid, same-len-mid}
 use Rattle.format.specs.Words.{pick, Bytes, bytes}
 use Rattle.format.specs.Answers.{Done, accepted, refused, need, firstOf}
-use Rattle.format.specs.Spots.{legalValue, valueWord, valueWords}
-use Rattle.format.proofs.questions.ItemQuestions.{no-some, some-is}
-use Rattle.ledger.specs.Frames.{Spot, Settable}
+use Rattle.format.specs.Items.{ItemOf}
+use Rattle.format.specs.Questions.{Shown}
+use Rattle.format.specs.Cursor.{standingAt, shownBy}
+use Rattle.format.specs.Spots.{Header, Spot, spotOf, headed, legalValue, valueWord, valueWords}
+use Rattle.format.specs.Scans.{spotBy}
+use Rattle.format.proofs.spots.ScanLaws.{spot-by}
+use Rattle.ledger.specs.Frames.{Settable}
 use Rattle.ledger.specs.Formats as formats
 use Rattle.ledger.specs.Records.{countIn, frameIn, entryBytes, entriesIn, length-entries, signed, recordVerdict}
 use Rattle.ledger.specs.Calls.{Summary, entryFor, newValue, editTests, editAnswer, editWritten}
 use Rattle.ledger.specs.Chains.{Allowed}
 use Rattle.ledger.specs.First.{first}
-use Rattle.ledger.specs.House.{house}
-use Rattle.ledger.specs.Judged.{Held, heldOf}
+use Rattle.ledger.specs.House.{house, house-spot}
 use Rattle.ledger.proofs.calls.Editing.{edit-exactly, exit-written, exit-found}
 use Rattle.ledger.proofs.house.FirstLaws.{full-limit}
 use Rattle.ledger.proofs.house.House.{house-lawful}
@@ -32,7 +35,7 @@ use Rattle.plane.proofs.UndoLaws.{stored-put}
 use Rattle.editor.specs.declared.editing.Correction.{Correction}
 use Rattle.editor.specs.Views.{also, refusing, asked, itemTests}
 use Rattle.editor.specs.Promises.{Edited}
-use Rattle.editor.specs.Writes.{Known, Editable}
+use Rattle.editor.specs.Writes.{Known, Holds, Editable}
 use Rattle.editor.proofs.Orders.{ordered}
 use Rattle.format.proofs.StoringLaws.{part-whole}
 use Rattle.editor.proofs.KnownLaws.{frame-long, sum, inside, standing}
@@ -40,23 +43,46 @@ use Rattle.editor.proofs.KnownLaws.{frame-long, sum, inside, standing}
 -- ---- tests
 
 -- the tests at the item, each with its number, in their order
-pub tests-answer : (c : Correction) (x : Summary) (h : Held) (room : ℕ) (fresh sign : Bool) (value signer full end rest more all : Done)
-    → fresh ≡ legalValue (h .kind) (c .value) → value ≡ need (fresh && not (eqb (h .value) (c .value))) 23 0
+pub tests-answer : (c : Correction) (x : Summary) (kind was room : ℕ) (fresh sign : Bool) (value signer full end rest more all : Done)
+    → fresh ≡ legalValue kind (c .value) → value ≡ need (fresh && not (eqb was (c .value))) 23 0
     → sign ≡ signed (c .operator) (c .reason) → signer ≡ need sign 24 0
     → full ≡ need (ltb (x .count) 512) 25 0 → end ≡ need (leb (x .total + 16) room) 12 0
-    → rest ≡ also full end → more ≡ also signer rest → all ≡ also value more → all ≡ itemTests (asked c) x h room
+    → rest ≡ also full end → more ≡ also signer rest → all ≡ also value more → all ≡ itemTests (asked c) x kind was room
 unfolding itemTests house
-tests-answer c x h room fresh sign value signer full end rest more all l v g t u w r₁ r₂ r₃ =
+tests-answer c x kind was room fresh sign value signer full end rest more all l v g t u w r₁ r₂ r₃ =
     rw (r₃, r₂, r₁, v, l, t, g, u, w) (ordered (_ ∷ _ ∷ _ ∷ _ ∷ []))
 
--- the item that holds a kind and a value
-item-held : (o : Option Spot) (h : Held) → some h ≡ heldOf o → (s : Spot) × (o ≡ some s) × (h ≡ record { kind = s .kind; value = s .value })
-item-held none h e = no-some h (sym e)
-item-held (some s) h e = (s, refl, some-is h _ e)
+-- what the header of a word, and the item answered there in the frame's part of the record, tell of an edit's target
+module _ (b : List ℕ) (x : Summary) (k : Known b x) (y : Bytes b) (w : ℕ) where
+  part : take (16 + x .length - 16) (drop 16 b) ≡ frameIn b
+  part = rw (add-sub-cancel-left 16 (x .length), k .length)
 
-none-there : (o : Option Spot) → none ≡ heldOf o → none ≡ o
-none-there none e = refl
-none-there (some s) e = no-some _ e
+  told-spot : house .spot (frameIn b) w ≡ spotBy (headed (frameIn b) w) (shownBy (standingAt (take (16 + x .length - 16) (drop 16 b)) w))
+  told-spot =
+      house-spot (frameIn b) w ∙ spot-by (frameIn b) (standing b x k y .bytes) w
+      ∙ ap (λ (f : List ℕ). spotBy (headed (frameIn b) w) (shownBy (standingAt f w))) (sym part)
+
+  -- no item begins there, or nothing stands there
+  pub not-headed : none ≡ headed (frameIn b) w → none ≡ house .spot (frameIn b) w
+  not-headed e = sym (told-spot ∙ ap (λ (o : Option Header). spotBy o (shownBy (standingAt (take (16 + x .length - 16) (drop 16 b)) w))) (sym e))
+
+  pub not-standing : none ≡ shownBy (standingAt (take (16 + x .length - 16) (drop 16 b)) w) → none ≡ house .spot (frameIn b) w
+  not-standing e = sym (told-spot ∙ ap (spotBy (headed (frameIn b) w)) (sym e) ∙ go (headed (frameIn b) w))
+    where
+      go : (o : Option Header) → spotBy o none ≡ none
+      go none = refl
+      go (some h) = refl
+
+  -- an item does
+  module _ (h : Header) (z : ItemOf ℕ) (n : ℕ) (e : some h ≡ headed (frameIn b) w) (i : some (record { item = z; next = n }) ≡ shownBy (standingAt (take (16 + x .length - 16) (drop 16 b)) w)) where
+    told-item : house .spot (frameIn b) w ≡ spotOf h z
+    told-item = told-spot ∙ ap₂ (λ (o : Option Header) (r : Option Shown). spotBy o r) (sym e) (sym i)
+
+    pub other-item : none ≡ spotOf h z → none ≡ house .spot (frameIn b) w
+    other-item q = q ∙ sym told-item
+
+    pub item-holds : (kind value : ℕ) → some (record { kind = kind; value = value; header = h }) ≡ spotOf h z → Holds b w kind value
+    item-holds kind value q = record { header = h; stands = told-item ∙ sym q }
 
 -- of all tests of an edit, those at the item are left where the record is accepted and an item stands there
 module _ (b : List ℕ) (x : Summary) (k : Known b x) (c : Correction) where
@@ -64,18 +90,13 @@ module _ (b : List ℕ) (x : Summary) (k : Known b x) (c : Correction) where
   unfolding first
   limit-left e = rw (length-entries first b (countIn b), ← k .count)
 
-  pub no-target : none ≡ heldOf (house .spot (frameIn b) (c .word)) → editAnswer house first b (asked c) ≡ refused 22 0
+  pub no-target : none ≡ house .spot (frameIn b) (c .word) → editAnswer house first b (asked c) ≡ refused 22 0
   unfolding editAnswer editTests firstOf first
-  no-target e = let n = none-there (house .spot (frameIn b) (c .word)) e in rw (k .judged, ← n)
+  no-target e = rw (k .judged, ← e)
 
-  tests-at : (s : Spot) → house .spot (frameIn b) (c .word) ≡ some s → (r : Done) → r ≡ itemTests (asked c) x (record { kind = s .kind; value = s .value }) (length b) → editAnswer house first b (asked c) ≡ r
+  pub tests-left : (kind was : ℕ) → Holds b (c .word) kind was → (r : Done) → r ≡ itemTests (asked c) x kind was (length b) → editAnswer house first b (asked c) ≡ r
   unfolding itemTests editAnswer editTests newValue firstOf first
-  tests-at s e r q = sym (q ∙ rw (k .judged, e, and-true (signed (c .operator) (c .reason)), limit-left (entryFor house (frameIn b) (asked c)), k .total))
-
-  pub tests-left : (h : Held) → some h ≡ heldOf (house .spot (frameIn b) (c .word)) → (r : Done) → r ≡ itemTests (asked c) x h (length b) → editAnswer house first b (asked c) ≡ r
-  tests-left h e r q =
-      let (s, i, j) = item-held (house .spot (frameIn b) (c .word)) h e in
-      tests-at s i r (q ∙ ap (λ (g : Held). itemTests (asked c) x g (length b)) j)
+  tests-left kind was h r q = sym (q ∙ rw (k .judged, h .stands, and-true (signed (c .operator) (c .reason)), limit-left (entryFor house (frameIn b) (asked c)), k .total))
 
 -- an answer that does not refuse
 pub not-refusing : (r : Done) → refusing r ≡ false → r ≡ accepted tt
@@ -119,24 +140,18 @@ all-written : (b : List ℕ) (x : Summary) → Known b x → (c : Correction) (s
 unfolding editWritten bytes first
 all-written b x k c s i l₁ l₂ l₃ e₁ e₂ e₃ = rw (e₃, e₂, e₁, i, k .count, k .total)
 
-module _ (b : List ℕ) (x : Summary) (c : Correction) (h : Held) (e : Editable b x (asked c) h) where
-  abbrev the-item : (s : Spot) × (house .spot (frameIn b) (c .word) ≡ some s) × (h ≡ record { kind = s .kind; value = s .value })
-  the-item = item-held (house .spot (frameIn b) (c .word)) h (e .held)
-
+module _ (b : List ℕ) (x : Summary) (c : Correction) (kind was : ℕ) (e : Editable b x (asked c) kind was) where
   abbrev item : Spot
-  item = the-item .0
+  item = record { kind = kind; value = was; header = e .holds .header }
 
   stands : house .spot (frameIn b) (c .word) ≡ some item
-  stands = the-item .1
+  stands = e .holds .stands
 
   allowed : Allowed house first b (asked c)
   allowed = edit-exactly house first b (asked c) (e .known .judged) .0 (e .accepted)
 
   same-spot : allowed .spot ≡ item
   same-spot = Option·some-injective (allowed .spot) item (sym (allowed .stands) ∙ stands)
-
-  part : take (16 + x .length - 16) (drop 16 b) ≡ frameIn b
-  part = rw (add-sub-cancel-left 16 (x .length), e .known .length)
 
   settable : Bytes b → Settable house (frameIn b) (c .word) (c .value) item
   settable y = record {
@@ -159,23 +174,22 @@ module _ (b : List ℕ) (x : Summary) (c : Correction) (h : Held) (e : Editable 
   entry-room = let t = e .known .total in let r = allowed .room in omega arith
 
   -- the part with a value stored, whichever it is, is as long as it was, and so is the whole
-  pub value-length : (l₁ : List ℕ) (kind w v : ℕ) → l₁ ≡ stored (take (16 + x .length - 16) (drop 16 b)) kind w v
+  pub value-length : (l₁ : List ℕ) (k w v : ℕ) → l₁ ≡ stored (take (16 + x .length - 16) (drop 16 b)) k w v
       → length (putMid 16 (16 + x .length - 16) b l₁) ≡ length b
-  value-length l₁ kind w v q = same-len-mid 16 (16 + x .length - 16) b l₁ (ap length q ∙ length-stored (take (16 + x .length - 16) (drop 16 b)) kind w v)
+  value-length l₁ k w v q = same-len-mid 16 (16 + x .length - 16) b l₁ (ap length q ∙ length-stored (take (16 + x .length - 16) (drop 16 b)) k w v)
 
   -- three stores: the value in the frame's part, two header words, one entry
-  module _ (y : Bytes b) (l₁ : List ℕ) (e₁ : l₁ ≡ stored (take (16 + x .length - 16) (drop 16 b)) (h .kind) (c .word) (c .value)) where
+  module _ (y : Bytes b) (l₁ : List ℕ) (e₁ : l₁ ≡ stored (take (16 + x .length - 16) (drop 16 b)) kind (c .word) (c .value)) where
     value-stores : putMid 16 (16 + x .length - 16) b l₁ ≡ sets b 16 (house .put (frameIn b) (c .word) (c .value))
     value-stores =
         let k = e .known in
         let g = house .put (frameIn b) (c .word) (c .value) in
         let r : 16 + x .length ≤ length b = let i = inside b x k in let t = sum b x k in omega arith in
         let l : length g ≡ 16 + x .length - 16 = house-lawful .put-length (frameIn b) (c .word) (c .value) item (settable y) ∙ frame-long b x k ∙ sym (add-sub-cancel-left 16 (x .length)) in
-        ap (putMid 16 (16 + x .length - 16) b) (e₁ ∙ ap₂ (λ (f : List ℕ) (i : Held). stored f (i .kind) (c .word) (c .value)) part (the-item .2) ∙ stored-put (frameIn b) (c .word) (c .value) item (settable y)) ∙ part-whole b 16 (16 + x .length) g (omega arith) r l
+        ap (putMid 16 (16 + x .length - 16) b) (e₁ ∙ ap (λ (f : List ℕ). stored f kind (c .word) (c .value)) (part b x (e .known) y (c .word)) ∙ stored-put (frameIn b) (c .word) (c .value) item (settable y)) ∙ part-whole b 16 (16 + x .length) g (omega arith) r l
 
     pub written : (l₂ l₃ : List ℕ) → l₂ ≡ sets (putMid 16 (16 + x .length - 16) b l₁) 10 (bytes ((x .count + 1) ∷ (x .total + 16) ∷ []))
-        → l₃ ≡ sets l₂ (x .total) (entryBytes first (record { word = c .word; kind = h .kind; old = h .value; new = c .value; operator = c .operator; reason = c .reason; extra = [] }))
+        → l₃ ≡ sets l₂ (x .total) (entryBytes first (record { word = c .word; kind = kind; old = was; new = c .value; operator = c .operator; reason = c .reason; extra = [] }))
         → l₃ ≡ editWritten house first b (asked c)
     written l₂ l₃ e₂ e₃ =
-        all-written b x (e .known) c item stands _ l₂ l₃ value-stores e₂
-        (e₃ ∙ ap (λ (g : Held). sets l₂ (x .total) (entryBytes first (record { word = c .word; kind = g .kind; old = g .value; new = c .value; operator = c .operator; reason = c .reason; extra = [] }))) (the-item .2))
+        all-written b x (e .known) c item stands _ l₂ l₃ value-stores e₂ e₃

@@ -8,13 +8,14 @@ use native.Mathlib.Omega.{arith}
 use lib.ListN.{length}
 use Rattle.format.specs.Words.{Bytes}
 use Rattle.format.specs.Answers.{Outcome, Done, accepted, refused, andThen}
+use Rattle.format.specs.Spots as spots
 use Rattle.ledger.specs.Frames.{Accepted}
 use Rattle.ledger.specs.Records.{lengthIn, countIn, totalIn, frameIn, entriesIn, historyVerdict, recordVerdict}
 use Rattle.ledger.specs.Calls.{Summary, recordAnswer}
 use Rattle.ledger.specs.Chains.{Header}
 use Rattle.ledger.specs.First.{first}
 use Rattle.ledger.specs.House.{house}
-use Rattle.ledger.specs.Judged.{Held, Judged, heldOf, judgedAt}
+use Rattle.ledger.specs.Judged.{Judged, judgedAt}
 use Rattle.ledger.proofs.records.Codecs.{bytes-part}
 use Rattle.ledger.proofs.records.Headers.{header-words, frame-length, few-entries}
 use Rattle.ledger.proofs.records.Judging.{verdict-parts}
@@ -24,29 +25,29 @@ use Rattle.editor.specs.Writes.{Known}
 
 -- ---- from the answer of judging
 abbrev here : List ℕ → ℕ → Judged
-here b w = record { length = lengthIn b; count = countIn b; total = totalIn first b; held = heldOf (house .spot (frameIn b) w) }
+here b w = record { length = lengthIn b; count = countIn b; total = totalIn first b; header = spots.headed (frameIn b) w }
 
 same-judged : (i j : Judged) → _≡_ {A = Outcome Judged} (accepted i) (accepted j) → i ≡ j
 same-judged i j e = cc
 
-pub judged-known : (b : List ℕ) (w : ℕ) (x : Summary) (o : Option Held)
-    → accepted (record { length = x .length; count = x .count; total = x .total; held = o }) ≡ judgedAt house first b w
-    → Known b x × (o ≡ heldOf (house .spot (frameIn b) w))
+pub judged-known : (b : List ℕ) (w : ℕ) (x : Summary) (o : Option spots.Header)
+    → accepted (record { length = x .length; count = x .count; total = x .total; header = o }) ≡ judgedAt house first b w
+    → Known b x × (o ≡ spots.headed (frameIn b) w)
 unfolding judgedAt
 judged-known b w x o e = go (recordVerdict house first b) refl e
   where
     go : (v : Done) → recordVerdict house first b ≡ v
-        → accepted (record { length = x .length; count = x .count; total = x .total; held = o }) ≡ andThen v (λ u. accepted (here b w))
-        → Known b x × (o ≡ heldOf (house .spot (frameIn b) w))
+        → accepted (record { length = x .length; count = x .count; total = x .total; header = o }) ≡ andThen v (λ u. accepted (here b w))
+        → Known b x × (o ≡ spots.headed (frameIn b) w)
     go (accepted u) q h =
-        let s = same-judged (record { length = x .length; count = x .count; total = x .total; held = o }) (here b w) h in (
+        let s = same-judged (record { length = x .length; count = x .count; total = x .total; header = o }) (here b w) h in (
           record {
             judged = q;
             length = ap (λ (j : Judged). j .length) s;
             count = ap (λ (j : Judged). j .count) s;
             total = ap (λ (j : Judged). j .total) s;
           },
-          ap (λ (j : Judged). j .held) s,
+          ap (λ (j : Judged). j .header) s,
         )
     go (refused n p) q h = let z : _≡_ {A = ℕ} 0 1 = cc in absurd (omega arith)
 

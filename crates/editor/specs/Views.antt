@@ -11,7 +11,6 @@ use Rattle.ledger.specs.Formats as formats
 use Rattle.ledger.specs.Records.{signed}
 use Rattle.ledger.specs.Calls.{Summary}
 use Rattle.ledger.specs.House.{house}
-use Rattle.ledger.specs.Judged.{Held}
 use Rattle.editor.specs.declared.answers.Done.{Done}
 use Rattle.editor.specs.declared.answers.Done.the-variants as done
 use Rattle.editor.specs.declared.editing.Correction.{Correction}
@@ -32,11 +31,11 @@ refusing (answers.refused n p) = true
 abbrev pub asked : Correction → formats.Correction
 asked c = record { word = c .word; value = c .value; operator = c .operator; reason = c .reason; extra = [] }
 
--- the tests of an edit of an accepted record at the item h, in a buffer of `room` bytes
-unfoldable pub itemTests : formats.Correction → Summary → Held → ℕ → answers.Done
-itemTests c x h room =
+-- the tests of an edit of an accepted record at an item of the kind with the value, in a buffer of `room` bytes
+unfoldable pub itemTests : formats.Correction → Summary → ℕ → ℕ → ℕ → answers.Done
+itemTests c x kind value room =
     firstOf
-    (need (house .legal (h .kind) (c .value) && not (eqb (h .value) (c .value))) 23 0
+    (need (house .legal kind (c .value) && not (eqb value (c .value))) 23 0
     ∷ need (signed (c .operator) (c .reason)) 24 0
     ∷ need (ltb (x .count) 512) 25 0
     ∷ need (leb (x .total + 16) room) 12 0

@@ -5,12 +5,12 @@ use mathlib.Core.Path.{_≡_}
 use mathlib.Core.List.{List}
 use mathlib.Core.Option.{some}
 use Rattle.format.specs.Answers.{accepted}
+use Rattle.format.specs.Spots.{Header}
 use Rattle.ledger.specs.Formats as formats
 use Rattle.ledger.specs.Records.{lengthIn, countIn, totalIn, frameIn, recordVerdict}
 use Rattle.ledger.specs.Calls.{Summary, editAnswer}
 use Rattle.ledger.specs.First.{first}
 use Rattle.ledger.specs.House.{house}
-use Rattle.ledger.specs.Judged.{Held, heldOf}
 
 -- what was judged of a record: it is accepted, and these are its lengths and its entry count
 pub record Known (b : List ℕ) (x : Summary) : Type 0 where
@@ -19,8 +19,13 @@ pub record Known (b : List ℕ) (x : Summary) : Type 0 where
   pub count : x .count ≡ countIn b
   pub total : x .total ≡ totalIn first b
 
+-- at word w of the record's frame stands an item of that kind, which holds that value
+pub record Holds (b : List ℕ) (w kind value : ℕ) : Type 0 where
+  pub header : Header
+  pub stands : house .spot (frameIn b) w ≡ some (record { kind = kind; value = value; header = header })
+
 -- an edit that was accepted, and the item that it changes
-pub record Editable (b : List ℕ) (x : Summary) (c : formats.Correction) (h : Held) : Type 0 where
+pub record Editable (b : List ℕ) (x : Summary) (c : formats.Correction) (kind value : ℕ) : Type 0 where
   pub known : Known b x
   pub accepted : editAnswer house first b c ≡ accepted tt
-  pub held : some h ≡ heldOf (house .spot (frameIn b) (c .word))
+  pub holds : Holds b (c .word) kind value

@@ -1,26 +1,29 @@
 // An edit of a record: the value of one item is changed, and an entry of the history says so.
 ghost use mathlib.Core.Path.{_≡_};
 ghost use Prim.Native.Nat.{_<_};
+ghost use Rattle.format.specs.Spots.{headed};
 ghost use Rattle.ledger.specs.Records.{frameIn};
 ghost use Rattle.ledger.specs.Calls.{editWritten};
 ghost use Rattle.ledger.specs.First.{first};
 ghost use Rattle.ledger.specs.House.{house};
-ghost use Rattle.ledger.specs.Judged.{heldOf};
-ghost use Rattle.plane.specs.Views.{asHeld, viewHeld, summaryOf};
+ghost use Rattle.plane.specs.Views.{viewHeaderFound, summaryOf};
 ghost use Rattle.editor.specs.Views.{viewDone, asked, itemTests};
 ghost use Rattle.editor.specs.Promises.{Edited};
-ghost use Rattle.editor.specs.Writes.{Known, Editable};
+ghost use Rattle.editor.specs.Writes.{Known, Holds, Editable};
 use crate::answers::Done;
 use crate::answers::first_of;
 use crate::answers::refuses;
 use crate::answers::test;
 use crate::stores::put_words;
+use book::items::Item;
 use book::refusal::Refusal;
+use frame::cursor::Standing;
+use frame::cursor::item_at;
 use plane::answers::Entry;
-use plane::answers::Held;
-use plane::answers::HeldFound;
+use plane::answers::HeaderFound;
 use plane::answers::Judged;
 use plane::answers::Record;
+use plane::answers::Spot;
 use plane::entries::put_entry;
 use plane::history::signed;
 use plane::judge;
@@ -36,35 +39,35 @@ pub struct Correction {
     pub reason: u32,
 }
 
-// The tests of an edit of an accepted record at the item asked for: 23, 24, 25, 12. All are made and the first refusal is told: straight code, to be
-// read against the meaning's list of them.
-fn edit_tests(c: Correction, x: Record, held: Held, room: usize) -> Done
+// The tests of an edit of an accepted record at an item of the kind with the value: 23, 24, 25, 12. All are made and the first refusal is told:
+// straight code, to be read against the meaning's list of them.
+fn edit_tests(c: Correction, x: Record, kind: u16, value: u32, room: usize) -> Done
     requires { ⌜ x .total < 65536 ⌝ }
-    ensures { λ r. ⌜ viewDone r ≡ itemTests (asked c) (summaryOf x) (asHeld held) room ⌝ }
+    ensures { λ r. ⌜ viewDone r ≡ itemTests (asked c) (summaryOf x) kind value room ⌝ }
 {
-    let fresh = legal(held.kind, c.value) & (held.value != c.value);
-    let value = test(fresh, Refusal::NEW_VALUE);
+    let fresh = legal(kind, c.value) & (value != c.value);
+    let changed = test(fresh, Refusal::NEW_VALUE);
     let signer = test(signed(c.operator, c.reason), Refusal::SIGNER);
     let full = test(x.count < Record::MOST, Refusal::FULL);
     let end = test(x.total + Entry::SIZE <= room, Refusal::ROOM);
-    first_of(value, first_of(signer, first_of(full, end)))
+    first_of(changed, first_of(signer, first_of(full, end)))
 }
 
 // An edit that may be made: the value, the two header words that change, and one entry.
-fn write_edit(buf: &mut [u8], c: Correction, x: Record, held: Held)
-    requires { ⌜ Editable (now buf) (summaryOf x) (asked c) (asHeld held) ⌝ }
+fn write_edit(buf: &mut [u8], c: Correction, x: Record, kind: u16, value: u32)
+    requires { ⌜ Editable (now buf) (summaryOf x) (asked c) kind value ⌝ }
     ensures { λ _. ⌜ now (buf .exit) ≡ editWritten house first (now (buf .entry)) (asked c) ⌝ }
 {
     let start = Record::HEADER;
     let end = start + x.length;
-    put_value(&mut buf[start..end], held.kind, c.word, c.value);
+    put_value(&mut buf[start..end], kind, c.word, c.value);
     let count = (x.count + 1) as u16;
     let total = (x.total + Entry::SIZE) as u16;
     put_words(buf, 2 * Record::COUNT_WORD, &[count, total]);
     let entry = Entry {
         word: c.word as u16,
-        kind: held.kind,
-        old: held.value,
+        kind,
+        old: value,
         new: c.value,
         operator: c.operator as u16,
         reason: c.reason as u16,
@@ -72,20 +75,40 @@ fn write_edit(buf: &mut [u8], c: Correction, x: Record, held: Held)
     put_entry(buf, x.total, entry);
 }
 
-// An edit of an accepted record, at what stands at the word asked for: anything but a Sample or Bin leaves at once with 22.
-fn edit_item(buf: &mut [u8], c: Correction, x: Record, s: HeldFound) -> Done
-    requires { ⌜ Known (now buf) (summaryOf x) × (viewHeld s ≡ heldOf (house .spot (frameIn (now buf)) (c .word))) ⌝ }
+// An edit of an accepted record at an item of the kind with the value.
+fn edit_value(buf: &mut [u8], c: Correction, x: Record, kind: u16, value: u32) -> Done
+    requires { ⌜ Known (now buf) (summaryOf x) × Holds (now buf) (c .word) kind value ⌝ }
     ensures { λ r. ⌜ Edited (now (buf .entry)) (asked c) (viewDone r) (now (buf .exit)) ⌝ }
 {
-    let HeldFound::Held(held) = s else {
-        return test(false, Refusal::TARGET);
-    };
-    let answer = edit_tests(c, x, held, buf.len());
+    let answer = edit_tests(c, x, kind, value, buf.len());
     if refuses(answer) {
         return answer;
     }
-    write_edit(buf, c, x, held);
+    write_edit(buf, c, x, kind, value);
     answer
+}
+
+// An edit of an accepted record, where the header of the word asked for is known: the item answer there is taken apart, and anything but a
+// Sample or Bin leaves at once with 22.
+fn edit_item(buf: &mut [u8], c: Correction, x: Record, header: HeaderFound) -> Done
+    requires { ⌜ Known (now buf) (summaryOf x) × (viewHeaderFound header ≡ headed (frameIn (now buf)) (c .word)) ⌝ }
+    ensures { λ r. ⌜ Edited (now (buf .entry)) (asked c) (viewDone r) (now (buf .exit)) ⌝ }
+{
+    let HeaderFound::Header(_header) = header else {
+        return test(false, Refusal::TARGET);
+    };
+    let start = Record::HEADER;
+    let end = start + x.length;
+    let standing = item_at(&buf[start..end], c.word);
+    let Standing::Item(found) = standing else {
+        return test(false, Refusal::TARGET);
+    };
+    let item = found.item;
+    match item {
+        Item::Sample(s) => edit_value(buf, c, x, Spot::SAMPLE, s.value as u32),
+        Item::Bin(s) => edit_value(buf, c, x, Spot::BIN, s.count),
+        _ => test(false, Refusal::TARGET),
+    }
 }
 
 // Edits a record. Refuses as judging the record does, then by 22 where no Sample or Bin begins at the word, by 23 for a value that the item
@@ -98,6 +121,6 @@ pub fn edit(buf: &mut [u8], c: Correction) -> Done
     let judged = judge(buf, c.word);
     match judged {
         Judged::Refused(r) => Done::Refused(r),
-        Judged::Accepted(x, s) => edit_item(buf, c, x, s),
+        Judged::Accepted(x, header) => edit_item(buf, c, x, header),
     }
 }

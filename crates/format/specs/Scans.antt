@@ -1,64 +1,60 @@
--- What the words of an accepted frame tell where an item begins: its kind as a spot, its value, and the key that the next item stands under.
--- The rules of a frame are not asked again. That this is what the items are is in proofs/spots/ScanLaws.
+-- What a scan of an accepted frame notes where an item begins: the word of the header that the item stands under, by its index. The rules of a
+-- frame are not asked again. That spots and headers are what this and the cursor tell is in proofs/spots/ScanLaws.
 -- Assumes nothing.
-use Prim.Native.Nat.{ℕ, zero, suc, _+_, _*_, _/_, _%_}
-use mathlib.Core.List.{List}
+use Prim.Native.Nat.{ℕ, zero, suc, _+_}
+use mathlib.Core.List.{List, [], _∷_}
 use mathlib.Core.Option.{Option, none, some}
+use lib.ListN.{length}
 use lib.Dec.{eqb}
-use Rattle.format.specs.Words.{pick, wordAt, longAt}
-use Rattle.format.specs.Book.{Class, channel, histogram, hitCount, sample, bin, lastCell, timeBin, dataFrame, monitorFrame, commandFrame, text, startEvent, endEvent, frameEnd, unassigned}
-use Rattle.format.specs.Items.{key}
-use Rattle.format.specs.Spots.{Spot}
+use Rattle.format.specs.Words.{pick}
+use Rattle.format.specs.Answers.{Outcome, accepted, refused}
+use Rattle.format.specs.Items.{ItemOf, Item, Channel, Histogram, HitCount, Sample, Bin, LastCell, TimeBin, Text, StartEvent, EndEvent, wordsOf}
+use Rattle.format.specs.Frames.{Frame, verdict}
+use Rattle.format.specs.Questions.{Shown}
+use Rattle.format.specs.Cursor.{standingAt, shownBy}
+use Rattle.format.specs.Spots.{Header, noHeader, Spot, spotOf, under}
 
--- "1 sample, 2 bin"; 0 for every other class
-abbrev pub kindBy : Class → ℕ
-kindBy channel = 0
-kindBy histogram = 0
-kindBy hitCount = 0
-kindBy sample = 1
-kindBy bin = 2
-kindBy lastCell = 0
-kindBy timeBin = 0
-kindBy dataFrame = 0
-kindBy monitorFrame = 0
-kindBy commandFrame = 0
-kindBy text = 0
-kindBy startEvent = 0
-kindBy endEvent = 0
-kindBy frameEnd = 0
-kindBy unassigned = 0
+-- the word of the header that the next item stands under: that of a Channel or Histogram at word `at`, after any other item still h
+abbrev pub headBy : {T : Type 0} → ℕ → ℕ → ItemOf T → ℕ
+headBy h at (Channel a b c) = at
+headBy h at (Histogram a b c) = at
+headBy h at (HitCount a b c) = h
+headBy h at (Sample v) = h
+headBy h at (Bin b n) = h
+headBy h at (LastCell a b) = h
+headBy h at (TimeBin t) = h
+headBy h at (Text s) = h
+headBy h at (StartEvent t ts n) = h
+headBy h at (EndEvent n) = h
 
--- a Sample's value is in its own word, a Bin's count in the two words after its first
-unfoldable pub valueAt : ℕ → List ℕ → ℕ → ℕ
-valueAt kind s w = pick (eqb kind 1) (wordAt s w % 4096) (longAt s (w + 1))
+-- for the item whose first word is word w; 0 where no item begins there
+unfoldable pub headIn : ℕ → ℕ → List Item → ℕ → ℕ
+headIn h at [] w = 0
+headIn h at (x ∷ xs) w = pick (eqb w at) (headBy h at x) (headIn (headBy h at x) (at + length (wordsOf x)) xs w)
 
--- an item of the kind as a spot; none of kind 0
-abbrev pub spotFrom : ℕ → ℕ → ℕ → Option Spot
-spotFrom zero v k = none
-spotFrom (suc n) v k = some (record { kind = suc n; value = v; key = k })
+-- before any header it is word 1, at which no item stands
+abbrev pub headFor : Outcome Frame → ℕ → ℕ
+headFor (accepted f) w = headIn 1 3 (f .items) w
+headFor (refused n p) w = 0
 
--- the key that the next item stands under: that of a header's own word
-abbrev pub headerKey : ℕ → ℕ
-headerKey w = key (w / 512 % 32) (w / 128 % 4) (w % 128)
+unfoldable pub head : List ℕ → ℕ → ℕ
+head s w = headFor (verdict s) w
 
-abbrev pub underBy : Class → ℕ → ℕ → ℕ
-underBy channel w k = headerKey w
-underBy histogram w k = headerKey w
-underBy hitCount w k = k
-underBy sample w k = k
-underBy bin w k = k
-underBy lastCell w k = k
-underBy timeBin w k = k
-underBy dataFrame w k = k
-underBy monitorFrame w k = k
-underBy commandFrame w k = k
-underBy text w k = k
-underBy startEvent w k = k
-underBy endEvent w k = k
-underBy frameEnd w k = k
-underBy unassigned w k = k
+-- the header that the item at word h is; none there
+abbrev pub headerBy : Option Shown → Header
+headerBy none = noHeader
+headerBy (some r) = under noHeader (r .item)
 
--- the kind of a spot; 0 where none stands
-abbrev pub kindFound : Option Spot → ℕ
-kindFound none = 0
-kindFound (some p) = p .kind
+unfoldable pub headerAt : List ℕ → ℕ → Header
+headerAt s h = headerBy (shownBy (standingAt s h))
+
+-- the header by the word noted
+abbrev pub headedBy : List ℕ → ℕ → Option Header
+headedBy s zero = none
+headedBy s (suc h) = some (headerAt s (suc h))
+
+-- the spot by the header of its word and the item that stands there
+abbrev pub spotBy : Option Header → Option Shown → Option Spot
+spotBy none o = none
+spotBy (some k) none = none
+spotBy (some k) (some r) = spotOf k (r .item)

@@ -10,45 +10,76 @@ use lib.Seq.{sets}
 use lib.Dec.{leb, ltb, eqb}
 use Rattle.format.specs.Words.{pick, bytes, longWords}
 use Rattle.format.specs.Answers.{Outcome, accepted, refused}
-use Rattle.format.specs.Items.{Item, Channel, Histogram, HitCount, Sample, Bin, LastCell, TimeBin, Text, StartEvent, EndEvent, wordsOf}
-use Rattle.format.specs.Rules.{first, channelKey, histogramKey}
+use Rattle.format.specs.Items.{ItemOf, Item, Channel, Histogram, HitCount, Sample, Bin, LastCell, TimeBin, Text, StartEvent, EndEvent, wordsOf}
 use Rattle.format.specs.Frames.{Frame, allWords, verdict}
 
--- an item that may be corrected: its kind, "1 sample, 2 bin"; its value; and the order key of the header it stands under
+-- what a Channel or Histogram item says of the items that follow it
+pub record Header : Type 0 where
+  pub card : ℕ
+  pub chip : ℕ
+  pub channel : ℕ
+
+-- before any header, where by the rules of place no Sample or Bin stands
+abbrev pub noHeader : Header
+noHeader = record { card = 0; chip = 0; channel = 0 }
+
+-- an item that may be corrected: its kind, "1 sample, 2 bin"; its value; and the header it stands under
 pub record Spot : Type 0 where
   pub kind : ℕ
   pub value : ℕ
-  pub key : ℕ
+  pub header : Header
 
--- an item under a header of that key, as a spot
-abbrev pub spotOf : ℕ → Item → Option Spot
+-- an item under that header, as a spot
+abbrev pub spotOf : {T : Type 0} → Header → ItemOf T → Option Spot
 spotOf k (Channel a b c) = none
 spotOf k (Histogram a b c) = none
 spotOf k (HitCount a b c) = none
-spotOf k (Sample v) = some (record { kind = 1; value = v; key = k })
-spotOf k (Bin b n) = some (record { kind = 2; value = n; key = k })
+spotOf k (Sample v) = some (record { kind = 1; value = v; header = k })
+spotOf k (Bin b n) = some (record { kind = 2; value = n; header = k })
 spotOf k (LastCell a b) = none
 spotOf k (TimeBin t) = none
 spotOf k (Text s) = none
 spotOf k (StartEvent t ts n) = none
 spotOf k (EndEvent n) = none
 
--- the key that the next item stands under: a Channel's or Histogram's own, after any other item still k
-abbrev pub under : ℕ → Item → ℕ
-under k x = first (channelKey x ++ (histogramKey x ++ (k ∷ [])))
+-- the header that the next item stands under: a Channel or Histogram is one, after any other item it is still k
+abbrev pub under : {T : Type 0} → Header → ItemOf T → Header
+under k (Channel a b c) = record { card = a; chip = b; channel = c }
+under k (Histogram a b c) = record { card = a; chip = b; channel = c }
+under k (HitCount a b c) = k
+under k (Sample v) = k
+under k (Bin b n) = k
+under k (LastCell a b) = k
+under k (TimeBin t) = k
+under k (Text s) = k
+under k (StartEvent t ts n) = k
+under k (EndEvent n) = k
 
--- the item whose first word is word w, of items that begin at word `at` and under a header of key k
-unfoldable pub spotIn : ℕ → ℕ → List Item → ℕ → Option Spot
+-- the item whose first word is word w, of items that begin at word `at` and under the header k
+unfoldable pub spotIn : Header → ℕ → List Item → ℕ → Option Spot
 spotIn k at [] w = none
 spotIn k at (x ∷ xs) w = pick (eqb w at) (spotOf k x) (spotIn (under k x) (at + length (wordsOf x)) xs w)
 
 -- "the word index is not a Sample's or Bin's first word": none; and none where the bytes are no frame. Items begin at word 3
 abbrev pub spotFor : Outcome Frame → ℕ → Option Spot
-spotFor (accepted f) w = spotIn 0 3 (f .items) w
+spotFor (accepted f) w = spotIn noHeader 3 (f .items) w
 spotFor (refused n p) w = none
 
 unfoldable pub spot : List ℕ → ℕ → Option Spot
 spot s w = spotFor (verdict s) w
+
+-- the header of the item whose first word is word w: a Channel or Histogram is its own, any other item stands under one; none where no item
+-- begins there
+unfoldable pub headedIn : Header → ℕ → List Item → ℕ → Option Header
+headedIn k at [] w = none
+headedIn k at (x ∷ xs) w = pick (eqb w at) (some (under k x)) (headedIn (under k x) (at + length (wordsOf x)) xs w)
+
+abbrev pub headedFor : Outcome Frame → ℕ → Option Header
+headedFor (accepted f) w = headedIn noHeader 3 (f .items) w
+headedFor (refused n p) w = none
+
+unfoldable pub headed : List ℕ → ℕ → Option Header
+headed s w = headedFor (verdict s) w
 
 -- ---- putting a value
 
@@ -75,7 +106,7 @@ legalValue kind v = pick (eqb kind 1) (leb v 4095) (eqb kind 2 && leb 1 v && ltb
 
 -- a spot, and an item, with another value
 abbrev pub revalued : Spot → ℕ → Spot
-revalued p v = record { kind = p .kind; value = v; key = p .key }
+revalued p v = record { kind = p .kind; value = v; header = p .header }
 
 abbrev pub withValue : Item → ℕ → Item
 withValue (Channel a b c) v = Channel a b c
@@ -89,8 +120,8 @@ withValue (Text s) v = Text s
 withValue (StartEvent t ts n) v = StartEvent t ts n
 withValue (EndEvent n) v = EndEvent n
 
--- the key that stands after some items
-unfoldable pub underAll : ℕ → List Item → ℕ
+-- the header that stands after some items
+unfoldable pub underAll : Header → List Item → Header
 underAll k [] = k
 underAll k (x ∷ xs) = underAll (under k x) xs
 
@@ -101,7 +132,7 @@ pub record SpotIs (xs : List Item) (w : ℕ) (p : Spot) : Type 0 where
   pub after : List Item
   pub items : xs ≡ before ++ (item ∷ after)
   pub index : w ≡ 3 + length (allWords before)
-  pub spot : spotOf (underAll 0 before) item ≡ some p
+  pub spot : spotOf (underAll noHeader before) item ≡ some p
 
 -- a frame with other items
 abbrev pub withItems : Frame → List Item → Frame

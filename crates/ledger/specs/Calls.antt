@@ -11,7 +11,8 @@ use lib.Seq.{sets}
 use lib.Dec.{leb, eqb}
 use Rattle.format.specs.Words.{pick, bytes}
 use Rattle.format.specs.Answers.{Outcome, accepted, refused, Done, andThen, need, firstOf, leaves}
-use Rattle.ledger.specs.Frames.{Spot, FrameBook}
+use Rattle.format.specs.Spots.{Spot}
+use Rattle.ledger.specs.Frames.{FrameBook}
 use Rattle.ledger.specs.Formats.{Entry, Correction, Format, size}
 use Rattle.ledger.specs.Records.{header, lengthIn, countIn, totalIn, frameIn, entryBytes, numbered, entriesIn, signed, atSpot, before, recordVerdict}
 

@@ -9,7 +9,8 @@ use mathlib.Core.Option.{some}
 use lib.ListN.{length}
 use Rattle.format.specs.Words.{wordAt}
 use Rattle.format.specs.Answers.{accepted}
-use Rattle.ledger.specs.Frames.{Spot, FrameBook}
+use Rattle.format.specs.Spots.{Spot}
+use Rattle.ledger.specs.Frames.{FrameBook}
 use Rattle.ledger.specs.Formats.{Entry, Correction, Format, size}
 use Rattle.ledger.specs.Records.{lengthIn, countIn, totalIn, frameIn, numbered, entriesIn, before}
 use Rattle.ledger.specs.Calls.{entryFor}

@@ -8,7 +8,8 @@ use mathlib.Core.List.{List, [], _∷_, _++_}
 use lib.ListN.{length, take}
 use Rattle.format.specs.Words.{Bytes}
 use Rattle.format.specs.Answers.{accepted, Done}
-use Rattle.ledger.specs.Frames.{Spot, revalued, FrameBook, LawfulBook}
+use Rattle.format.specs.Spots.{Spot, revalued}
+use Rattle.ledger.specs.Frames.{FrameBook, LawfulBook}
 
 -- an entry of the history; `extra` is the content of the fields after the reason, a list of numbers
 pub record Entry : Type 0 where

@@ -9,16 +9,7 @@ use mathlib.Core.Option.{Option, some}
 use lib.ListN.{length}
 use Rattle.format.specs.Words.{Bytes}
 use Rattle.format.specs.Answers.{accepted, Done}
-
--- an item that may be corrected: its kind (1 sample, 2 bin), its value, and the order key of the header it stands under
-pub record Spot : Type 0 where
-  pub kind : ℕ
-  pub value : ℕ
-  pub key : ℕ
-
--- the same item with another value
-abbrev pub revalued : Spot → ℕ → Spot
-revalued s v = record { kind = s .kind; value = v; key = s .key }
+use Rattle.format.specs.Spots.{Spot, revalued}
 
 pub record FrameBook : Type 0 where
   -- accepted, or the frame's refusal with its number and place

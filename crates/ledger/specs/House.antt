@@ -3,29 +3,22 @@
 use Prim.Native.Nat.{ℕ, _+_, _≤_, _<_}
 use mathlib.Core.Path.{_≡_, refl}
 use mathlib.Core.List.{List}
-use mathlib.Core.Option.{Option, none, some}
+use mathlib.Core.Option.{some}
 use lib.ListN.{length}
 use Rattle.format.specs.Words.{wordAt}
 use Rattle.format.specs.Frames.{verdict}
 use Rattle.format.specs.Questions.{done}
 use Rattle.format.specs.Spots as spots
-use Rattle.ledger.specs.Frames.{Spot, FrameBook}
+use Rattle.format.specs.Spots.{Spot}
+use Rattle.ledger.specs.Frames.{FrameBook}
 use Rattle.ledger.specs.Formats.{Correction}
 use Rattle.ledger.specs.Layout.{totalLength, frameOf}
-
--- a frame's spot as a book tells it
-abbrev pub told : spots.Spot → Spot
-told p = record { kind = p .kind; value = p .value; key = p .key }
-
-abbrev pub toldOf : Option spots.Spot → Option Spot
-toldOf none = none
-toldOf (some p) = some (told p)
 
 -- the frame judge with its refusals as they are, the spots of accepted frames, and the values put there
 unfoldable pub house : FrameBook
 house = record {
   judge = λ s. done (verdict s);
-  spot = λ s w. toldOf (spots.spot s w);
+  spot = spots.spot;
   put = spots.put;
   legal = spots.legalValue;
 }
@@ -34,14 +27,14 @@ pub house-judge : (s : List ℕ) → house .judge s ≡ done (verdict s)
 unfolding house
 house-judge s = refl
 
-pub house-spot : (s : List ℕ) (w : ℕ) → house .spot s w ≡ toldOf (spots.spot s w)
+pub house-spot : (s : List ℕ) (w : ℕ) → house .spot s w ≡ spots.spot s w
 unfolding house
 house-spot s w = refl
 
 -- an edit of an accepted record that none of 22, 23, 24, 25 and 12 forbids
 pub record Free (b : List ℕ) (c : Correction) : Type 0 where
   -- the word index is a Sample's or Bin's first word
-  pub spot : spots.Spot
+  pub spot : Spot
   pub stands : spots.spot (frameOf b) (c .word) ≡ some spot
   -- a sample of at most 4,095, a bin's count of at least 1 and 32 bits, and not the present value
   pub sample : spot .kind ≡ 1 → c .value ≤ 4095

@@ -7,7 +7,7 @@ use lib.ListN.{take, drop, replicate}
 use Rattle.format.specs.Words.{bytes}
 use Rattle.format.specs.Answers.{accepted, refused, Done}
 use Rattle.format.specs.Figures.{pulse}
-use Rattle.ledger.specs.Frames.{Spot}
+use Rattle.format.specs.Spots.{Spot}
 use Rattle.ledger.specs.Formats.{Correction}
 use Rattle.ledger.specs.Calls.{editAnswer, restoreExit}
 use Rattle.ledger.specs.Histories.{recordAfter}
@@ -56,7 +56,7 @@ row q a = record { asked = q; answer = a }
 
 -- card 5, chip 2, channel 10
 abbrev pub sampleOf : ℕ → Reply
-sampleOf v = stands (some (record { kind = 1; value = v; key = 10506 }))
+sampleOf v = stands (some (record { kind = 1; value = v; header = record { card = 5; chip = 2; channel = 10 } }))
 
 abbrev pub table : List Row
 table =

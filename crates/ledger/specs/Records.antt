@@ -9,8 +9,9 @@ use lib.ListN.{length, take, drop}
 use lib.Dec.{leb, eqb}
 use Rattle.format.specs.Words.{bytes, wordAt, longAt, longWords}
 use Rattle.format.specs.Answers.{accepted, refused, Done, andThen, need, firstOf}
+use Rattle.format.specs.Spots.{Spot}
 use Rattle.ledger.specs.Tests.{all}
-use Rattle.ledger.specs.Frames.{Spot, FrameBook}
+use Rattle.ledger.specs.Frames.{FrameBook}
 use Rattle.ledger.specs.Formats.{Entry, Format, size}
 
 -- ---- header: version; frame count 1; frame offset 16; frame length; history offset; entry count; total length; 0

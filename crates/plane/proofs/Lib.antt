@@ -1,4 +1,3 @@
-pub mod Ranges
 pub mod Scanning
 pub mod Storing
 pub mod UndoLaws

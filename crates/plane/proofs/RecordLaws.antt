@@ -16,8 +16,7 @@ use Rattle.format.specs.Answers.{Outcome, accepted, refused, Done, andThen, fir
 use Rattle.format.specs.Frames.{Frame, verdict}
 use Rattle.format.specs.Steps.{Overview, overview, readOf}
 use Rattle.format.specs.Questions.{done}
-use Rattle.format.specs.Spots.{spot, legalValue}
-use Rattle.format.specs.Spots as spots
+use Rattle.format.specs.Spots.{Header, spot, headed, legalValue}
 use Rattle.format.proofs.book.PrefixLaws.{and-left, and-right}
 use Rattle.format.proofs.items.WordLaws.{below-drop, below-take}
 use Rattle.format.proofs.spots.PutLaws.{spot-refused}
@@ -26,9 +25,9 @@ use Rattle.ledger.specs.Frames.{Accepted}
 use Rattle.ledger.specs.Formats.{Entry}
 use Rattle.ledger.specs.Records.{lengthIn, countIn, totalIn, frameIn, entryOf, numbered, entriesTo, length-entries, headerRight, historyVerdict, recordVerdict}
 use Rattle.ledger.specs.Calls.{Summary, recordAnswer, entryAnswer}
-use Rattle.ledger.specs.Judged.{Held, Judged, heldOf, judgedAt}
+use Rattle.ledger.specs.Judged.{Judged, judgedAt}
 use Rattle.ledger.specs.First.{first}
-use Rattle.ledger.specs.House.{toldOf, house, house-judge, house-spot}
+use Rattle.ledger.specs.House.{house, house-judge}
 use Rattle.ledger.proofs.records.Headers.{header-words}
 use Rattle.ledger.proofs.records.Judging.{verdict-parts, parts-verdict, frame-refused}
 use Rattle.plane.specs.Views.{unfit, toldBy}
@@ -141,13 +140,13 @@ module _ (b : List ℕ) (w : ℕ) where
   unfolding judgedAt toldBy first
   right-frame h j len n total el en et f ef o eo = eo ∙ rw (parts-verdict house first b h j, et, ef, el, en)
 
-  -- the record's answer is what is told, without the item
+  -- the record's answer is what is told, without the header of the word
   judged-told : andThen (judgedAt house first b w) (λ j. accepted (lengths j)) ≡ recordAnswer house first b
   unfolding judgedAt recordAnswer
   judged-told = go (recordVerdict house first b)
     where
       here : Judged
-      here = record { length = lengthIn b; count = countIn b; total = totalIn first b; held = heldOf (house .spot (frameIn b) w) }
+      here = record { length = lengthIn b; count = countIn b; total = totalIn first b; header = headed (frameIn b) w }
 
       go : (v : Done) → andThen (andThen v (λ u. accepted here)) (λ j. accepted (lengths j)) ≡ andThen v (λ u. accepted (lengths here))
       go (accepted u) = refl
@@ -156,9 +155,9 @@ module _ (b : List ℕ) (w : ℕ) where
   pub record-told : (o : Outcome Judged) → o ≡ judgedAt house first b w → andThen o (λ j. accepted (lengths j)) ≡ recordAnswer house first b
   record-told o e = ap (λ (i : Outcome Judged). andThen i (λ j. accepted (lengths j))) e ∙ judged-told
 
--- the walk back over the entries, and what stands at the word
+-- the walk back over the entries, and the header of the word
 module _ (f b : List ℕ) (x : Summary) (w bad : ℕ) (e : unfit bad ≡ historyVerdict house first f (entriesTo first b (x .count))) where
-  pub told-accepted : bad ≡ 0 → (h : Option Held) → h ≡ heldOf (house .spot f w) → accepted (record { length = x .length; count = x .count; total = x .total; held = h }) ≡ toldBy f b x w
+  pub told-accepted : bad ≡ 0 → (h : Option Header) → h ≡ headed f w → accepted (record { length = x .length; count = x .count; total = x .total; header = h }) ≡ toldBy f b x w
   unfolding toldBy
   told-accepted z h q =
       let v : historyVerdict house first f (entriesTo first b (x .count)) ≡ accepted tt = sym e ∙ rw (eq-eqb bad 0 z) in

@@ -18,10 +18,11 @@ use Rattle.ledger.specs.Calls.{Summary, recordAnswer, entryAnswer}
 use Rattle.ledger.specs.Judged as judged
 use Rattle.ledger.specs.First.{first}
 use Rattle.ledger.specs.House.{house}
+use Rattle.plane.specs.declared.answers.Header.{Header}
 use Rattle.plane.specs.declared.answers.SpotFound.{SpotFound}
 use Rattle.plane.specs.declared.answers.SpotFound.the-variants as found
-use Rattle.plane.specs.declared.answers.HeldFound.{HeldFound}
-use Rattle.plane.specs.declared.answers.HeldFound.the-variants as holding
+use Rattle.plane.specs.declared.answers.HeaderFound.{HeaderFound}
+use Rattle.plane.specs.declared.answers.HeaderFound.the-variants as heading
 use Rattle.plane.specs.declared.answers.RecordFound.{RecordFound}
 use Rattle.plane.specs.declared.answers.RecordFound.the-variants as records
 use Rattle.plane.specs.declared.answers.Judged.{Judged}
@@ -35,9 +36,12 @@ use Rattle.plane.specs.Promises.{SpotTold, Recorded, JudgedTo, EntryTold
 
 -- T40: the way back from each answer on paper
 
+abbrev headerBack : spots.Header → Header
+headerBack h = record { card = h .card; chip = h .chip; channel = h .channel }
+
 abbrev spotBack : Option spots.Spot → SpotFound
 spotBack none = found.Nothing
-spotBack (some p) = found.Spot (record { kind = p .kind; value = p .value; key = p .key })
+spotBack (some p) = found.Spot (record { kind = p .kind; value = p .value; header = headerBack (p .header) })
 
 spot-back : (r : SpotFound) → spotBack (viewSpot r) ≡ r
 spot-back (found.Spot p) = refl
@@ -57,17 +61,17 @@ record-back (records.Refused x) = refl
 pub same-record : (r q : RecordFound) → viewRecord r ≡ viewRecord q → r ≡ q
 same-record = undone viewRecord recordBack record-back
 
-abbrev heldBack : Option judged.Held → HeldFound
-heldBack none = holding.Nothing
-heldBack (some h) = holding.Held (record { kind = h .kind; value = h .value })
+abbrev foundBack : Option spots.Header → HeaderFound
+foundBack none = heading.Nothing
+foundBack (some h) = heading.Header (headerBack h)
 
 abbrev judgedBack : Outcome judged.Judged → Judged
-judgedBack (accepted x) = judging.Accepted (record { length = x .length; count = x .count; total = x .total }) (heldBack (x .held))
+judgedBack (accepted x) = judging.Accepted (record { length = x .length; count = x .count; total = x .total }) (foundBack (x .header))
 judgedBack (refused n p) = judging.Refused (record { number = n; place = p })
 
 judged-back : (r : Judged) → judgedBack (viewJudged r) ≡ r
-judged-back (judging.Accepted x (holding.Held h)) = refl
-judged-back (judging.Accepted x holding.Nothing) = refl
+judged-back (judging.Accepted x (heading.Header h)) = refl
+judged-back (judging.Accepted x heading.Nothing) = refl
 judged-back (judging.Refused x) = refl
 
 pub same-judged : (r q : Judged) → viewJudged r ≡ viewJudged q → r ≡ q

@@ -13,12 +13,11 @@ use Rattle.ledger.specs.Judged as judged
 use Rattle.ledger.specs.Records.{entriesTo, historyVerdict}
 use Rattle.ledger.specs.First.{first}
 use Rattle.ledger.specs.House.{house}
-use Rattle.plane.specs.declared.answers.Spot.{Spot}
+use Rattle.plane.specs.declared.answers.Header.{Header}
 use Rattle.plane.specs.declared.answers.SpotFound.{SpotFound}
 use Rattle.plane.specs.declared.answers.SpotFound.the-variants as found
-use Rattle.plane.specs.declared.answers.Held.{Held}
-use Rattle.plane.specs.declared.answers.HeldFound.{HeldFound}
-use Rattle.plane.specs.declared.answers.HeldFound.the-variants as holding
+use Rattle.plane.specs.declared.answers.HeaderFound.{HeaderFound}
+use Rattle.plane.specs.declared.answers.HeaderFound.the-variants as heading
 use Rattle.plane.specs.declared.answers.Record.{Record}
 use Rattle.plane.specs.declared.answers.RecordFound.{RecordFound}
 use Rattle.plane.specs.declared.answers.RecordFound.the-variants as records
@@ -28,8 +27,11 @@ use Rattle.plane.specs.declared.answers.Entry.{Entry}
 use Rattle.plane.specs.declared.answers.EntryFound.{EntryFound}
 use Rattle.plane.specs.declared.answers.EntryFound.the-variants as entries
 
+abbrev pub viewHeader : Header → spots.Header
+viewHeader h = record { card = h .card; chip = h .chip; channel = h .channel }
+
 abbrev pub viewSpot : SpotFound → Option spots.Spot
-viewSpot (found.Spot p) = some (record { kind = p .kind; value = p .value; key = p .key })
+viewSpot (found.Spot p) = some (record { kind = p .kind; value = p .value; header = viewHeader (p .header) })
 viewSpot found.Nothing = none
 
 abbrev pub summaryOf : Record → Summary
@@ -39,15 +41,12 @@ abbrev pub viewRecord : RecordFound → Outcome Summary
 viewRecord (records.Record r) = accepted (summaryOf r)
 viewRecord (records.Refused r) = refusal r
 
-abbrev pub asHeld : Held → judged.Held
-asHeld h = record { kind = h .kind; value = h .value }
-
-abbrev pub viewHeld : HeldFound → Option judged.Held
-viewHeld (holding.Held h) = some (asHeld h)
-viewHeld holding.Nothing = none
+abbrev pub viewHeaderFound : HeaderFound → Option spots.Header
+viewHeaderFound (heading.Header h) = some (viewHeader h)
+viewHeaderFound heading.Nothing = none
 
 abbrev pub viewJudged : Judged → Outcome judged.Judged
-viewJudged (judging.Accepted r h) = accepted (record { length = r .length; count = r .count; total = r .total; held = viewHeld h })
+viewJudged (judging.Accepted r h) = accepted (record { length = r .length; count = r .count; total = r .total; header = viewHeaderFound h })
 viewJudged (judging.Refused r) = refusal r
 
 -- document 01's entries hold nothing after the reason
@@ -66,4 +65,4 @@ unfit n = need (eqb n 0) 21 n
 unfoldable pub toldBy : List ℕ → List ℕ → Summary → ℕ → Outcome judged.Judged
 toldBy f b x w =
     andThen (historyVerdict house first f (entriesTo first b (x .count)))
-    (λ u. accepted (record { length = x .length; count = x .count; total = x .total; held = judged.heldOf (house .spot f w) }))
+    (λ u. accepted (record { length = x .length; count = x .count; total = x .total; header = spots.headed f w }))

@@ -1,20 +1,25 @@
 // What is asked for and answered about a record and the items of its frame.
 use book::refusal::Refusal;
 
-// A Sample or Bin: its kind (1 sample, 2 bin), its value, and the order key of the header it stands under.
+// What a Channel or Histogram item says of the items that follow it; zeros before any.
+pub struct Header {
+    pub card: u16,
+    pub chip: u16,
+    pub channel: u16,
+}
+
+// A Sample or Bin: its kind (1 sample, 2 bin), its value, and the header it stands under.
 pub struct Spot {
     pub kind: u16,
     pub value: u32,
-    pub key: u32,
+    pub header: Header,
 }
 
 impl Spot {
-    // The kinds, and what is noted where no Sample or Bin begins.
-    pub const SAMPLE: u8 = 1;
+    // The kinds.
+    pub const SAMPLE: u16 = 1;
 
-    pub const BIN: u8 = 2;
-
-    pub const NONE: u8 = 0;
+    pub const BIN: u16 = 2;
 }
 
 // What stands at a word of a frame: a Sample or Bin that begins there, or nothing that may be corrected.
@@ -23,15 +28,9 @@ pub enum SpotFound {
     Nothing,
 }
 
-// What an edit asks of a Sample or Bin: its kind and its value. It is a Spot without the key, which only a walk to the item could tell.
-pub struct Held {
-    pub kind: u16,
-    pub value: u32,
-}
-
-// The same of a word of a frame: a Sample or Bin that begins there, or nothing that may be corrected.
-pub enum HeldFound {
-    Held(Held),
+// The header of the item that begins at a word of a frame, a header's own or the one it stands under; nothing where no item begins.
+pub enum HeaderFound {
+    Header(Header),
     Nothing,
 }
 
@@ -78,9 +77,9 @@ pub enum RecordFound {
     Refused(Refusal),
 }
 
-// An accepted record, and what stands at the word asked for.
+// An accepted record, and the header of the word asked for.
 pub enum Judged {
-    Accepted(Record, HeldFound),
+    Accepted(Record, HeaderFound),
     Refused(Refusal),
 }
 

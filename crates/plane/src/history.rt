@@ -3,37 +3,40 @@ ghost use mathlib.Core.Path.{_≡_};
 ghost use Prim.Native.Nat.{ℕ, _+_, _*_, _≤_};
 ghost use lib.ListN.{length, getD};
 ghost use Rattle.ledger.specs.Frames.{Accepted};
-ghost use Rattle.ledger.specs.Records.{lengthIn, entriesTo, fits, historyVerdict};
+ghost use Rattle.ledger.specs.Records.{lengthIn, entriesTo, fitsItem, fits, historyVerdict};
 ghost use Rattle.ledger.specs.First.{first};
 ghost use Rattle.ledger.specs.House.{house};
-ghost use Rattle.ledger.specs.Judged.{heldOf};
-ghost use Rattle.plane.specs.Views.{viewHeld, asEntry, unfit};
-ghost use Rattle.plane.specs.Undoing.{Kinds, Undoing};
+ghost use Rattle.format.specs.Spots.{Header, headed};
+ghost use Rattle.plane.specs.Views.{viewHeaderFound, asEntry, unfit};
+ghost use Rattle.plane.specs.Undoing.{Heads, Undoing};
 ghost use Rattle.plane.specs.Promises.{SignedBy, Undone, UndoneFrom};
 use crate::answers::Entry;
-use crate::answers::Held;
-use crate::answers::HeldFound;
+use crate::answers::HeaderFound;
 use crate::answers::Record;
 use crate::answers::Spot;
 use crate::entries::entry_in;
 use crate::entries::entry_of;
+use crate::scan::NONE;
+use crate::scan::header_at;
 use crate::scan::long_in;
-use crate::scan::note_kinds;
-use crate::scan::value_in;
+use crate::scan::note_heads;
 use crate::scan::word_in;
 use crate::values::legal;
 use crate::values::put_in;
 use crate::values::put_value;
+use book::items::Item;
 use book::words::copy;
+use frame::cursor::Standing;
+use frame::cursor::item_at;
 
-// The kind noted for a word.
-fn kind_at(map: &[u8], w: usize) -> u8
+// The word noted for a word.
+fn head_at(map: &[u16], w: usize) -> u16
     ensures { λ r. ⌜ r ≡ getD (now (map .entry)) w 0 ⌝ }
 {
     if w < map.len() {
         return map[w];
     }
-    Spot::NONE
+    NONE
 }
 
 // Operator 1 to 65,535, reason 1 to 5.
@@ -46,37 +49,46 @@ pub fn signed(operator: u32, reason: u32) -> bool
         & (reason <= Entry::LAST_REASON)
 }
 
-// Whether an entry fits a frame whose kinds are in the map: anything but a Sample or Bin there leaves at once.
-fn entry_fits(f: &[u8], map: &[u8], e: Entry) -> bool
+// Whether an entry fits an item of the kind with the value; none of its tests asks for the item's header.
+fn fits_item(e: Entry, kind: u16, value: u32) -> bool
+    ensures { λ r. ⌜ ((h : Header) → r ≡ fitsItem house first (asEntry e) (record { kind = kind; value = value; header = h })) ⌝ }
+{
+    let named = signed(e.operator as u32, e.reason as u32);
+    (kind == e.kind) & (value == e.new) & legal(e.kind, e.old) & (e.old != e.new) & named
+}
+
+// Whether an entry fits a frame whose headers are noted in the map: the item answer at its word is taken apart, and anything but a Sample or
+// Bin leaves at once.
+fn entry_fits(f: &[u8], map: &[u16], e: Entry) -> bool
     requires { ⌜ Undoing (now map) (now f) ⌝ }
     ensures { λ r. ⌜ r ≡ fits house first (now (f .entry)) (asEntry e) ⌝ }
 {
     let at = e.word as usize;
-    let kind = kind_at(map, at);
-    if kind == Spot::NONE {
+    if head_at(map, at) == NONE {
         return false;
     }
-    if kind as u16 != e.kind {
+    let standing = item_at(f, at);
+    let Standing::Item(found) = standing else {
         return false;
+    };
+    let item = found.item;
+    match item {
+        Item::Sample(x) => fits_item(e, Spot::SAMPLE, x.value as u32),
+        Item::Bin(x) => fits_item(e, Spot::BIN, x.count),
+        _ => false,
     }
-    let value = value_in(f, kind, at);
-    let named = signed(e.operator as u32, e.reason as u32);
-    (value == e.new) & legal(e.kind, e.old) & (e.old != e.new) & named
 }
 
-// What stands at word w of a frame whose kinds are in the map.
-pub(crate) fn held_at(f: &[u8], map: &[u8], w: usize) -> HeldFound
+// The header of word w of a frame whose headers are noted in the map.
+pub(crate) fn header_found(f: &[u8], map: &[u16], w: usize) -> HeaderFound
     requires { ⌜ Undoing (now map) (now f) ⌝ }
-    ensures { λ r. ⌜ viewHeld r ≡ heldOf (house .spot (now (f .entry)) w) ⌝ }
+    ensures { λ r. ⌜ viewHeaderFound r ≡ headed (now (f .entry)) w ⌝ }
 {
-    let kind = kind_at(map, w);
-    if kind == Spot::NONE {
-        return HeldFound::Nothing;
+    let head = head_at(map, w);
+    if head == NONE {
+        return HeaderFound::Nothing;
     }
-    HeldFound::Held(Held {
-        kind: kind as u16,
-        value: value_in(f, kind, w),
-    })
+    HeaderFound::Header(header_at(f, head))
 }
 
 // Takes the old value of an entry as standing: an entry that fits says by its own kind where the value is, so the frame is not walked.
@@ -101,7 +113,7 @@ pub fn undo_from(f: &mut [u8], s: &[u8])
 }
 
 // The number of the newest entry that does not fit, or 0: the entries from number n down, undone in f.
-fn walk_back(f: &mut [u8], map: &[u8], b: &[u8], h: usize, n: usize) -> usize
+fn walk_back(f: &mut [u8], map: &[u16], b: &[u8], h: usize, n: usize) -> usize
     requires { ⌜ Undoing (now map) (now f) × (h ≡ 16 + lengthIn (now b)) × (h + 16 * n ≤ length (now b)) ⌝ }
     ensures { λ r. ⌜ unfit r ≡ historyVerdict house first (now (f .entry)) (entriesTo first (now (b .entry)) n) ⌝ }
 {
@@ -119,26 +131,26 @@ fn walk_back(f: &mut [u8], map: &[u8], b: &[u8], h: usize, n: usize) -> usize
     0
 }
 
-// The same over a copy of the frame, made in f, with its kinds noted in a map of zeros.
-fn unwind(f: &mut [u8], map: &mut [u8], frame: &[u8], b: &[u8], n: usize) -> usize
+// The same over a copy of the frame, made in f, with its headers noted in a map of zeros.
+fn unwind(f: &mut [u8], map: &mut [u16], frame: &[u8], b: &[u8], n: usize) -> usize
     requires { ⌜ Accepted house (now frame) × (length (now f) ≡ length (now frame)) × (4096 ≤ length (now map)) × ((i : ℕ) → getD (now map) i 0 ≡ 0) × (length (now frame) ≡ lengthIn (now b)) × (16 + lengthIn (now b) + 16 * n ≤ length (now b)) ⌝ }
-    ensures { λ r. ⌜ (unfit r ≡ historyVerdict house first (now (frame .entry)) (entriesTo first (now (b .entry)) n)) × Kinds (now (frame .entry)) (now (map .exit)) ⌝ }
+    ensures { λ r. ⌜ (unfit r ≡ historyVerdict house first (now (frame .entry)) (entriesTo first (now (b .entry)) n)) × Heads (now (frame .entry)) (now (map .exit)) ⌝ }
 {
-    note_kinds(frame, map);
+    note_heads(frame, map);
     copy(frame, f);
     walk_back(f, map, b, Record::HEADER + frame.len(), n)
 }
 
-// In lent memory: a map of 4,096 zeros, in which the frame's kinds are left, and room for the copy.
+// In lent memory: a map of 4,096 zeros, in which the frame's headers are noted, and room for the copy.
 pub(crate) fn history_in(
-    map: &mut [u8],
+    map: &mut [u16],
     scratch: &mut [u8],
     frame: &[u8],
     b: &[u8],
     n: usize,
 ) -> usize
     requires { ⌜ Accepted house (now frame) × (length (now frame) ≤ length (now scratch)) × (4096 ≤ length (now map)) × ((i : ℕ) → getD (now map) i 0 ≡ 0) × (length (now frame) ≡ lengthIn (now b)) × (16 + lengthIn (now b) + 16 * n ≤ length (now b)) ⌝ }
-    ensures { λ r. ⌜ (unfit r ≡ historyVerdict house first (now (frame .entry)) (entriesTo first (now (b .entry)) n)) × Kinds (now (frame .entry)) (now (map .exit)) ⌝ }
+    ensures { λ r. ⌜ (unfit r ≡ historyVerdict house first (now (frame .entry)) (entriesTo first (now (b .entry)) n)) × Heads (now (frame .entry)) (now (map .exit)) ⌝ }
 {
     let len = frame.len();
     unwind(&mut scratch[..len], map, frame, b, n)

@@ -24,14 +24,15 @@ use answers::SpotFound;
 use book::refusal::Refusal;
 use book::words::word;
 use entries::entry_of;
+use frame::head::MOST;
 use frame::reading::Reading;
 use frame::reading::read;
 use header::header_right;
-use history::held_at;
+use history::header_found;
 use history::history_in;
 use scan::spot_in;
 
-// The Sample or Bin that begins at word w of a frame, with its kind, value and order key; nothing where another item or none begins there, and
+// The Sample or Bin that begins at word w of a frame, with its kind, value and header; nothing where another item or none begins there, and
 // where the bytes are no frame.
 pub fn spot(f: &[u8], w: usize) -> SpotFound
     ensures { λ r. ⌜ SpotTold (now (f .entry)) w r ⌝ }
@@ -45,7 +46,7 @@ pub fn spot(f: &[u8], w: usize) -> SpotFound
 
 // What is answered of a record whose header and frame are right, in lent memory: a map of 4,096 zeros, and room for a copy of the frame.
 fn told_in(
-    map: &mut [u8],
+    map: &mut [u16],
     scratch: &mut [u8],
     frame: &[u8],
     b: &[u8],
@@ -57,7 +58,7 @@ fn told_in(
 {
     let bad = history_in(map, scratch, frame, b, x.count);
     if bad == 0 {
-        return Judged::Accepted(x, held_at(frame, map, w));
+        return Judged::Accepted(x, header_found(frame, map, w));
     }
     Judged::Refused(Refusal {
         number: Refusal::ENTRY,
@@ -65,17 +66,20 @@ fn told_in(
     })
 }
 
+// The most words of a frame.
+const WORDS: usize = MOST / 2;
+
 // The same with memory of its own. The arrays stand here and are lent on: in the function that works on them every goal would show all their zeros.
 fn told(frame: &[u8], b: &[u8], x: Record, w: usize) -> Judged
     requires { ⌜ Accepted house (now frame) × (length (now frame) ≡ lengthIn (now b)) × (16 + lengthIn (now b) + 16 * x .count ≤ length (now b)) ⌝ }
     ensures { λ r. ⌜ viewJudged r ≡ toldBy (now (frame .entry)) (now (b .entry)) (summaryOf x) w ⌝ }
 {
-    let mut map = [0u8; 4096];
-    let mut scratch = [0u8; 8192];
+    let mut map = [0u16; WORDS];
+    let mut scratch = [0u8; MOST];
     told_in(&mut map, &mut scratch, frame, b, x, w)
 }
 
-// Whether a buffer begins with a record, as `record` answers, and what stands at word w of its frame.
+// Whether a buffer begins with a record, as `record` answers, and the header of the item that begins at word w of its frame.
 pub fn judge(buf: &[u8], w: usize) -> Judged
     ensures { λ r. ⌜ JudgedTo (now (buf .entry)) w r ⌝ }
 {
@@ -115,7 +119,7 @@ pub fn record(buf: &[u8]) -> RecordFound
     let judged = judge(buf, 0);
     match judged {
         Judged::Refused(r) => RecordFound::Refused(r),
-        Judged::Accepted(x, _held) => RecordFound::Record(x),
+        Judged::Accepted(x, _header) => RecordFound::Record(x),
     }
 }
 

@@ -1,121 +1,107 @@
-// An accepted frame scanned item by item, with no rules again: what stands at a word, and the kinds of all its words.
+// An accepted frame scanned along the cursor, with no rules again: the header of every item, and what stands at a word.
 ghost use mathlib.Core.Path.{_≡_};
 ghost use mathlib.Core.List.{_∷_, []};
 ghost use Prim.Native.Nat.{ℕ, _+_, _*_, _≤_, _<_};
 ghost use lib.ListN.{length, getD};
 ghost use Rattle.format.specs.Words.{wordAt, longAt};
-ghost use Rattle.format.specs.Answers.{accepted};
-ghost use Rattle.format.specs.Book.{classOf};
 ghost use Rattle.format.specs.Spots as spots;
-ghost use Rattle.format.specs.Scans.{kindBy, valueAt, spotFrom, headerKey, underBy};
-ghost use Rattle.book.specs.Views.{view};
+ghost use Rattle.format.specs.Scans.{headBy, headerAt};
+ghost use Rattle.book.specs.Views.{viewItem};
 ghost use Rattle.ledger.specs.Frames.{Accepted};
 ghost use Rattle.ledger.specs.House.{house};
-ghost use Rattle.plane.specs.Views.{viewSpot};
-ghost use Rattle.plane.specs.Stored.{Inside};
-ghost use Rattle.plane.specs.Undoing.{Kinds};
+ghost use Rattle.plane.specs.Views.{viewHeader, viewSpot};
+ghost use Rattle.plane.specs.Undoing.{Heads};
+use crate::answers::Header;
 use crate::answers::Spot;
 use crate::answers::SpotFound;
 use book::class::Class;
-use book::class::classify;
-use book::class::words_after;
-use book::items::Channel;
-use book::items::Sample;
-use book::words::long;
-use book::words::word;
+use book::items::Item;
+use frame::cursor::Standing;
+use frame::cursor::item_at;
 
-// The kind of an item of the class: 1 sample, 2 bin, and 0 for anything else.
-fn kind_of(class: Class) -> u8
-    ensures { λ r. ⌜ r ≡ kindBy (view class) ⌝ }
+// The index of a frame's first item.
+const FIRST: usize = 3;
+
+// Taken as the header's word before any header: no item stands there.
+const UNHEADED: u16 = 1;
+
+// Noted where no item begins.
+pub(crate) const NONE: u16 = 0;
+
+// The word of the header that the next item stands under: a header's own, after any other item still `head`.
+fn head_behind(item: Item, at: u16, head: u16) -> u16
+    ensures { λ r. ⌜ r ≡ headBy head at (viewItem item) ⌝ }
 {
-    match class {
-        Class::Sample => Spot::SAMPLE,
-        Class::Bin => Spot::BIN,
-        Class::Channel => Spot::NONE,
-        Class::Histogram => Spot::NONE,
-        Class::HitCount => Spot::NONE,
-        Class::LastCell => Spot::NONE,
-        Class::TimeBin => Spot::NONE,
-        Class::DataFrame => Spot::NONE,
-        Class::MonitorFrame => Spot::NONE,
-        Class::CommandFrame => Spot::NONE,
-        Class::Text => Spot::NONE,
-        Class::StartEvent => Spot::NONE,
-        Class::EndEvent => Spot::NONE,
-        Class::FrameEnd => Spot::NONE,
-        Class::Unassigned => Spot::NONE,
+    match item {
+        Item::Channel(_) => at,
+        Item::Histogram(_) => at,
+        Item::HitCount(_) => head,
+        Item::Sample(_) => head,
+        Item::Bin(_) => head,
+        Item::LastCell(_) => head,
+        Item::TimeBin(_) => head,
+        Item::Text(_) => head,
+        Item::StartEvent(_) => head,
+        Item::EndEvent(_) => head,
     }
 }
 
-// The order key that a header's word gives; a Histogram's fields are cut as a Channel's.
-fn header_key(w: u16) -> u32
-    ensures { λ r. ⌜ r ≡ headerKey w ⌝ }
+// What a header says; zeros of any other item.
+fn header_of(item: Item) -> Header
+    ensures { λ r. ⌜ viewHeader r ≡ spots.under spots.noHeader (viewItem item) ⌝ }
 {
-    let x = Channel::of_word(w);
-    let card = x.card as u32;
-    let chip = x.chip as u32;
-    let channel = x.channel as u32;
-    card * 2048 + chip * 128 + channel
-}
-
-// The key behind an item of the class: a header's own, which would be `header`, else the key before it.
-fn key_behind(class: Class, w: u16, header: u32, key: u32) -> u32
-    requires { ⌜ header ≡ headerKey w ⌝ }
-    ensures { λ r. ⌜ r ≡ underBy (view class) w key ⌝ }
-{
-    match class {
-        Class::Channel => header,
-        Class::Histogram => header,
-        Class::HitCount => key,
-        Class::Sample => key,
-        Class::Bin => key,
-        Class::LastCell => key,
-        Class::TimeBin => key,
-        Class::DataFrame => key,
-        Class::MonitorFrame => key,
-        Class::CommandFrame => key,
-        Class::Text => key,
-        Class::StartEvent => key,
-        Class::EndEvent => key,
-        Class::FrameEnd => key,
-        Class::Unassigned => key,
+    match item {
+        Item::Channel(x) => Header {
+            card: x.card,
+            chip: x.chip,
+            channel: x.channel,
+        },
+        Item::Histogram(x) => Header {
+            card: x.card,
+            chip: x.chip,
+            channel: x.channel,
+        },
+        _ => Header {
+            card: 0,
+            chip: 0,
+            channel: 0,
+        },
     }
 }
 
-// The value of an item of the kind that begins at word w: a Sample's in its own word, a Bin's count in the two words after it.
-pub(crate) fn value_at(f: &[u8], kind: u8, w: usize) -> u32
-    requires { ⌜ w < 65536 ⌝ }
-    ensures { λ r. ⌜ r ≡ valueAt kind (now (f .entry)) w ⌝ }
+// The header at the word noted; zeros where none stands.
+pub(crate) fn header_at(f: &[u8], head: u16) -> Header
+    ensures { λ r. ⌜ viewHeader r ≡ headerAt (now (f .entry)) head ⌝ }
 {
-    if kind == Spot::SAMPLE {
-        return Sample::of_word(word(f, w)).value as u32;
-    }
-    long(f, w + 1)
+    let standing = item_at(f, head as usize);
+    let Standing::Item(found) = standing else {
+        return Header {
+            card: 0,
+            chip: 0,
+            channel: 0,
+        };
+    };
+    let item = found.item;
+    header_of(item)
 }
 
-// The same where the item's words lie in the frame.
-pub(crate) fn value_in(f: &[u8], kind: u8, w: usize) -> u32
-    requires { ⌜ Inside kind w (now f) ⌝ }
-    ensures { λ r. ⌜ r ≡ valueAt kind (now (f .entry)) w ⌝ }
+// An item under a header as a spot: anything but a Sample or Bin is nothing.
+fn spot_of(item: Item, header: Header) -> SpotFound
+    ensures { λ r. ⌜ viewSpot r ≡ spots.spotOf (viewHeader header) (viewItem item) ⌝ }
 {
-    if kind == Spot::SAMPLE {
-        return Sample::of_word(word_in(f, w)).value as u32;
+    match item {
+        Item::Sample(x) => SpotFound::Spot(Spot {
+            kind: Spot::SAMPLE,
+            value: x.value as u32,
+            header,
+        }),
+        Item::Bin(x) => SpotFound::Spot(Spot {
+            kind: Spot::BIN,
+            value: x.count,
+            header,
+        }),
+        _ => SpotFound::Nothing,
     }
-    long_in(f, w + 1)
-}
-
-// An item of the kind as a spot: anything but a Sample or Bin is nothing.
-fn spot_from(kind: u8, value: u32, key: u32) -> SpotFound
-    ensures { λ r. ⌜ viewSpot r ≡ spotFrom kind value key ⌝ }
-{
-    if kind == Spot::NONE {
-        return SpotFound::Nothing;
-    }
-    SpotFound::Spot(Spot {
-        kind: kind as u16,
-        value,
-        key,
-    })
 }
 
 fn wide(x: u8) -> u16
@@ -144,88 +130,67 @@ pub(crate) fn long_in(s: &[u8], i: usize) -> u32
     low + 65536 * high
 }
 
-// Most words of a frame are told by their class's range alone: from the first Sample's on items have one word, and from the first Histogram's
-// on they are headers.
-
-// The kind of an item of one word.
-fn kind_high(w: u16) -> u8
-    requires { ⌜ 0x3000 ≤ w ⌝ }
-    ensures { λ r. ⌜ r ≡ kindBy (classOf w) ⌝ }
-{
-    if w < Class::HIT_COUNT {
-        return 1;
-    }
-    0
-}
-
-// The key behind an item of one word.
-fn key_high(w: u16, key: u32) -> u32
-    requires { ⌜ 0x3000 ≤ w ⌝ }
-    ensures { λ r. ⌜ r ≡ underBy (classOf w) w key ⌝ }
-{
-    if Class::HISTOGRAM <= w {
-        return header_key(w);
-    }
-    key
-}
-
 // What stands at word w of an accepted frame.
 pub(crate) fn spot_in(f: &[u8], w: usize) -> SpotFound
     requires { ⌜ Accepted house (now f) ⌝ }
     ensures { λ r. ⌜ viewSpot r ≡ spots.spot (now (f .entry)) w ⌝ }
 {
-    let last = f.len() / 2 - 1;
-    let mut at: usize = 3;
-    let mut key: u32 = 0;
-    while at < last {
-        let head = word_in(f, at);
+    let mut at = FIRST;
+    let mut head = UNHEADED;
+    while at <= w {
+        let standing = item_at(f, at);
+        let Standing::Item(found) = standing else {
+            return SpotFound::Nothing;
+        };
+        let item = found.item;
         if at == w {
-            let kind = kind_of(classify(head));
-            let value = value_at(f, kind, at);
-            return spot_from(kind, value, key);
+            return spot_of(item, header_at(f, head));
         }
-        if Class::SAMPLE <= head {
-            key = key_high(head, key);
-            at += 1;
-            continue;
-        }
-        if Class::BIN <= head {
-            at += 3;
-            continue;
-        }
-        let header = header_key(head);
-        key = key_behind(classify(head), head, header, key);
-        let more = words_after(head) as usize;
-        at = at + 1 + more;
+        head = head_behind(item, at as u16, head);
+        at = found.next;
     }
     SpotFound::Nothing
 }
 
-// Notes in a map of zeros, for each word of an accepted frame, the kind of the item that begins there. The end word is below all that the
-// first two branches take, so that they need not ask whether it is reached.
-pub(crate) fn note_kinds(f: &[u8], map: &mut [u8])
-    requires { ⌜ Accepted house (now f) × (4096 ≤ length (now map)) × ((i : ℕ) → getD (now map) i 0 ≡ 0) ⌝ }
-    ensures { λ _. ⌜ Kinds (now (f .entry)) (now (map .exit)) ⌝ }
+// Most words of a frame are told by their class's range alone: from the first Sample's on items have one word, and from the first Histogram's
+// on they are headers.
+fn head_high(w: u16, at: u16, head: u16) -> u16
+    ensures { λ r. ⌜ (0x8000 ≤ w → r ≡ at) × (w < 0x8000 → r ≡ head) ⌝ }
 {
-    let last = f.len() / 2 - 1;
-    let mut at: usize = 3;
+    if Class::HISTOGRAM <= w {
+        return at;
+    }
+    head
+}
+
+// Notes in a map of zeros, for each word of an accepted frame where an item begins, the word of the header that it stands under. The end word
+// is below all that the first two branches take, so that they need not ask whether it is reached; the cursor tells it.
+pub(crate) fn note_heads(f: &[u8], map: &mut [u16])
+    requires { ⌜ Accepted house (now f) × (4096 ≤ length (now map)) × ((i : ℕ) → getD (now map) i 0 ≡ 0) ⌝ }
+    ensures { λ _. ⌜ Heads (now (f .entry)) (now (map .exit)) ⌝ }
+{
+    let mut at = FIRST;
+    let mut head = UNHEADED;
     loop {
-        let head = word_in(f, at);
-        if Class::SAMPLE <= head {
-            map[at] = kind_high(head);
+        let w = word_in(f, at);
+        if Class::SAMPLE <= w {
+            head = head_high(w, at as u16, head);
+            map[at] = head;
             at += 1;
             continue;
         }
-        if Class::BIN <= head {
-            map[at] = 2;
+        if Class::BIN <= w {
+            map[at] = head;
             at += 3;
             continue;
         }
-        if last <= at {
+        let standing = item_at(f, at);
+        let Standing::Item(found) = standing else {
             return;
-        }
-        map[at] = kind_of(classify(head));
-        let more = words_after(head) as usize;
-        at = at + 1 + more;
+        };
+        let item = found.item;
+        head = head_behind(item, at as u16, head);
+        map[at] = head;
+        at = found.next;
     }
 }

@@ -17,10 +17,10 @@ use book::items::Sample;
 pub fn legal(kind: u16, value: u32) -> bool
     ensures { λ r. ⌜ MayHold kind value r ⌝ }
 {
-    if kind == Spot::SAMPLE as u16 {
+    if kind == Spot::SAMPLE {
         return value <= Sample::LAST as u32;
     }
-    (kind == Spot::BIN as u16) & (Bin::LEAST_COUNT <= value)
+    (kind == Spot::BIN) & (Bin::LEAST_COUNT <= value)
 }
 
 // Stores a word at byte `at`, low byte first, where there is room.
@@ -51,7 +51,7 @@ fn put_legal(f: &mut [u8], kind: u16, w: usize, value: u32)
     requires { ⌜ (2 * w ≤ length (now f)) × (legalValue kind value ≡ true) ⌝ }
     ensures { λ _. ⌜ now (f .exit) ≡ stored (now (f .entry)) kind w value ⌝ }
 {
-    if kind == Spot::SAMPLE as u16 {
+    if kind == Spot::SAMPLE {
         let x = Sample {
             value: value as u16,
         };
@@ -67,7 +67,7 @@ pub(crate) fn put_in(f: &mut [u8], kind: u16, w: usize, value: u32)
     requires { ⌜ Inside kind w (now f) × (legalValue kind value ≡ true) ⌝ }
     ensures { λ _. ⌜ now (f .exit) ≡ stored (now (f .entry)) kind w value ⌝ }
 {
-    if kind == Spot::SAMPLE as u16 {
+    if kind == Spot::SAMPLE {
         let x = Sample {
             value: value as u16,
         };

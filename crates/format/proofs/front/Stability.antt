@@ -72,7 +72,7 @@ module _ (s : List ℕ) (y : Bytes s) (w : ℕ) (p : Spot) (e : spot s w ≡ som
         → indexOf (is .before ++ (withValue (is .item) v ∷ is .after)) n ≡ indexOf (f .items) n
     put-indexes = law.put-indexes s y w p e v l
 
-    -- the value stands there, and every other spot is as it was: kind, value and key
+    -- the value stands there, and every other spot is as it was: kind, value and header
     pub put-there : spot (put s w v) w ≡ some (revalued p v)
     put-there = law.put-there s y w p e v l
 

@@ -13,7 +13,7 @@ use Rattle.format.specs.Answers.{Outcome, accepted, refused}
 use Rattle.format.specs.Items.{Item, wordsOf, inRange}
 use Rattle.format.specs.Rules.{mayEnd, sized}
 use Rattle.format.specs.Frames.{Frame, behind, Sound, startWord, allWords, frameWords, encode, Legal, verdict}
-use Rattle.format.specs.Spots.{Spot, spotIn, spotFor, spot, valueWord, valueWords, putFor, put, legalValue, withValue, underAll, SpotIs, withItems}
+use Rattle.format.specs.Spots.{noHeader, Spot, spotIn, spotFor, spot, valueWord, valueWords, putFor, put, legalValue, withValue, underAll, SpotIs, withItems}
 use Rattle.format.proofs.book.PrefixLaws.{and-left}
 use Rattle.format.proofs.items.WordLaws.{bytes-append, length-bytes}
 use Rattle.format.proofs.StoringLaws.{sets-mid}
@@ -56,8 +56,8 @@ abbrev pub changed : Frame → ℕ → ℕ → Frame
 changed f w v = withItems f (replaced 3 (f .items) w v)
 
 module _ (f : Frame) (w : ℕ) (p : Spot) (is : SpotIs (f .items) w p) where
-  known : Valued (underAll 0 (is .before)) (is .item) p
-  known = valued (underAll 0 (is .before)) (is .item) p (is .spot)
+  known : Valued (underAll noHeader (is .before)) (is .item) p
+  known = valued (underAll noHeader (is .before)) (is .item) p (is .spot)
 
   pub split : (v : ℕ) → replaced 3 (f .items) w v ≡ is .before ++ (withValue (is .item) v ∷ is .after)
   split v = ap (λ (l : List Item). replaced 3 l w v) (is .items) ∙ replaced-split (is .before) (is .item) (is .after) 3 w v (is .index)
@@ -125,7 +125,7 @@ stands s w p e = go (verdict s) refl e
     go (accepted f) v h = record { frame = f; accepted = v; is = spot-exactly (f .items) w p .0 h }
     go (refused n q) v h = no-some p h
 
-pub spot-in : (s : List ℕ) (f : Frame) (w : ℕ) → verdict s ≡ accepted f → spot s w ≡ spotIn 0 3 (f .items) w
+pub spot-in : (s : List ℕ) (f : Frame) (w : ℕ) → verdict s ≡ accepted f → spot s w ≡ spotIn noHeader 3 (f .items) w
 unfolding spot
 spot-in s f w v = ap (λ (o : Outcome Frame). spotFor o w) v
 

@@ -1,236 +1,311 @@
--- A scan of an accepted frame, item by item: each word it stops at begins an item, and that item's kind, value and key are read off the words
--- there.
+-- A scan of an accepted frame along the cursor: at each word where an item begins it knows the word of the header that the item stands under, so
+-- that the items there, and these words, tell every spot. All of it are corollaries of the one law of a turn (CursorLaws).
 -- Assumes nothing.
-use Prim.Native.Nat.{ℕ, zero, suc, _+_, _-_, _*_, _%_, _<_, _≤_}
-use mathlib.Core.Path.{_≡_, refl, sym, ap, ap₂, _∙_}
-use mathlib.Core.List.{List, [], _∷_, _++_, append-assoc, append-nil}
+use Prim.Native.Nat.{ℕ, zero, suc, _+_, _<_, _≤_}
+use mathlib.Core.Path.{_≡_, refl, sym, ap, ap₂, subst, _∙_}
+use mathlib.Core.List.{List, [], _∷_}
 use mathlib.Core.Bool.{Bool, true, false}
 use mathlib.Core.Option.{Option, none, some}
 use native.Mathlib.Omega.{arith}
-use lib.Dec.{eqb}
-use lib.ListN.{length, take, drop}
-use borrow.Author.Tests.{eq-eqb, ne-eqb}
-use Rattle.format.specs.Words.{pick, Bytes, words, bytes, wordAt, longAt, longOf}
-use Rattle.format.specs.Answers.{accepted}
-use Rattle.format.specs.Book.{Class, channel, histogram, hitCount, sample, bin, lastCell, timeBin, dataFrame, monitorFrame, commandFrame, text, startEvent, endEvent, frameEnd, unassigned, classOf, after}
-use Rattle.format.specs.Items.{Item, Text, EndEvent, wordsOf, closed, decode, whole}
-use Rattle.format.specs.Frames.{Frame, allWords, lastOf, verdict}
-use Rattle.format.specs.Steps.{tokenAt, nextAt}
-use Rattle.format.specs.Spots.{Spot, spotOf, under, spotIn, spot, underAll}
-use Rattle.format.specs.Scans.{kindBy, valueAt, spotFrom, underBy}
-use Rattle.format.proofs.items.ItemLaws.{token-passed}
-use Rattle.format.proofs.reader.StepLaws.{left-after}
-use Rattle.format.proofs.reader.TurnLaws.{long-after}
-use Rattle.format.proofs.questions.ItemQuestions.{no-some, some-is}
-use Rattle.format.proofs.spots.PutLaws.{stands, spot-in}
-use Rattle.format.proofs.CursorLaws.{last-is, room, before-last, token-there, next-there, no-words, more-words}
+use lib.Dec.{ltb, eqb}
+use lib.ListN.{length}
+use borrow.Author.Tests.{ltb-true, ltb-false, eqb-true, eqb-false, eq-eqb, ne-eqb}
+use Rattle.format.specs.Words.{pick, Bytes}
+use Rattle.format.specs.Answers.{Outcome, accepted, refused}
+use Rattle.format.specs.Items.{Item, Channel, Histogram, HitCount, Sample, Bin, LastCell, TimeBin, Text, StartEvent, EndEvent, wordsOf}
+use Rattle.format.specs.Frames.{Frame, lastOf, verdict}
+use Rattle.format.specs.Steps.{nextAt}
+use Rattle.format.specs.Questions.{shown, Found}
+use Rattle.format.specs.Cursor.{standingAt, shownBy, itemsFrom, On}
+use Rattle.format.specs.Spots.{Header, noHeader, Spot, spotOf, under, spotIn, spotFor, spot, headedIn, headedFor, headed, put, legalValue, withValue}
+use Rattle.format.specs.Scans.{headBy, headIn, headFor, head, headerBy, headerAt, headedBy, spotBy}
+use Rattle.format.proofs.rules.AlikeLaws.{blind, same-width}
+use Rattle.format.proofs.spots.SpotLaws.{replaced}
+use Rattle.format.proofs.spots.PutLaws.{changed, stands, spot-in, put-changed}
+use Rattle.format.proofs.CursorLaws.{from-first, on-start, Turn, turn, run-out, standing-early}
 
--- ---- what its words tell
+-- ---- an item as it is answered tells the same
 
--- the item behind a test
-behind-test : (b : Bool) (z x : Item) → pick b (some z) none ≡ some x → z ≡ x
-behind-test true z x e = some-is z x e
-behind-test false z x e = no-some x e
+shown-under : (k : Header) (x : Item) → under k (shown x) ≡ under k x
+shown-under k (Channel a b c) = refl
+shown-under k (Histogram a b c) = refl
+shown-under k (HitCount a b c) = refl
+shown-under k (Sample v) = refl
+shown-under k (Bin b n) = refl
+shown-under k (LastCell a b) = refl
+shown-under k (TimeBin t) = refl
+shown-under k (Text s) = refl
+shown-under k (StartEvent t ts n) = refl
+shown-under k (EndEvent n) = refl
 
-module _ (w n k : ℕ) (ws : List ℕ) (x : Item) where
-  -- of a class that is no spot's and no header's
-  as-spot : (z : Item) (o : Option Spot) → z ≡ x → spotOf k z ≡ o → spotOf k x ≡ o
-  as-spot z o e h = ap (spotOf k) (sym e) ∙ h
+pub shown-head : (h at : ℕ) (x : Item) → headBy h at (shown x) ≡ headBy h at x
+shown-head h at (Channel a b c) = refl
+shown-head h at (Histogram a b c) = refl
+shown-head h at (HitCount a b c) = refl
+shown-head h at (Sample v) = refl
+shown-head h at (Bin b n) = refl
+shown-head h at (LastCell a b) = refl
+shown-head h at (TimeBin t) = refl
+shown-head h at (Text s) = refl
+shown-head h at (StartEvent t ts n) = refl
+shown-head h at (EndEvent n) = refl
 
-  read-spot : (c : Class) → (c ≡ bin → longOf ws ≡ n) → decode c w ws ≡ some x → spotOf k x ≡ spotFrom (kindBy c) (pick (eqb (kindBy c) 1) (w % 4096) n) k
-  unfolding decode
-  read-spot channel h e = as-spot _ none (some-is _ x e) refl
-  read-spot histogram h e = as-spot _ none (some-is _ x e) refl
-  read-spot hitCount h e = as-spot _ none (some-is _ x e) refl
-  read-spot sample h e = as-spot _ _ (some-is _ x e) refl
-  read-spot bin h e = as-spot _ _ (some-is _ x e) (ap (λ (m : ℕ). some (record { kind = 2; value = m; key = k })) (h refl))
-  read-spot lastCell h e = as-spot _ none (some-is _ x e) refl
-  read-spot timeBin h e = as-spot _ none (some-is _ x e) refl
-  read-spot dataFrame h e = no-some x e
-  read-spot monitorFrame h e = no-some x e
-  read-spot commandFrame h e = no-some x e
-  read-spot text h e = as-spot (Text (take (w % 256 - 1) (bytes ws))) none (behind-test (closed (w % 256) (bytes ws)) _ x e) refl
-  read-spot startEvent h e = as-spot _ none (some-is _ x e) refl
-  read-spot endEvent h e = as-spot (EndEvent (longOf ws)) none (behind-test (eqb (w % 16) 0) _ x e) refl
-  read-spot frameEnd h e = no-some x e
-  read-spot unassigned h e = no-some x e
+pub shown-spot : (k : Header) (x : Item) → spotOf k (shown x) ≡ spotOf k x
+shown-spot k (Channel a b c) = refl
+shown-spot k (Histogram a b c) = refl
+shown-spot k (HitCount a b c) = refl
+shown-spot k (Sample v) = refl
+shown-spot k (Bin b n) = refl
+shown-spot k (LastCell a b) = refl
+shown-spot k (TimeBin t) = refl
+shown-spot k (Text s) = refl
+shown-spot k (StartEvent t ts n) = refl
+shown-spot k (EndEvent n) = refl
 
-  as-key : (z : Item) (j : ℕ) → z ≡ x → under k z ≡ j → under k x ≡ j
-  as-key z j e h = ap (under k) (sym e) ∙ h
+-- ---- of an accepted frame's items
 
-  read-under : (c : Class) → decode c w ws ≡ some x → under k x ≡ underBy c w k
-  unfolding decode
-  read-under channel e = as-key _ _ (some-is _ x e) refl
-  read-under histogram e = as-key _ _ (some-is _ x e) refl
-  read-under hitCount e = as-key _ _ (some-is _ x e) refl
-  read-under sample e = as-key _ _ (some-is _ x e) refl
-  read-under bin e = as-key _ _ (some-is _ x e) refl
-  read-under lastCell e = as-key _ _ (some-is _ x e) refl
-  read-under timeBin e = as-key _ _ (some-is _ x e) refl
-  read-under dataFrame e = no-some x e
-  read-under monitorFrame e = no-some x e
-  read-under commandFrame e = no-some x e
-  read-under text e = as-key (Text (take (w % 256 - 1) (bytes ws))) k (behind-test (closed (w % 256) (bytes ws)) _ x e) refl
-  read-under startEvent e = as-key _ _ (some-is _ x e) refl
-  read-under endEvent e = as-key (EndEvent (longOf ws)) k (behind-test (eqb (w % 16) 0) _ x e) refl
-  read-under frameEnd e = no-some x e
-  read-under unassigned e = no-some x e
+head-in : (s : List ℕ) (f : Frame) (w : ℕ) → verdict s ≡ accepted f → head s w ≡ headIn 1 3 (f .items) w
+unfolding head
+head-in s f w v = ap (λ (o : Outcome Frame). headFor o w) v
 
-module _ (s : List ℕ) (last : ℕ) (r : 2 * last ≤ length s + 1) (at : ℕ) (x : Item) (h : at < last) (t : tokenAt s last at ≡ whole x) where
-  -- the words after the item's first
-  behind-it : List ℕ
-  behind-it = take (after (classOf (wordAt s at)) (wordAt s at)) (drop (at + 1) (take last (words s)))
+headed-in : (s : List ℕ) (f : Frame) (w : ℕ) → verdict s ≡ accepted f → headed s w ≡ headedIn noHeader 3 (f .items) w
+unfolding headed
+headed-in s f w v = ap (λ (o : Outcome Frame). headedFor o w) v
 
-  decoded-it : decode (classOf (wordAt s at)) (wordAt s at) behind-it ≡ some x
-  unfolding tokenAt behind-it
-  decoded-it = token-passed (wordAt s at) (drop (at + 1) (take last (words s))) x t .read
+-- what is told of word u, by items from word `at` on, under the header k, whose word is h
+pub record Alike (s : List ℕ) (at h : ℕ) (k : Header) (xs : List Item) (u : ℕ) : Type 0 where
+  pub heads : headIn h at xs u ≡ head s u
+  pub headers : headedIn k at xs u ≡ headed s u
+  pub spots : spotIn k at xs u ≡ spot s u
 
-  count-there : classOf (wordAt s at) ≡ bin → longOf behind-it ≡ longAt s (at + 1)
-  unfolding tokenAt behind-it
-  count-there c =
-      let p = token-passed (wordAt s at) (drop (at + 1) (take last (words s))) x t .there in
-      let n : after (classOf (wordAt s at)) (wordAt s at) ≡ 2 = ap (λ (d : Class). after d (wordAt s at)) c in
-      let l = left-after s last r at in
-      ap (λ (m : ℕ). longOf (take m (drop (at + 1) (take last (words s))))) n ∙ long-after s last at r 2 (omega arith) (omega arith)
+-- no item begins at word u
+pub record Blank (s : List ℕ) (u : ℕ) : Type 0 where
+  pub head : head s u ≡ 0
+  pub headed : headed s u ≡ none
+  pub spot : spot s u ≡ none
 
-  pub spot-told : (k : ℕ) → spotOf k x ≡ spotFrom (kindBy (classOf (wordAt s at))) (valueAt (kindBy (classOf (wordAt s at))) s at) k
-  unfolding valueAt
-  spot-told k = read-spot (wordAt s at) (longAt s (at + 1)) k behind-it x (classOf (wordAt s at)) count-there decoded-it
+module _ (s : List ℕ) (at h : ℕ) (k : Header) where
+  alike-first : (x : Item) (xs : List Item) → Alike s at h k (x ∷ xs) at → (headBy h at x ≡ head s at) × (some (under k x) ≡ headed s at) × (spotOf k x ≡ spot s at)
+  unfolding headIn headedIn spotIn
+  alike-first x xs a = let e = eq-eqb at at refl in (rw e at (a .heads), rw e at (a .headers), rw e at (a .spots))
 
-  pub key-told : (k : ℕ) → under k x ≡ underBy (classOf (wordAt s at)) (wordAt s at) k
-  key-told k = read-under (wordAt s at) 0 k behind-it x (classOf (wordAt s at)) decoded-it
+  alike-later : (x : Item) (xs : List Item) (u : ℕ) → at < u → Alike s at h k (x ∷ xs) u → Alike s (at + length (wordsOf x)) (headBy h at x) (under k x) xs u
+  unfolding headIn headedIn spotIn
+  alike-later x xs u l a = let e = ne-eqb u at (λ q. omega arith) in record { heads = rw e at (a .heads); headers = rw e at (a .headers); spots = rw e at (a .spots) }
+
+  blank-none : (u : ℕ) → Alike s at h k [] u → Blank s u
+  unfolding headIn headedIn spotIn
+  blank-none u a = record { head = sym (a .heads); headed = sym (a .headers); spot = sym (a .spots) }
+
+-- no item begins before some items
+blank-before : (s : List ℕ) (at h : ℕ) (k : Header) (xs : List Item) (u : ℕ) → u < at → Alike s at h k xs u → Blank s u
+unfolding headIn headedIn spotIn
+blank-before s at h k [] u l a = blank-none s at h k u a
+blank-before s at h k (x ∷ xs) u l a =
+    let e = ne-eqb u at (λ q. omega arith) in
+    blank-before s (at + length (wordsOf x)) (headBy h at x) (under k x) xs u (omega arith) (record { heads = rw e at (a .heads); headers = rw e at (a .headers); spots = rw e at (a .spots) })
 
 -- ---- the scan
 
--- no spot stands before the items
-none-before : (k at : ℕ) (xs : List Item) (u : ℕ) → u < at → spotIn k at xs u ≡ none
-unfolding spotIn
-none-before k at [] u h = refl
-none-before k at (x ∷ xs) u h = rw (ne-eqb u at (λ e. omega arith)) (none-before (under k x) (at + length (wordsOf x)) xs u (omega arith))
+-- it stands at word `at` of an accepted frame, behind the header whose word is h
+pub record Ahead (s : List ℕ) (at h : ℕ) : Type 0 where
+  pub on : On s at
+  pub noted : 1 ≤ h
+  pub alike : (u : ℕ) → at ≤ u → Alike s at h (headerAt s h) (itemsFrom s at) u
 
-spot-first : (k at : ℕ) (x : Item) (xs : List Item) → spotIn k at (x ∷ xs) at ≡ spotOf k x
-unfolding spotIn
-spot-first k at x xs = rw (eq-eqb at at refl)
+no-header : (s : List ℕ) → headerAt s 1 ≡ noHeader
+unfolding headerAt
+no-header s = ap (λ (o : Option Found). headerBy (shownBy o)) (standing-early s 1 (omega arith))
 
-spot-later : (k at : ℕ) (x : Item) (xs : List Item) (u : ℕ) → at < u → spotIn k at (x ∷ xs) u ≡ spotIn (under k x) (at + length (wordsOf x)) xs u
-unfolding spotIn
-spot-later k at x xs u h = rw (ne-eqb u at (λ e. omega arith))
+module _ (s : List ℕ) (y : Bytes s) (f : Frame) (v : verdict s ≡ accepted f) where
+  all-alike : (u : ℕ) → Alike s 3 1 (headerAt s 1) (itemsFrom s 3) u
+  all-alike u =
+      let n = no-header s in
+      let i = from-first s y f v in
+      record {
+        heads = ap (λ (xs : List Item). headIn 1 3 xs u) i ∙ sym (head-in s f u v);
+        headers = ap₂ (λ (k : Header) (xs : List Item). headedIn k 3 xs u) n i ∙ sym (headed-in s f u v);
+        spots = ap₂ (λ (k : Header) (xs : List Item). spotIn k 3 xs u) n i ∙ sym (spot-in s f u v);
+      }
 
-spot-none : (k at u : ℕ) → spotIn k at [] u ≡ none
-unfolding spotIn
-spot-none k at u = refl
+  pub ahead-start : Ahead s 3 1
+  ahead-start = record { on = on-start s y f v; noted = omega arith; alike = λ u h. all-alike u }
 
--- the scan of an accepted frame stands at word `at`, under a header of key k: from there on its items are still to come
-pub record Ahead (s : List ℕ) (at k : ℕ) : Type 0 where
-  pub bytes : Bytes s
-  pub frame : Frame
-  pub accepted : verdict s ≡ accepted frame
-  pub before : List Item
-  pub items : List Item
-  pub split : frame .items ≡ before ++ items
-  pub index : at ≡ 3 + length (allWords before)
-  pub same : (u : ℕ) → at ≤ u → spotIn k at items u ≡ spot s u
+  -- the first three words begin no item
+  pub blank-first : (u : ℕ) → u < 3 → Blank s u
+  blank-first u h = blank-before s 3 1 (headerAt s 1) (itemsFrom s 3) u h (all-alike u)
 
-pub ahead-start : (s : List ℕ) → Bytes s → (f : Frame) → verdict s ≡ accepted f → Ahead s 3 0
-ahead-start s y f a =
-    record {
-      bytes = y;
-      frame = f;
-      accepted = a;
-      before = [];
-      items = f .items;
-      split = refl;
-      index = omega (arith, no-words);
-      same = λ u h. sym (spot-in s f u a);
-    }
-
--- the first three words begin no item
-pub none-first : (s : List ℕ) (f : Frame) → verdict s ≡ accepted f → (u : ℕ) → u < 3 → spot s u ≡ none
-none-first s f a u h = spot-in s f u a ∙ none-before 0 3 (f .items) u h
-
--- one turn of the scan, at a word before the last
-pub record Turn (s : List ℕ) (at k : ℕ) : Type 0 where
-  pub further : at < nextAt s at
-  pub within : nextAt s at ≤ lastOf s
-  pub here : spot s at ≡ spotFrom (kindBy (classOf (wordAt s at))) (valueAt (kindBy (classOf (wordAt s at))) s at) k
+-- a turn of the scan past the item x, whose words end before word n
+pub record Passed (s : List ℕ) (at h : ℕ) (x : Item) (n : ℕ) : Type 0 where
+  pub head : head s at ≡ headBy h at x
+  pub headed : headed s at ≡ some (under (headerAt s h) x)
+  pub spot : spot s at ≡ spotOf (headerAt s h) x
   -- "the words after an item are data"
-  pub between : (u : ℕ) → at < u → u < nextAt s at → spot s u ≡ none
-  pub next : Ahead s (nextAt s at) (underBy (classOf (wordAt s at)) (wordAt s at) k)
+  pub between : (u : ℕ) → at < u → u < n → Blank s u
+  pub next : Ahead s n (headBy h at x)
 
-module _ (s : List ℕ) (at k : ℕ) (g : Ahead s at k) where
-  at-end : g .items ≡ [] → at ≡ lastOf s
-  at-end e =
-      let l = last-is s (g .bytes) (g .frame) (g .accepted) in
-      let i = g .index in
-      let m : length (allWords (g .frame .items)) ≡ length (allWords (g .before)) =
-      ap (λ (xs : List Item). length (allWords xs)) (g .split ∙ ap (λ (xs : List Item). g .before ++ xs) e ∙ append-nil (g .before)) in
-      omega arith
-
-  module _ (x : Item) (xs : List Item) (e : g .items ≡ x ∷ xs) where
-    split-there : g .frame .items ≡ g .before ++ (x ∷ xs)
-    split-there = g .split ∙ ap (λ (l : List Item). g .before ++ l) e
-
-    below : at < lastOf s
-    below = before-last s (g .bytes) (g .frame) (g .accepted) (g .before) x xs split-there at (g .index)
-
-    turn-there : Turn s at k
-    turn-there =
-        let f : Frame = g .frame in
-        let r = room s (g .bytes) f (g .accepted) in
-        let t = token-there s (g .bytes) f (g .accepted) (g .before) x xs split-there at (g .index) in
-        let n = next-there s (g .bytes) f (g .accepted) (g .before) x xs split-there at (g .index) in
-        let wide = n .wide in
-        let i = g .index in
-        let key = key-told s (lastOf s) r at x below t k in
-        let still : (u : ℕ) → at < u → spotIn (under k x) (at + length (wordsOf x)) xs u ≡ spot s u =
-        λ u h. sym (spot-later k at x xs u h) ∙ ap (λ (l : List Item). spotIn k at l u) (sym e) ∙ g .same u (omega arith) in
-        record {
-          further = n .further;
-          within = n .within;
-          here = sym (g .same at (omega arith)) ∙ ap (λ (l : List Item). spotIn k at l at) e ∙ spot-first k at x xs ∙ spot-told s (lastOf s) r at x below t k;
-          between = λ u h l. sym (still u h) ∙ none-before (under k x) (at + length (wordsOf x)) xs u (omega arith);
-          next = record {
-            bytes = g .bytes;
-            frame = f;
-            accepted = g .accepted;
-            before = g .before ++ (x ∷ []);
-            items = xs;
-            split = split-there ∙ sym (append-assoc (g .before) (x ∷ []) xs);
-            index = omega (arith, more-words (g .before) x);
-            same = λ u h. ap₂ (λ (j i : ℕ). spotIn j i xs u) (sym key) wide ∙ still u (let m = n .further in omega arith);
-          };
-        }
-
-  pub turn : at < lastOf s → Turn s at k
-  turn h = go (g .items) refl
+module _ (s : List ℕ) (at h : ℕ) (g : Ahead s at h) where
+  -- the header behind it is the one at the word noted
+  header-next : (x : Item) (n : ℕ) → standingAt s at ≡ some (record { item = x; next = n }) → under (headerAt s h) x ≡ headerAt s (headBy h at x)
+  unfolding headerAt
+  header-next x n e = go x (ap (λ (o : Option Found). headerBy (shownBy o)) e ∙ shown-under noHeader x)
     where
-      go : (l : List Item) → g .items ≡ l → Turn s at k
-      go [] e = let z = at-end e in absurd (omega arith)
-      go (x ∷ xs) e = turn-there x xs e
+      go : (z : Item) → headerBy (shownBy (standingAt s at)) ≡ under noHeader z → under (headerAt s h) z ≡ headerAt s (headBy h at z)
+      go (Channel a b c) q = sym q
+      go (Histogram a b c) q = sym q
+      go (HitCount a b c) q = refl
+      go (Sample v) q = refl
+      go (Bin b n) q = refl
+      go (LastCell a b) q = refl
+      go (TimeBin t) q = refl
+      go (Text t) q = refl
+      go (StartEvent t ts n) q = refl
+      go (EndEvent n) q = refl
+
+  head-noted : (x : Item) → 1 ≤ at → 1 ≤ headBy h at x
+  head-noted (Channel a b c) l = l
+  head-noted (Histogram a b c) l = l
+  head-noted (HitCount a b c) l = g .noted
+  head-noted (Sample v) l = g .noted
+  head-noted (Bin b n) l = g .noted
+  head-noted (LastCell a b) l = g .noted
+  head-noted (TimeBin t) l = g .noted
+  head-noted (Text t) l = g .noted
+  head-noted (StartEvent t ts n) l = g .noted
+  head-noted (EndEvent n) l = g .noted
+
+  pub pass : (x : Item) (n : ℕ) → Turn s at (g .on) x n → Passed s at h x n
+  pass x n t =
+      let k : Header = headerAt s h in
+      let i = g .on .index in
+      let wide = t .wide in
+      let further = t .further in
+      let here : Alike s at h k (x ∷ itemsFrom s n) at = subst (λ (xs : List Item). Alike s at h k xs at) (t .split) (g .alike at (omega arith)) in
+      let first = alike-first s at h k x (itemsFrom s n) here in
+      let later : (u : ℕ) → at < u → Alike s n (headBy h at x) (under k x) (itemsFrom s n) u =
+      λ u l. subst (λ (m : ℕ). Alike s m (headBy h at x) (under k x) (itemsFrom s n) u) (sym wide)
+      (alike-later s at h k x (itemsFrom s n) u l (subst (λ (xs : List Item). Alike s at h k xs u) (t .split) (g .alike u (omega arith)))) in
+      record {
+        head = sym (first .0);
+        headed = sym (first .1);
+        spot = sym (first .2);
+        between = λ u a b. blank-before s n (headBy h at x) (under k x) (itemsFrom s n) u b (later u a);
+        next = record {
+          on = t .next;
+          noted = head-noted x (omega arith);
+          alike = λ u l. subst (λ (j : Header). Alike s n (headBy h at x) j (itemsFrom s n) u) (header-next x n (t .there)) (later u (omega arith));
+        };
+      }
 
   -- at the last word no item is left
-  pub ahead-end : lastOf s ≤ at → (u : ℕ) → at ≤ u → spot s u ≡ none
-  ahead-end h u l = go (g .items) refl
+  pub ahead-end : lastOf s ≤ at → (u : ℕ) → at ≤ u → Blank s u
+  ahead-end l u a = blank-none s at h (headerAt s h) u (subst (λ (xs : List Item). Alike s at h (headerAt s h) xs u) (run-out s at (g .on) l .0) (g .alike u a))
+
+-- ---- every word
+
+-- an item begins there, or none does
+data Told (s : List ℕ) (w : ℕ) : Type 0 where
+  begins : (x : Item) (n h : ℕ) → standingAt s w ≡ some (record { item = x; next = n }) → 1 ≤ headBy h w x → under (headerAt s h) x ≡ headerAt s (headBy h w x) → Passed s w h x n → Told s w
+  blank : Blank s w → Told s w
+
+tail-is : (x y : Item) (xs ys : List Item) → x ∷ xs ≡ y ∷ ys → xs ≡ ys
+tail-is x y xs ys e = cc
+
+-- at word w, or somewhere behind the item that the scan stands at
+told-turn : (s : List ℕ) (at h : ℕ) (g : Ahead s at h) (w : ℕ) → at ≤ w
+    → ((y : Item) → Turn s at (g .on) y (nextAt s at) → nextAt s at ≤ w → Told s w) → Told s w
+told-turn s at h g w l further = go (ltb at (lastOf s)) refl
+  where
+    sides : (y : Item) → Turn s at (g .on) y (nextAt s at) → (b : Bool) → eqb at w ≡ b → (c : Bool) → ltb w (nextAt s at) ≡ c → Told s w
+    sides y t true q c d =
+        subst (Told s) (eqb-true at w q)
+        (begins y (nextAt s at) h (t .there) (head-noted s at h g y (let i = g .on .index in omega arith)) (header-next s at h g y (nextAt s at) (t .there)) (pass s at h g y (nextAt s at) t))
+    sides y t false q true d = let n = eqb-false at w q in blank (pass s at h g y (nextAt s at) t .between w (omega arith) (ltb-true w (nextAt s at) d))
+    sides y t false q false d = further y t (ltb-false w (nextAt s at) d)
+
+    go : (b : Bool) → ltb at (lastOf s) ≡ b → Told s w
+    go true b = let (y, t) = turn s at (g .on) (ltb-true at (lastOf s) b) in sides y t (eqb at w) refl (ltb w (nextAt s at)) refl
+    go false b = blank (ahead-end s at h g (ltb-false at (lastOf s) b) w l)
+
+told-from : (s : List ℕ) (xs : List Item) (at h : ℕ) → Ahead s at h → itemsFrom s at ≡ xs → (w : ℕ) → at ≤ w → Told s w
+told-from s [] at h g e w l = blank (blank-none s at h (headerAt s h) w (subst (λ (xs : List Item). Alike s at h (headerAt s h) xs w) e (g .alike w l)))
+told-from s (x ∷ xs) at h g e w l =
+    told-turn s at h g w l
+    (λ y t m. told-from s xs (nextAt s at) (headBy h at y) (pass s at h g y (nextAt s at) t .next) (tail-is y x _ xs (sym (t .split) ∙ e)) w m)
+
+told : (s : List ℕ) → Bytes s → (f : Frame) → verdict s ≡ accepted f → (w : ℕ) → Told s w
+told s y f v w = go (ltb w 3) refl
+  where
+    go : (b : Bool) → ltb w 3 ≡ b → Told s w
+    go true b = blank (blank-first s y f v w (ltb-true w 3 b))
+    go false b = told-from s (itemsFrom s 3) 3 1 (ahead-start s y f v) refl w (ltb-false w 3 b)
+
+by-noted : (s : List ℕ) (n : ℕ) → 1 ≤ n → headedBy s n ≡ some (headerAt s n)
+by-noted s zero l = absurd (omega arith)
+by-noted s (suc n) l = refl
+
+-- a Sample or Bin is no header, so that the header behind it is the one that it stands under
+under-spot : (k : Header) (x : Item) → spotOf (under k x) x ≡ spotOf k x
+under-spot k (Channel a b c) = refl
+under-spot k (Histogram a b c) = refl
+under-spot k (HitCount a b c) = refl
+under-spot k (Sample v) = refl
+under-spot k (Bin b n) = refl
+under-spot k (LastCell a b) = refl
+under-spot k (TimeBin t) = refl
+under-spot k (Text t) = refl
+under-spot k (StartEvent t ts n) = refl
+under-spot k (EndEvent n) = refl
+
+module _ (s : List ℕ) (y : Bytes s) (w : ℕ) where
+  -- the word noted tells the header of the item there
+  pub headed-by : headed s w ≡ headedBy s (head s w)
+  unfolding head headed
+  headed-by = judged (verdict s) refl
     where
-      go : (xs : List Item) → g .items ≡ xs → spot s u ≡ none
-      go [] e = sym (g .same u l) ∙ ap (λ (i : List Item). spotIn k at i u) e ∙ spot-none k at u
-      go (x ∷ xs) e = let z = below x xs e in absurd (omega arith)
+      by : Told s w → headed s w ≡ headedBy s (head s w)
+      by (begins x n h e l i p) =
+          p .headed ∙ ap some i ∙ sym (by-noted s (headBy h w x) l) ∙ ap (headedBy s) (sym (p .head))
+      by (blank b) = b .headed ∙ ap (headedBy s) (sym (b .head))
 
--- ---- a spot, wherever it stands
+      judged : (o : Outcome Frame) → verdict s ≡ o → headed s w ≡ headedBy s (head s w)
+      judged (accepted f) v = by (told s y f v w)
+      judged (refused n p) v = ap (λ (o : Outcome Frame). headedFor o w) v ∙ ap (λ (o : Outcome Frame). headedBy s (headFor o w)) (sym v)
 
-kind-value : (n v k : ℕ) (p : Spot) → spotFrom n v k ≡ some p → (n ≡ p .kind) × (v ≡ p .value)
-kind-value zero v k p e = no-some p e
-kind-value (suc n) v k p e = let q = some-is _ p e in (ap (λ (r : Spot). r .kind) q, ap (λ (r : Spot). r .value) q)
+  -- the header of a word and the item that stands there tell the spot
+  pub spot-by : spot s w ≡ spotBy (headed s w) (shownBy (standingAt s w))
+  unfolding headed spot
+  spot-by = judged (verdict s) refl
+    where
+      by : Told s w → spot s w ≡ spotBy (headed s w) (shownBy (standingAt s w))
+      by (begins x n h e l i p) =
+          p .spot ∙ sym (under-spot (headerAt s h) x) ∙ sym (shown-spot (under (headerAt s h) x) x)
+          ∙ ap₂ (λ (o : Option Header) (r : Option Found). spotBy o (shownBy r)) (sym (p .headed)) (sym e)
+      by (blank b) = b .spot ∙ ap (λ (o : Option Header). spotBy o (shownBy (standingAt s w))) (sym (b .headed))
 
--- its value is read off the bytes at its word
-pub value-read : (s : List ℕ) → Bytes s → (w : ℕ) (p : Spot) → spot s w ≡ some p → p .value ≡ valueAt (p .kind) s w
-value-read s y w p e =
-    let h = stands s w p e in
-    let f : Frame = h .frame in
-    let is = h .is in
-    let r = room s y f (h .accepted) in
-    let t = token-there s y f (h .accepted) (is .before) (is .item) (is .after) (is .items) w (is .index) in
-    let l = before-last s y f (h .accepted) (is .before) (is .item) (is .after) (is .items) w (is .index) in
-    let c = kindBy (classOf (wordAt s w)) in
-    let (n, v) = kind-value c (valueAt c s w) (underAll 0 (is .before)) p (sym (spot-told s (lastOf s) r w (is .item) l t _) ∙ is .spot) in
-    sym v ∙ ap (λ (i : ℕ). valueAt i s w) n
+      judged : (o : Outcome Frame) → verdict s ≡ o → spot s w ≡ spotBy (headed s w) (shownBy (standingAt s w))
+      judged (accepted f) v = by (told s y f v w)
+      judged (refused n p) v = ap (λ (o : Outcome Frame). spotFor o w) v ∙ ap (λ (o : Outcome Frame). spotBy (headedFor o w) (shownBy (standingAt s w))) (sym v)
+
+-- ---- a value put leaves every header at its word
+
+replaced-heads : (h at : ℕ) (xs : List Item) (w v u : ℕ) → headIn h at (replaced at xs w v) u ≡ headIn h at xs u
+unfolding replaced headIn
+replaced-heads h at [] w v u = refl
+replaced-heads h at (x ∷ xs) w v u =
+    ap₂ (λ (j i : ℕ). pick (eqb u at) j (headIn j (at + i) (replaced (at + length (wordsOf x)) xs w v) u)) (same-head (eqb w at)) (same-long (eqb w at))
+    ∙ ap (pick (eqb u at) (headBy h at x)) (replaced-heads (headBy h at x) (at + length (wordsOf x)) xs w v u)
+  where
+    same-head : (b : Bool) → headBy h at (pick b (withValue x v) x) ≡ headBy h at x
+    same-head true = blind (headBy h at) (λ m n. refl) (λ b m n. refl) x v
+    same-head false = refl
+
+    same-long : (b : Bool) → length (wordsOf (pick b (withValue x v) x)) ≡ length (wordsOf x)
+    same-long true = same-width x v
+    same-long false = refl
+
+pub put-heads : (s : List ℕ) → Bytes s → (w : ℕ) (p : Spot) → spot s w ≡ some p → (v : ℕ) → legalValue (p .kind) v ≡ true → (u : ℕ) → head (put s w v) u ≡ head s u
+put-heads s y w p e v l u =
+    let t = stands s w p e in
+    let f : Frame = t .frame in
+    head-in (put s w v) (changed f w v) u (put-changed s y f (t .accepted) w p e v l) ∙ replaced-heads 1 3 (f .items) w v u ∙ sym (head-in s f u (t .accepted))

@@ -14,18 +14,18 @@ use borrow.Author.Tests.{eqb-true, eqb-false, eq-eqb, ne-eqb}
 use Rattle.format.specs.Words.{pick}
 use Rattle.format.specs.Items.{Item, Channel, Histogram, HitCount, Sample, Bin, LastCell, TimeBin, Text, StartEvent, EndEvent, wordsOf, inRange}
 use Rattle.format.specs.Frames.{allWords}
-use Rattle.format.specs.Spots.{Spot, spotOf, under, spotIn, valueWord, valueWords, legalValue, revalued, withValue, underAll, SpotIs}
+use Rattle.format.specs.Spots.{Header, noHeader, Spot, spotOf, under, spotIn, valueWord, valueWords, legalValue, revalued, withValue, underAll, SpotIs}
 use Rattle.format.proofs.book.PrefixLaws.{and-left, and-right, and-both}
 use Rattle.format.proofs.questions.ItemQuestions.{no-some, some-is, some-word}
 use Rattle.format.proofs.rules.AlikeLaws.{blind, same-width}
 
 -- ---- the walk to a spot, a step at a time
 
-spot-here : (k at : ℕ) (x : Item) (xs : List Item) (w : ℕ) → w ≡ at → spotIn k at (x ∷ xs) w ≡ spotOf k x
+spot-here : (k : Header) (at : ℕ) (x : Item) (xs : List Item) (w : ℕ) → w ≡ at → spotIn k at (x ∷ xs) w ≡ spotOf k x
 unfolding spotIn
 spot-here k at x xs w e = rw (eq-eqb w at e)
 
-spot-next : (k at : ℕ) (x : Item) (xs : List Item) (w : ℕ) → (w ≡ at → ⊥)
+spot-next : (k : Header) (at : ℕ) (x : Item) (xs : List Item) (w : ℕ) → (w ≡ at → ⊥)
     → spotIn k at (x ∷ xs) w ≡ spotIn (under k x) (at + length (wordsOf x)) xs w
 unfolding spotIn
 spot-next k at x xs w n = rw (ne-eqb w at n)
@@ -47,9 +47,9 @@ words-none : length (allWords []) ≡ 0
 unfolding allWords
 words-none = refl
 
--- ---- a spot by the list's split, from a word and a key on
+-- ---- a spot by the list's split, from a word and a header on
 
-record Split (k at : ℕ) (xs : List Item) (w : ℕ) (p : Spot) : Type 0 where
+record Split (k : Header) (at : ℕ) (xs : List Item) (w : ℕ) (p : Spot) : Type 0 where
   before : List Item
   item : Item
   after : List Item
@@ -57,11 +57,11 @@ record Split (k at : ℕ) (xs : List Item) (w : ℕ) (p : Spot) : Type 0 where
   index : w ≡ at + length (allWords before)
   spot : spotOf (underAll k before) item ≡ some p
 
-split-here : (k at : ℕ) (x : Item) (xs : List Item) (w : ℕ) (p : Spot) → w ≡ at → spotOf k x ≡ some p → Split k at (x ∷ xs) w p
+split-here : (k : Header) (at : ℕ) (x : Item) (xs : List Item) (w : ℕ) (p : Spot) → w ≡ at → spotOf k x ≡ some p → Split k at (x ∷ xs) w p
 unfolding underAll
 split-here k at x xs w p e s = record { before = []; item = x; after = xs; items = refl; index = omega (arith, words-none); spot = s }
 
-split-next : (k at : ℕ) (x : Item) (xs : List Item) (w : ℕ) (p : Spot) → Split (under k x) (at + length (wordsOf x)) xs w p → Split k at (x ∷ xs) w p
+split-next : (k : Header) (at : ℕ) (x : Item) (xs : List Item) (w : ℕ) (p : Spot) → Split (under k x) (at + length (wordsOf x)) xs w p → Split k at (x ∷ xs) w p
 unfolding underAll
 split-next k at x xs w p s =
     record {
@@ -73,7 +73,7 @@ split-next k at x xs w p s =
       spot = s .spot;
     }
 
-split-of : (k at : ℕ) (xs : List Item) (w : ℕ) (p : Spot) → spotIn k at xs w ≡ some p → Split k at xs w p
+split-of : (k : Header) (at : ℕ) (xs : List Item) (w : ℕ) (p : Spot) → spotIn k at xs w ≡ some p → Split k at xs w p
 unfolding spotIn
 split-of k at [] w p e = no-some p e
 split-of k at (x ∷ xs) w p e =
@@ -81,7 +81,7 @@ split-of k at (x ∷ xs) w p e =
     (λ h. split-here k at x xs w p h (sym (spot-here k at x xs w h) ∙ e))
     (λ n. split-next k at x xs w p (split-of (under k x) (at + length (wordsOf x)) xs w p (sym (spot-next k at x xs w n) ∙ e)))
 
-split-spot : (before : List Item) (x : Item) (after : List Item) (k at w : ℕ) → w ≡ at + length (allWords before)
+split-spot : (before : List Item) (x : Item) (after : List Item) (k : Header) (at w : ℕ) → w ≡ at + length (allWords before)
     → spotIn k at (before ++ (x ∷ after)) w ≡ spotOf (underAll k before) x
 unfolding underAll
 split-spot [] x after k at w e = spot-here k at x after w (omega (arith, words-none))
@@ -92,19 +92,19 @@ split-spot (y ∷ before) x after k at w e =
     ∙ split-spot before x after (under k y) (at + length (wordsOf y)) w (omega arith)
 
 -- a spot stands at word w exactly where an item is that spot and the words before it end there
-pub spot-exactly : (xs : List Item) (w : ℕ) (p : Spot) → (spotIn 0 3 xs w ≡ some p) ↔ SpotIs xs w p
+pub spot-exactly : (xs : List Item) (w : ℕ) (p : Spot) → (spotIn noHeader 3 xs w ≡ some p) ↔ SpotIs xs w p
 spot-exactly xs w p = (
-  λ e. let s = split-of 0 3 xs w p e in record { before = s .before; item = s .item; after = s .after; items = s .items; index = s .index; spot = s .spot },
-  λ i. ap (λ (l : List Item). spotIn 0 3 l w) (i .items) ∙ split-spot (i .before) (i .item) (i .after) 0 3 w (i .index) ∙ i .spot,
+  λ e. let s = split-of noHeader 3 xs w p e in record { before = s .before; item = s .item; after = s .after; items = s .items; index = s .index; spot = s .spot },
+  λ i. ap (λ (l : List Item). spotIn noHeader 3 l w) (i .items) ∙ split-spot (i .before) (i .item) (i .after) noHeader 3 w (i .index) ∙ i .spot,
 )
 
 -- no spot stands before the items, nor within one: the words after an item's first are data
-spot-before : (k at : ℕ) (xs : List Item) (w : ℕ) → w < at → spotIn k at xs w ≡ none
+spot-before : (k : Header) (at : ℕ) (xs : List Item) (w : ℕ) → w < at → spotIn k at xs w ≡ none
 unfolding spotIn
 spot-before k at [] w h = refl
 spot-before k at (x ∷ xs) w h = spot-next k at x xs w (λ e. omega arith) ∙ spot-before (under k x) (at + length (wordsOf x)) xs w (omega arith)
 
-pub spot-within : (before : List Item) (x : Item) (after : List Item) (k at d : ℕ) → 1 ≤ d → d < length (wordsOf x)
+pub spot-within : (before : List Item) (x : Item) (after : List Item) (k : Header) (at d : ℕ) → 1 ≤ d → d < length (wordsOf x)
     → spotIn k at (before ++ (x ∷ after)) (at + length (allWords before) + d) ≡ none
 spot-within [] x after k at d h l =
     let z = words-none in
@@ -119,7 +119,7 @@ spot-within (y ∷ before) x after k at d h l =
 
 -- ---- what an item that is a spot keeps with another value
 
-pub record Valued (k : ℕ) (x : Item) (p : Spot) : Type 0 where
+pub record Valued (k : Header) (x : Item) (p : Spot) : Type 0 where
   -- its words, the last of which hold the value
   pub lead : List ℕ
   pub words : (v : ℕ) → wordsOf (withValue x v) ≡ lead ++ valueWords (p .kind) v
@@ -131,7 +131,7 @@ pub record Valued (k : ℕ) (x : Item) (p : Spot) : Type 0 where
   pub ranged : (card v : ℕ) → inRange card x ≡ true → legalValue (p .kind) v ≡ true → inRange card (withValue x v) ≡ true
   pub standing : (card : ℕ) → inRange card x ≡ true → legalValue (p .kind) (p .value) ≡ true
 
-sample-valued : (k v : ℕ) → Valued k (Sample v) (record { kind = 1; value = v; key = k })
+sample-valued : (k : Header) (v : ℕ) → Valued k (Sample v) (record { kind = 1; value = v; header = k })
 unfolding wordsOf legalValue
 sample-valued k v =
     record {
@@ -145,7 +145,7 @@ sample-valued k v =
       standing = λ card r. r;
     }
 
-bin-valued : (k b n : ℕ) → Valued k (Bin b n) (record { kind = 2; value = n; key = k })
+bin-valued : (k : Header) (b n : ℕ) → Valued k (Bin b n) (record { kind = 2; value = n; header = k })
 unfolding wordsOf legalValue
 bin-valued k b n =
     record {
@@ -162,7 +162,7 @@ bin-valued k b n =
           (and-both _ _ (and-left (leb b 4095) (ltb n 4294967296) (and-right (leb 1 n) (leb b 4095 && ltb n 4294967296) r)) (and-right (leb 1 v) (ltb v 4294967296) l));
     }
 
-pub valued : (k : ℕ) (x : Item) (p : Spot) → spotOf k x ≡ some p → Valued k x p
+pub valued : (k : Header) (x : Item) (p : Spot) → spotOf k x ≡ some p → Valued k x p
 valued k (Channel a b c) p e = no-some p e
 valued k (Histogram a b c) p e = no-some p e
 valued k (HitCount a b c) p e = no-some p e
@@ -207,11 +207,11 @@ replaced-split (y ∷ before) x after at w v e =
     ∙ ap (λ (l : List Item). y ∷ l) (replaced-split before x after (at + length (wordsOf y)) w v (omega arith))
 
 -- items as wide and under the same header give the same further spots and replacements
-pub same-under : (k : ℕ) (x : Item) (v : ℕ) → under k (withValue x v) ≡ under k x
+pub same-under : (k : Header) (x : Item) (v : ℕ) → under k (withValue x v) ≡ under k x
 same-under k = blind (under k) (λ m n. refl) (λ b m n. refl)
 
 -- every other spot is as it was
-pub replaced-elsewhere : (k at : ℕ) (xs : List Item) (w v u : ℕ) → (u ≡ w → ⊥) → spotIn k at (replaced at xs w v) u ≡ spotIn k at xs u
+pub replaced-elsewhere : (k : Header) (at : ℕ) (xs : List Item) (w v u : ℕ) → (u ≡ w → ⊥) → spotIn k at (replaced at xs w v) u ≡ spotIn k at xs u
 unfolding replaced
 replaced-elsewhere k at [] w v u n = refl
 replaced-elsewhere k at (x ∷ xs) w v u n =
@@ -220,7 +220,7 @@ replaced-elsewhere k at (x ∷ xs) w v u n =
     here-or-not w at
     (λ e. ap (λ (l : List Item). spotIn k at l u) (here at x xs w v e)
     ∙ spot-next k at (withValue x v) rest u (λ h. n (h ∙ sym e))
-    ∙ ap₂ (λ (j i : ℕ). spotIn j (at + i) rest u) (same-under k x v) (same-width x v)
+    ∙ ap₂ (λ (j : Header) (i : ℕ). spotIn j (at + i) rest u) (same-under k x v) (same-width x v)
     ∙ further
     ∙ sym (spot-next k at x xs u (λ h. n (h ∙ sym e))))
     (λ e. ap (λ (l : List Item). spotIn k at l u) (next at x xs w v e)

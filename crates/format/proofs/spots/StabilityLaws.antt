@@ -16,7 +16,7 @@ use Rattle.format.specs.Answers.{accepted}
 use Rattle.format.specs.Items.{Item}
 use Rattle.format.specs.Frames.{Frame, allWords, encode, verdict}
 use Rattle.format.specs.Stands.{indexOf}
-use Rattle.format.specs.Spots.{Spot, spot, valueWord, valueWords, putFor, put, legalValue, revalued, withValue, SpotIs, withItems}
+use Rattle.format.specs.Spots.{noHeader, Spot, spot, valueWord, valueWords, putFor, put, legalValue, revalued, withValue, SpotIs, withItems}
 use Rattle.format.proofs.book.PrefixLaws.{and-left, and-right, and-both}
 use Rattle.format.proofs.items.WordLaws.{bytes-below}
 use Rattle.format.proofs.questions.ItemQuestions.{all-words}
@@ -150,7 +150,7 @@ module _ (s : List ℕ) (y : Bytes s) (w : ℕ) (p : Spot) (e : spot s w ≡ som
         let h = stands s w p e in
         let f : Frame = h .frame in
         spot-in (put s w v) (changed f w v) u (put-changed s y f (h .accepted) w p e v l)
-        ∙ replaced-elsewhere 0 3 (f .items) w v u n
+        ∙ replaced-elsewhere noHeader 3 (f .items) w v u n
         ∙ sym (spot-in s f u (h .accepted))
 
     -- of two puts in one item the later decides, and the first value put back gives the first bytes

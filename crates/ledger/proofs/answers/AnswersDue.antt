@@ -16,18 +16,17 @@ use Rattle.format.specs.Answers.{Outcome, accepted, refused, Done, andThen, nee
 use Rattle.format.specs.Faults.{Refused}
 use Rattle.format.specs.Frames.{Frame, verdict}
 use Rattle.format.specs.Questions.{done}
-use Rattle.format.specs.Spots.{spot, legalValue}
+use Rattle.format.specs.Spots.{Spot, spot, legalValue}
 use Rattle.format.specs.Spots as spots
 use Rattle.format.proofs.questions.ItemQuestions.{no-some, some-is}
 use Rattle.format.proofs.book.PrefixLaws.{and-left, and-right}
 use Rattle.format.proofs.front.Refusals as frames
-use Rattle.ledger.specs.Frames.{Spot}
 use Rattle.ledger.specs.Formats.{Entry, Correction}
 use Rattle.ledger.specs.Records.{lengthIn, countIn, frameIn, entryOf, numbered, entriesIn, headerRight, signed, atSpot, recordVerdict}
 use Rattle.ledger.specs.Calls.{newValue, entryFor, openAnswer, editTests, editAnswer, restoreAnswer, entryAnswer}
 use Rattle.ledger.specs.Chains.{Header, Chain}
 use Rattle.ledger.specs.First.{first, nothing}
-use Rattle.ledger.specs.House.{told, toldOf, house, house-judge}
+use Rattle.ledger.specs.House.{house, house-judge}
 use Rattle.ledger.specs.Layout.{totalLength, frameOf, entryFrom}
 use Rattle.ledger.specs.Reasons.{HeaderBroken, Back, NewestUnfit, RecordRefused, ofHeader, ofFrame, ofEntry, OpenBroken, OpenRefused, EditBroken, target, illegal, present, signer, full, EditRefused, RestoreBroken, RestoreRefused, EntryBroken, EntryRefused}
 use Rattle.ledger.specs.Reasons as reasons
@@ -55,16 +54,16 @@ entry-refusal : (m q n p : ℕ) → _≡_ {A = Outcome Entry} (refused m q) (ref
 entry-refusal m q n p e = (cc, cc)
 
 -- ---- the item at a word
-no-spot : (o : Option spots.Spot) → atSpot (toldOf o) (λ s. true) ≡ false → (p : spots.Spot) → o ≡ some p → ⊥
+no-spot : (o : Option Spot) → atSpot o (λ s. true) ≡ false → (p : Spot) → o ≡ some p → ⊥
 no-spot none e p q = absurd (no-some p q)
 no-spot (some s) e p q = true≢false e
 
-has-spot : (o : Option spots.Spot) → atSpot (toldOf o) (λ s. true) ≡ true → (p : spots.Spot) × (o ≡ some p)
+has-spot : (o : Option Spot) → atSpot o (λ s. true) ≡ true → (p : Spot) × (o ≡ some p)
 has-spot none e = absurd (true≢false (sym e))
 has-spot (some s) e = (s, refl)
 
-at-item : (o : Option spots.Spot) (p : spots.Spot) → o ≡ some p → (f : Spot → Bool) (t : Bool) → atSpot (toldOf o) f ≡ t → f (told p) ≡ t
-at-item o p q f t e = ap (λ (i : Option spots.Spot). atSpot (toldOf i) f) (sym q) ∙ e
+at-item : (o : Option Spot) (p : Spot) → o ≡ some p → (f : Spot → Bool) (t : Bool) → atSpot o f ≡ t → f p ≡ t
+at-item o p q f t e = ap (λ (i : Option Spot). atSpot i f) (sym q) ∙ e
 
 -- this format has nothing after the reason
 without : (a : Bool) (x : List ℕ) → x ≡ [] → (t : Bool) → (a && nothing x) ≡ t → a ≡ t
@@ -200,7 +199,7 @@ module _ (b : List ℕ) where
 
     -- ---- an edit: record refusals, 22, 23, 24, 25, 12
     module _ (c : Correction) (x : c .extra ≡ []) where
-      value-broken : (p : spots.Spot) → spot (frameOf b) (c .word) ≡ some p → newValue house c (told p) ≡ false → EditBroken b c 23
+      value-broken : (p : Spot) → spot (frameOf b) (c .word) ≡ some p → newValue house c p ≡ false → EditBroken b c 23
       unfolding newValue house
       value-broken p s e = go (legalValue (p .kind) (c .value)) refl e
         where
@@ -208,14 +207,14 @@ module _ (b : List ℕ) where
           go true q h = present p s (eqb-true _ _ (not-false _ h))
           go false q h = illegal p s (illegal-value (p .kind) (c .value) (spot-kind (frameOf b) (c .word) p s) q)
 
-      value-not : (p : spots.Spot) → spot (frameOf b) (c .word) ≡ some p → newValue house c (told p) ≡ true → EditBroken b c 23 → ⊥
+      value-not : (p : Spot) → spot (frameOf b) (c .word) ≡ some p → newValue house c p ≡ true → EditBroken b c 23 → ⊥
       unfolding newValue house
       value-not p s e (illegal q t h) =
           let k : p ≡ q = some-is p q (sym s ∙ t) in
-          value-illegal (q .kind) (c .value) (ap (λ (r : spots.Spot). legalValue (r .kind) (c .value)) (sym k) ∙ and-left _ _ e) h
+          value-illegal (q .kind) (c .value) (ap (λ (r : Spot). legalValue (r .kind) (c .value)) (sym k) ∙ and-left _ _ e) h
       value-not p s e (present q t h) =
           let k : p ≡ q = some-is p q (sym s ∙ t) in
-          eqb-false _ _ (not-true _ (and-right (legalValue (p .kind) (c .value)) _ e)) (ap (λ (r : spots.Spot). r .value) k ∙ h)
+          eqb-false _ _ (not-true _ (and-right (legalValue (p .kind) (c .value)) _ e)) (ap (λ (r : Spot). r .value) k ∙ h)
 
       signer-not : signed (c .operator) (c .reason) ≡ true → EditBroken b c 24 → ⊥
       signer-not e (signer h) = signed-not _ _ e h
@@ -231,7 +230,7 @@ module _ (b : List ℕ) where
       room-not : totalLength b + 16 ≤ length b → EditBroken b c 12 → ⊥
       room-not h (reasons.room l) = omega arith
 
-      target-not : (p : spots.Spot) → spot (frameOf b) (c .word) ≡ some p → EditBroken b c 22 → ⊥
+      target-not : (p : Spot) → spot (frameOf b) (c .word) ≡ some p → EditBroken b c 22 → ⊥
       target-not p s (target h) = h p s
 
       pub edit-refused-by : (n p : ℕ) → (editAnswer house first b c ≡ refused n p) ↔ EditRefused b c n p

@@ -13,37 +13,36 @@ use lib.Dec.{eqb}
 use borrow.Author.Tests.{leb-false, eqb-true, eqb-false, not-false}
 use Rattle.format.specs.Items.{Item, Channel, Histogram, HitCount, Sample, Bin, LastCell, TimeBin, Text, StartEvent, EndEvent}
 use Rattle.format.specs.Words.{wordAt, longAt}
-use Rattle.format.specs.Spots.{spotOf, spot, legalValue}
+use Rattle.format.specs.Spots.{Spot, spotOf, spot, legalValue}
 use Rattle.format.specs.Spots as spots
 use Rattle.format.proofs.questions.ItemQuestions.{no-some, some-is}
 use Rattle.format.proofs.spots.PutLaws.{stands}
 use Rattle.format.proofs.front.Stability as stability
-use Rattle.ledger.specs.Frames.{Spot}
 use Rattle.ledger.specs.Records.{lengthIn, countIn, entryOf, entriesTo, length-entries, headerRight, signed, atSpot, fitsItem, fits}
 use Rattle.ledger.specs.Chains.{Header, Fits}
 use Rattle.ledger.specs.First.{first}
-use Rattle.ledger.specs.House.{told, toldOf, house}
+use Rattle.ledger.specs.House.{house}
 use Rattle.ledger.specs.Reasons.{Illegal, over, nought, wide, NotSigned, noOperator, highOperator, noReason, highReason, HeaderBroken, short, version, frames, offset, history, count, total, zero, cut, Unfit, noItem, otherKind, otherValue, oldIllegal, unchanged, signer}
 use Rattle.ledger.proofs.answers.Due.{caught}
 use Rattle.ledger.proofs.records.Headers.{header-words}
 use Rattle.ledger.proofs.records.Judging.{signed-right, right-signed, fits-right}
 use Rattle.ledger.proofs.house.FirstLaws.{count-limit}
-use Rattle.ledger.proofs.house.House.{own, stands-there}
+use Rattle.ledger.proofs.house.House.{stands-there}
 
 -- ---- values: the kind of an item is 1 or 2
-kind-of : (k : ℕ) (x : Item) (p : spots.Spot) → spotOf k x ≡ some p → (p .kind ≡ 1) ⊎ (p .kind ≡ 2)
+kind-of : (k : spots.Header) (x : Item) (p : Spot) → spotOf k x ≡ some p → (p .kind ≡ 1) ⊎ (p .kind ≡ 2)
 kind-of k (Channel a b c) p e = no-some p e
 kind-of k (Histogram a b c) p e = no-some p e
 kind-of k (HitCount a b c) p e = no-some p e
-kind-of k (Sample v) p e = inl (sym (ap (λ (s : spots.Spot). s .kind) (some-is _ p e)))
-kind-of k (Bin b n) p e = inr (sym (ap (λ (s : spots.Spot). s .kind) (some-is _ p e)))
+kind-of k (Sample v) p e = inl (sym (ap (λ (s : Spot). s .kind) (some-is _ p e)))
+kind-of k (Bin b n) p e = inr (sym (ap (λ (s : Spot). s .kind) (some-is _ p e)))
 kind-of k (LastCell a b) p e = no-some p e
 kind-of k (TimeBin t) p e = no-some p e
 kind-of k (Text s) p e = no-some p e
 kind-of k (StartEvent t ts n) p e = no-some p e
 kind-of k (EndEvent n) p e = no-some p e
 
-pub spot-kind : (s : List ℕ) (w : ℕ) (p : spots.Spot) → spot s w ≡ some p → (p .kind ≡ 1) ⊎ (p .kind ≡ 2)
+pub spot-kind : (s : List ℕ) (w : ℕ) (p : Spot) → spot s w ≡ some p → (p .kind ≡ 1) ⊎ (p .kind ≡ 2)
 spot-kind s w p e = let t = stands s w p e in kind-of _ (t .is .item) p (t .is .spot)
 
 pub illegal-value : (k v : ℕ) → (k ≡ 1) ⊎ (k ≡ 2) → legalValue k v ≡ false → Illegal k v
@@ -115,7 +114,7 @@ whole-header b h = go (headerRight first b) refl
 
 -- ---- entries
 module _ (f e : List ℕ) where
-  item-unfit : (p : spots.Spot) → spot f (wordAt e 0) ≡ some p → fitsItem house first (entryOf first e) (told p) ≡ false → Unfit f e
+  item-unfit : (p : Spot) → spot f (wordAt e 0) ≡ some p → fitsItem house first (entryOf first e) p ≡ false → Unfit f e
   unfolding fitsItem entryOf house first
   item-unfit p s h =
       caught (Unfit f e) _ h
@@ -141,23 +140,23 @@ module _ (f e : List ℕ) where
   unfolding fits entryOf house
   not-fits h = go (spot f (wordAt e 0)) refl h
     where
-      go : (o : Option spots.Spot) → spot f (wordAt e 0) ≡ o → atSpot (toldOf o) (fitsItem house first (entryOf first e)) ≡ false → Unfit f e
+      go : (o : Option Spot) → spot f (wordAt e 0) ≡ o → atSpot o (fitsItem house first (entryOf first e)) ≡ false → Unfit f e
       go none q k = noItem (λ p s. no-some p (sym q ∙ s))
       go (some p) q k = item-unfit p q k
 
   module _ (r : Fits house first f (entryOf first e)) where
-    there : spot f (wordAt e 0) ≡ some (own (r .spot))
+    there : spot f (wordAt e 0) ≡ some (r .spot)
     unfolding entryOf
     there = stands-there f (wordAt e 0) (r .spot) (r .stands)
 
-    one : (p : spots.Spot) → spot f (wordAt e 0) ≡ some p → own (r .spot) ≡ p
-    one p s = some-is (own (r .spot)) p (sym there ∙ s)
+    one : (p : Spot) → spot f (wordAt e 0) ≡ some p → r .spot ≡ p
+    one p s = some-is (r .spot) p (sym there ∙ s)
 
     pub unfit-not : Unfit f e → ⊥
     unfolding entryOf house
-    unfit-not (noItem h) = h (own (r .spot)) there
-    unfit-not (otherKind p s h) = h (sym (ap (λ (q : spots.Spot). q .kind) (one p s)) ∙ r .kind)
-    unfit-not (otherValue p s h) = h (sym (ap (λ (q : spots.Spot). q .value) (one p s)) ∙ r .new)
+    unfit-not (noItem h) = h (r .spot) there
+    unfit-not (otherKind p s h) = h (sym (ap (λ (q : Spot). q .kind) (one p s)) ∙ r .kind)
+    unfit-not (otherValue p s h) = h (sym (ap (λ (q : Spot). q .value) (one p s)) ∙ r .new)
     unfit-not (oldIllegal h) = value-illegal (wordAt e 1) (longAt e 2) (r .old) h
     unfit-not (unchanged h) = r .changed h
     unfit-not (signer h) = signed-not (wordAt e 6) (wordAt e 7) (right-signed _ _ (r .operator) (r .reason)) h

@@ -9,8 +9,9 @@ use lib.ListN.{take, drop}
 use lib.Seq.{drop-drop}
 use Rattle.format.specs.Words.{Bytes}
 use Rattle.format.specs.Answers.{accepted}
+use Rattle.format.specs.Spots.{Spot, revalued}
 use Rattle.format.proofs.items.WordLaws.{below-drop}
-use Rattle.ledger.specs.Frames.{Spot, revalued, FrameBook, Settable}
+use Rattle.ledger.specs.Frames.{FrameBook, Settable}
 use Rattle.ledger.specs.Formats.{Correction, Format, Lawful, size}
 use Rattle.ledger.specs.Records.{header, lengthIn, countIn, totalIn, frameIn, entryBytes, entriesIn, recordVerdict}
 use Rattle.ledger.specs.Calls.{entryFor, restored, editAnswer, editWritten, editExit}

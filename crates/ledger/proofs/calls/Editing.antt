@@ -15,9 +15,10 @@ use lib.Dec.{leb, eqb}
 use borrow.Author.Tests.{leb-true, eqb-false, le-leb, ne-eqb, not-true}
 use Rattle.format.specs.Words.{bytes}
 use Rattle.format.specs.Answers.{accepted, refused, firstOf}
+use Rattle.format.specs.Spots.{Spot}
 use Rattle.format.proofs.book.PrefixLaws.{and-left, and-right}
 use Rattle.ledger.specs.Tests.{FirstRefusal}
-use Rattle.ledger.specs.Frames.{Spot, FrameBook}
+use Rattle.ledger.specs.Frames.{FrameBook}
 use Rattle.ledger.specs.Formats.{Correction, Format, Lawful, size}
 use Rattle.ledger.specs.Records.{header, totalIn, frameIn, entryBytes, entriesIn, signed, atSpot, recordVerdict}
 use Rattle.ledger.specs.Calls.{entryFor, newValue, setWord, editTests, editAnswer, editWritten, editExit}

@@ -13,8 +13,9 @@ use mathlib.Core.Option.{some}
 use lib.ListN.{length, getD, take, drop}
 use Rattle.format.specs.Words.{Bytes}
 use Rattle.format.specs.Answers.{accepted, refused}
+use Rattle.format.specs.Spots.{Spot, revalued}
 use Rattle.ledger.specs.Tests.{FirstRefusal, Plain}
-use Rattle.ledger.specs.Frames.{Spot, revalued, FrameBook}
+use Rattle.ledger.specs.Frames.{FrameBook}
 use Rattle.ledger.specs.Formats.{Entry, Correction, Format, Lawful, size}
 use Rattle.ledger.specs.Records.{header, lengthIn, countIn, totalIn, frameIn, entryBytes, numbered, entriesIn, recordVerdict}
 use Rattle.ledger.specs.Calls.{entryFor, recordAnswer, entryAnswer, openAnswer, openExit, editTests, editAnswer, editExit, restored, restoreAnswer, restoreExit}

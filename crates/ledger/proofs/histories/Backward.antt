@@ -12,7 +12,8 @@ use lib.ListN.{length, drop, length-append, take-append-drop}
 use lib.Seq.{drop-at, drop-length, take-all}
 use Rattle.format.specs.Words.{Bytes}
 use Rattle.format.specs.Answers.{accepted}
-use Rattle.ledger.specs.Frames.{revalued, FrameBook, Accepted, Settable}
+use Rattle.format.specs.Spots.{revalued}
+use Rattle.ledger.specs.Frames.{FrameBook, Accepted, Settable}
 use Rattle.ledger.specs.Formats.{Entry, Correction, Format, Lawful, size}
 use Rattle.ledger.specs.Records.{header, lengthIn, countIn, totalIn, frameIn, entryBytes, entriesIn, length-entries, before, historyVerdict, recordVerdict}
 use Rattle.ledger.specs.Calls.{entryFor, undone, restored, openAnswer, openExit, editAnswer, editExit}

@@ -9,7 +9,8 @@ use native.Mathlib.Omega.{arith}
 use lib.ListN.{length, take, drop}
 use Rattle.format.specs.Words.{Bytes}
 use Rattle.format.specs.Answers.{accepted}
-use Rattle.ledger.specs.Frames.{Spot, revalued, FrameBook, Accepted, Settable}
+use Rattle.format.specs.Spots.{Spot, revalued}
+use Rattle.ledger.specs.Frames.{FrameBook, Accepted, Settable}
 use Rattle.ledger.specs.Formats.{Entry, Correction, Format, Lawful}
 use Rattle.ledger.specs.Records.{before, historyVerdict, history-none, history-fits}
 use Rattle.ledger.specs.Calls.{entryFor, undone}

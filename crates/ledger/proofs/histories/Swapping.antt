@@ -7,7 +7,8 @@ use mathlib.Core.List.{List, _∷_, map}
 use lib.ListN.{length}
 use Rattle.format.specs.Words.{Bytes}
 use Rattle.format.specs.Answers.{accepted}
-use Rattle.ledger.specs.Frames.{Spot, FrameBook, Accepted, Settable}
+use Rattle.format.specs.Spots.{Spot}
+use Rattle.ledger.specs.Frames.{FrameBook, Accepted, Settable}
 use Rattle.ledger.specs.Formats.{Correction, Format, Lawful, size}
 use Rattle.ledger.specs.Records.{frameIn, entriesIn}
 use Rattle.ledger.specs.Calls.{entryFor, restored, editAnswer, editWritten, editExit}

@@ -1,43 +1,25 @@
 -- Document 01's own frames are a lawful book, so that demand 3 holds of records over them.
 -- Assumes nothing.
 use Prim.Native.Nat.{ℕ, _≤_}
-use mathlib.Core.Path.{_≡_, refl, sym, ap, _∙_}
+use mathlib.Core.Path.{_≡_, refl, ap, _∙_}
 use mathlib.Core.Logic.{_⊎_, ⊎-elim}
 use mathlib.Core.Bool.{true}
 use mathlib.Core.List.{List}
-use mathlib.Core.Option.{Option, none, some}
+use mathlib.Core.Option.{some}
 use native.Mathlib.Omega.{arith}
 use lib.ListN.{length}
 use Rattle.format.specs.Answers.{Outcome, accepted, refused}
 use Rattle.format.specs.Frames.{Frame, encode, verdict}
 use Rattle.format.specs.Questions.{done}
-use Rattle.format.specs.Spots.{spot, put, legalValue}
-use Rattle.format.specs.Spots as spots
-use Rattle.format.proofs.questions.ItemQuestions.{no-some, some-is}
+use Rattle.format.specs.Spots.{Spot, spot, put, legalValue, revalued}
 use Rattle.format.proofs.verdict.Acceptance.{sound}
 use Rattle.format.proofs.spots.PutLaws.{stands}
 use Rattle.format.proofs.front.Stability as stability
-use Rattle.ledger.specs.Frames.{Spot, revalued, Accepted, Settable, LawfulBook}
+use Rattle.ledger.specs.Frames.{Accepted, Settable, LawfulBook}
 use Rattle.ledger.specs.Formats.{Lawful}
 use Rattle.ledger.specs.First.{first}
-use Rattle.ledger.specs.House.{told, toldOf, house, house-judge}
+use Rattle.ledger.specs.House.{house, house-judge}
 use Rattle.ledger.proofs.house.FirstLaws.{first-lawful}
-
--- a spot that the book tells is the frame's own
-abbrev pub own : Spot → spots.Spot
-own s = record { kind = s .kind; value = s .value; key = s .key }
-
-owned : (o : Option spots.Spot) (s : Spot) → toldOf o ≡ some s → o ≡ some (own s)
-owned none s e = no-some s e
-owned (some p) s e = ap (λ (t : Spot). some (own t)) (some-is (told p) s e)
-
-pub same-told : (o q : Option spots.Spot) → toldOf o ≡ toldOf q → o ≡ q
-same-told o none e = go o e
-  where
-    go : (o : Option spots.Spot) → toldOf o ≡ none → o ≡ none
-    go none h = refl
-    go (some p) h = no-some (told p) (sym h)
-same-told o (some p) e = owned o (told p) e
 
 -- the verdict accepts a frame exactly where the book judges it right
 pub judges : (f : List ℕ) (g : Frame) → verdict f ≡ accepted g → house .judge f ≡ accepted tt
@@ -57,15 +39,15 @@ accepted-short f a =
     omega arith
 
 module _ (f : List ℕ) (w : ℕ) (s : Spot) where
-  pub stands-there : house .spot f w ≡ some s → spot f w ≡ some (own s)
+  pub stands-there : house .spot f w ≡ some s → spot f w ≡ some s
   unfolding house
-  stands-there e = owned (spot f w) s e
+  stands-there e = e
 
   pub kind-is : Accepted house f → house .spot f w ≡ some s → (s .kind ≡ 1) ⊎ (s .kind ≡ 2)
-  kind-is a e = stability.legal-kind (s .kind) (s .value) (stability.standing f (a .bytes) w (own s) (stands-there e))
+  kind-is a e = stability.legal-kind (s .kind) (s .value) (stability.standing f (a .bytes) w s (stands-there e))
 
   module _ (v : ℕ) (h : Settable house f w v s) where
-    there : spot f w ≡ some (own s)
+    there : spot f w ≡ some s
     there = stands-there (h .stands)
 
     lawful-value : legalValue (s .kind) v ≡ true
@@ -75,37 +57,37 @@ module _ (f : List ℕ) (w : ℕ) (s : Spot) where
     accepted-put : Accepted house (house .put f w v)
     unfolding house
     accepted-put =
-        let t = stands f w (own s) there in
+        let t = stands f w s there in
         let y = h .frame .bytes in
         record {
-          bytes = stability.put-bytes f y w (own s) there v lawful-value;
-          judged = ap (λ (o : Outcome Frame). done o) (stability.put-accepted f y w (own s) there v lawful-value (t .frame) (t .accepted) (t .is));
+          bytes = stability.put-bytes f y w s there v lawful-value;
+          judged = ap (λ (o : Outcome Frame). done o) (stability.put-accepted f y w s there v lawful-value (t .frame) (t .accepted) (t .is));
         }
 
     there-put : house .spot (house .put f w v) w ≡ some (revalued s v)
     unfolding house
-    there-put = ap (λ (o : Option spots.Spot). toldOf o) (stability.put-there f (h .frame .bytes) w (own s) there v lawful-value)
+    there-put = stability.put-there f (h .frame .bytes) w s there v lawful-value
 
     elsewhere-put : (u : ℕ) → (u ≡ w → ⊥) → house .spot (house .put f w v) u ≡ house .spot f u
     unfolding house
-    elsewhere-put u n = ap (λ (o : Option spots.Spot). toldOf o) (stability.put-elsewhere f (h .frame .bytes) w (own s) there v lawful-value u n)
+    elsewhere-put u n = stability.put-elsewhere f (h .frame .bytes) w s there v lawful-value u n
 
 pub house-lawful : LawfulBook house
 unfolding house
 house-lawful = record {
   short = accepted-short;
-  index-fits = λ f w s a e. let i = stability.index-small f (a .bytes) w (own s) (stands-there f w s e) in omega arith;
+  index-fits = λ f w s a e. let i = stability.index-small f (a .bytes) w s (stands-there f w s e) in omega arith;
   kind-fits = λ f w s a e. ⊎-elim (λ q. omega arith) (λ q. omega arith) (kind-is f w s a e);
   value-fits = stability.value-small;
-  standing = λ f w s a e. stability.standing f (a .bytes) w (own s) (stands-there f w s e);
+  standing = λ f w s a e. stability.standing f (a .bytes) w s (stands-there f w s e);
   put-length = λ f w v s h. stability.put-length f w v;
   put-accepted = λ f w v s h. accepted-put f w s v h;
   put-there = λ f w v s h. there-put f w s v h;
   put-elsewhere = λ f w v s u h n. elsewhere-put f w s v h u n;
-  put-again = λ f w v x s h i. stability.put-again f (h .frame .bytes) w (own s) (there f w s v h) v (lawful-value f w s v h) x;
-  put-back = λ f w s a e. stability.put-back f (a .bytes) w (own s) (stands-there f w s e);
+  put-again = λ f w v x s h i. stability.put-again f (h .frame .bytes) w s (there f w s v h) v (lawful-value f w s v h) x;
+  put-back = λ f w s a e. stability.put-back f (a .bytes) w s (stands-there f w s e);
   put-apart = λ f w v s u x t h i n.
-      stability.put-apart f (h .frame .bytes) w (own s) (there f w s v h) v (lawful-value f w s v h) u (own t) (there f u t x i) x (lawful-value f u t x i) n;
+      stability.put-apart f (h .frame .bytes) w s (there f w s v h) v (lawful-value f w s v h) u t (there f u t x i) x (lawful-value f u t x i) n;
 }
 
 -- what demand 3's theorems ask, at document 01's frames and entries

@@ -11,12 +11,11 @@ use lib.ListN.{length, getD, take, drop}
 use Rattle.format.specs.Words.{Bytes, wordAt, bytes}
 use Rattle.format.specs.Answers.{accepted, refused}
 use Rattle.format.specs.Frames.{Frame, verdict}
-use Rattle.format.specs.Spots.{SpotIs, legalValue, withValue, withItems}
+use Rattle.format.specs.Spots.{Spot, SpotIs, legalValue, withValue, withItems}
 use Rattle.format.specs.Spots as spots
 use Rattle.format.proofs.questions.ItemQuestions.{some-is}
 use Rattle.format.proofs.spots.PutLaws.{stands, spot-is}
 use Rattle.format.proofs.front.Stability as stability
-use Rattle.ledger.specs.Frames.{Spot}
 use Rattle.ledger.specs.Formats.{Entry, Correction}
 use Rattle.ledger.specs.Records.{numbered, header, lengthIn, countIn, frameIn, entryBytes, recordVerdict}
 use Rattle.ledger.specs.Calls.{kindOf, entryFor, recordAnswer, openAnswer, openExit, editAnswer, editExit}
@@ -24,7 +23,7 @@ use Rattle.ledger.specs.Chains.{Allowed}
 use Rattle.ledger.specs.Histories.{bytesOf, frameAfter, entriesOf, recordAfter, acceptedEdits}
 use Rattle.ledger.specs.Tests.{Plain}
 use Rattle.ledger.specs.First.{first}
-use Rattle.ledger.specs.House.{told, toldOf, house, Free}
+use Rattle.ledger.specs.House.{house, Free}
 use Rattle.ledger.specs.Layout.{totalLength, frameOf, headerFor, entryWritten, historyWritten}
 use Rattle.ledger.proofs.records.Codecs.{bytes-part}
 use Rattle.ledger.proofs.house.FirstLaws.{full-limit}
@@ -37,7 +36,7 @@ use Rattle.ledger.proofs.calls.Restoring.{entry-answers}
 use Rattle.ledger.proofs.answers.EntryReasons.{spot-kind}
 use Rattle.ledger.proofs.calls.Telling as telling
 use Rattle.ledger.proofs.calls.Changing as changing
-use Rattle.ledger.proofs.house.House.{own, stands-there, same-told, house-first}
+use Rattle.ledger.proofs.house.House.{stands-there, house-first}
 
 asks-nothing : {A : Type 0} (x : List ℕ) (n p : ℕ) → first .asked x ≡ refused n p → A
 unfolding first
@@ -48,7 +47,7 @@ module _ (b : List ℕ) (c : Correction) where
   unfolding house first lengthIn countIn
   free-of a =
       record {
-        spot = own (a .spot);
+        spot = a .spot;
         stands = stands-there (frameIn b) (c .word) (a .spot) (a .stands);
         sample = λ k. stability.legal-sample (c .value) .0 (ap (λ (i : ℕ). legalValue i (c .value)) (sym k) ∙ a .legal);
         bin = λ k. stability.legal-bin (c .value) .0 (ap (λ (i : ℕ). legalValue i (c .value)) (sym k) ∙ a .legal);
@@ -73,8 +72,8 @@ module _ (b : List ℕ) (c : Correction) where
   free-allowed y x h =
       record {
         asked = refl;
-        spot = told (h .spot);
-        stands = ap (λ (o : Option spots.Spot). toldOf o) (h .stands);
+        spot = h .spot;
+        stands = h .stands;
         suits = refl;
         legal = free-legal y h;
         changed = h .changed;
@@ -91,34 +90,34 @@ module _ (b : List ℕ) (c : Correction) where
 
   -- the frame that it leaves has the items that stood, but for the value of the one asked for
   pub edit-items : Bytes b → editAnswer house first b c ≡ accepted tt → (f : Frame) → verdict (frameIn b) ≡ accepted f
-      → (p : spots.Spot) (is : SpotIs (f .items) (c .word) p)
+      → (p : Spot) (is : SpotIs (f .items) (c .word) p)
       → verdict (frameIn (editExit house first b c)) ≡ accepted (withItems f (is .before ++ (withValue (is .item) (c .value) ∷ is .after)))
   unfolding house
   edit-items y e f v p is =
       let a = changing.allowed house first house-first b c y e in
       let there = spot-is (frameIn b) f (c .word) p v .1 is in
-      let k : p ≡ own (a .spot) = some-is p (own (a .spot)) (sym there ∙ stands-there (frameIn b) (c .word) (a .spot) (a .stands)) in
-      let l : legalValue (p .kind) (c .value) ≡ true = ap (λ (q : spots.Spot). legalValue (q .kind) (c .value)) k ∙ a .legal in
+      let k : p ≡ a .spot = some-is p (a .spot) (sym there ∙ stands-there (frameIn b) (c .word) (a .spot) (a .stands)) in
+      let l : legalValue (p .kind) (c .value) ≡ true = ap (λ (q : Spot). legalValue (q .kind) (c .value)) k ∙ a .legal in
       ap verdict (changing.edit-frame house first house-first b c y e)
       ∙ stability.put-accepted (frameIn b) (bytes-part b 16 (lengthIn b) y) (c .word) p there (c .value) l f v is
 
   -- such an item stands in an accepted frame
   pub edit-stands : Bytes b → editAnswer house first b c ≡ accepted tt
-      → (f : Frame) × (verdict (frameIn b) ≡ accepted f) × ((p : spots.Spot) × SpotIs (f .items) (c .word) p)
+      → (f : Frame) × (verdict (frameIn b) ≡ accepted f) × ((p : Spot) × SpotIs (f .items) (c .word) p)
   edit-stands y e =
       let a = changing.allowed house first house-first b c y e in
-      let s = stands (frameIn b) (c .word) (own (a .spot)) (stands-there (frameIn b) (c .word) (a .spot) (a .stands)) in
-      (s .frame, s .accepted, (own (a .spot), s .is))
+      let s = stands (frameIn b) (c .word) (a .spot) (stands-there (frameIn b) (c .word) (a .spot) (a .stands)) in
+      (s .frame, s .accepted, (a .spot, s .is))
 
   pub edit-there : Bytes b → editAnswer house first b c ≡ accepted tt
-      → (p : spots.Spot) → spots.spot (frameIn b) (c .word) ≡ some p → spots.spot (frameIn (editExit house first b c)) (c .word) ≡ some (spots.revalued p (c .value))
+      → (p : Spot) → spots.spot (frameIn b) (c .word) ≡ some p → spots.spot (frameIn (editExit house first b c)) (c .word) ≡ some (spots.revalued p (c .value))
   unfolding house
-  edit-there y e p h = stands-there _ (c .word) (told (spots.revalued p (c .value))) (changing.edit-there house first house-first b c y e (told p) (ap (λ (o : Option spots.Spot). toldOf o) h))
+  edit-there y e p h = stands-there _ (c .word) (spots.revalued p (c .value)) (changing.edit-there house first house-first b c y e p h)
 
   pub edit-elsewhere : Bytes b → editAnswer house first b c ≡ accepted tt
       → (w : ℕ) → (w ≡ c .word → ⊥) → spots.spot (frameIn (editExit house first b c)) w ≡ spots.spot (frameIn b) w
   unfolding house
-  edit-elsewhere y e w n = same-told (spots.spot (frameIn (editExit house first b c)) w) (spots.spot (frameIn b) w) (changing.edit-elsewhere house first house-first b c y e w n)
+  edit-elsewhere y e w n = changing.edit-elsewhere house first house-first b c y e w n
 
   pub edit-bytes : Bytes b → editAnswer house first b c ≡ accepted tt
       → editExit house first b c
@@ -187,7 +186,7 @@ module _ (f buf : List ℕ) (y : Bytes f) (e : openAnswer house first f buf ≡ 
   made : Correction
   made = getD (acceptedEdits house first f buf cs) j d
 
-  told-kind : (k : ℕ) × ((k ≡ 1) ⊎ (k ≡ 2)) × (k ≡ kindOf (toldOf (spots.spot stood (made .word))))
+  told-kind : (k : ℕ) × ((k ≡ 1) ⊎ (k ≡ 2)) × (k ≡ kindOf (spots.spot stood (made .word)))
   unfolding stood made house
   told-kind =
       let b = recordAfter house first f buf cs in
@@ -195,15 +194,15 @@ module _ (f buf : List ℕ) (y : Bytes f) (e : openAnswer house first f buf ≡ 
       let n : j < countIn b = (let c = forward-count house first house-first f buf y e cs in omega arith) in
       let t = record-chain house first b .0 v .2 .1 .fit j (omega arith) n in
       let q = one-accepted (numbered first b (suc j)) (entryFor house stood made) (sym (entry-answers house first b (suc j) v (omega arith) n) ∙ telling.entry-asked house first house-first f buf y e cs j d h) in
-      (t .spot .kind, spot-kind _ _ (own (t .spot)) (stands-there _ _ (t .spot) (t .stands)), t .kind ∙ ap (λ (x : Entry). x .kind) q)
+      (t .spot .kind, spot-kind _ _ (t .spot) (stands-there _ _ (t .spot) (t .stands)), t .kind ∙ ap (λ (x : Entry). x .kind) q)
 
-  pub item-stood : (p : spots.Spot) × (spots.spot (frameAfter house f (take j (acceptedEdits house first f buf cs))) (getD (acceptedEdits house first f buf cs) j d .word) ≡ some p)
+  pub item-stood : (p : Spot) × (spots.spot (frameAfter house f (take j (acceptedEdits house first f buf cs))) (getD (acceptedEdits house first f buf cs) j d .word) ≡ some p)
   unfolding stood made
   item-stood = go (spots.spot stood (made .word)) refl
     where
-      go : (o : Option spots.Spot) → spots.spot stood (made .word) ≡ o → (p : spots.Spot) × (spots.spot stood (made .word) ≡ some p)
+      go : (o : Option Spot) → spots.spot stood (made .word) ≡ o → (p : Spot) × (spots.spot stood (made .word) ≡ some p)
       go (some p) q = (p, q)
       go none q =
           let k = told-kind in
-          let z : k .0 ≡ 0 = k .2 ∙ ap (λ (i : Option spots.Spot). kindOf (toldOf i)) q in
+          let z : k .0 ≡ 0 = k .2 ∙ ap (λ (i : Option Spot). kindOf i) q in
           absurd (⊎-elim (λ i. omega arith) (λ i. omega arith) (k .1))

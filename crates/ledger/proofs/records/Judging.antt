@@ -12,8 +12,9 @@ use lib.ListN.{length, getD, take}
 use lib.Dec.{eqb}
 use borrow.Author.Tests.{leb-true, eqb-true, eqb-false, le-leb, eq-eqb, ne-eqb, not-true}
 use Rattle.format.specs.Answers.{accepted, refused, Done, andThen, firstOf}
+use Rattle.format.specs.Spots.{Spot}
 use Rattle.ledger.specs.Tests.{all}
-use Rattle.ledger.specs.Frames.{Spot, FrameBook}
+use Rattle.ledger.specs.Frames.{FrameBook}
 use Rattle.ledger.specs.Formats.{Entry, Format}
 use Rattle.ledger.specs.Records.{countIn, frameIn, numbered, entriesTo, entriesIn, length-entries, headerRight, signed, atSpot, fitsItem, fits, before, historyVerdict, history-none, history-fits, history-unfit, recordVerdict}
 use Rattle.ledger.specs.Calls.{undone, restored}

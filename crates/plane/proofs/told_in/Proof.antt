@@ -8,10 +8,10 @@ use Rattle.plane.proofs.told_in.Tie as tie
 history-in-requires : tie.Need-history-in-requires
 history-in-requires c κs = search needs
 
-held-at-requires : tie.Need-held-at-requires
-held-at-requires c κs =
+header-found-requires : tie.Need-header-found-requires
+header-found-requires c κs =
     let h = c .before .before .before .before .before .before in
-    record { frame = h .before .before .before .before .before .before .before .pre .0; kinds = h .history-in .ensures .1 }
+    record { frame = h .before .before .before .before .before .before .before .pre .0; heads = h .history-in .ensures .1 }
 
 same-length : tie.Need-same-length
 same-length c = search needs
@@ -23,7 +23,7 @@ returns : tie.Need-returns
 returns c =
     let t = c .before .before in
     let h = t .before .before .before .before .before in
-    told-accepted _ _ _ _ _ (h .history-in .ensures .0) (t .if1 .taken) _ (c .held-at .ensures)
+    told-accepted _ _ _ _ _ (h .history-in .ensures .0) (t .if1 .taken) _ (c .header-found .ensures)
 
 same-length-3 : tie.Need-same-length-3
 same-length-3 c = search needs
@@ -39,7 +39,7 @@ told-in-spec =
     tie.close
     (tie.spec
     history-in-requires
-    held-at-requires
+    header-found-requires
     same-length
     same-length-2
     returns

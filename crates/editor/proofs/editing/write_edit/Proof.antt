@@ -28,12 +28,12 @@ add-count : tie.Need-add-count
 add-count c = search needs
 
 cast-count : tie.Need-cast-count
-cast-count c = omega (arith, one-more _ _ _ _ (c .before .before .before .before .before .before .before .pre))
+cast-count c = omega (arith, one-more _ _ _ _ _ (c .before .before .before .before .before .before .before .pre))
 
 add-total : tie.Need-add-total
 add-total c =
     let s = c .before .before .before .before .before .before .before in
-    omega (arith, entry-room _ _ _ _ (s .before .pre))
+    omega (arith, entry-room _ _ _ _ _ (s .before .pre))
 
 cast-total : tie.Need-cast-total
 cast-total c =
@@ -51,22 +51,22 @@ put-words-requires : tie.Need-put-words-requires
 put-words-requires c κs =
     let p = c .before .before .before .before .before .before in
     let s = p .before .before .before in
-    omega (arith, value-length _ _ _ _ (s .before .pre) _ _ _ _ (p .put-value .ensures), entry-room _ _ _ _ (s .before .pre), sum _ _ (s .before .pre .known))
-
-cast-t20 : tie.Need-cast-t20
-cast-t20 c =
-    let s = c .before .before .before .before .before .before .before .before .before .before .before .before .before in
-    omega (arith, word-fits _ _ _ _ (s .before .pre) (λ i. (s .slice-known .given i) .fits))
+    omega (arith, value-length _ _ _ _ _ (s .before .pre) _ _ _ _ (p .put-value .ensures), entry-room _ _ _ _ _ (s .before .pre), sum _ _ (s .before .pre .known))
 
 cast-t21 : tie.Need-cast-t21
 cast-t21 c =
-    let s = c .before .before .before .before .before .before .before .before .before .before .before .before .before .before in
-    omega (arith, signer-fits _ _ _ _ (s .before .pre) .0)
+    let s = c .before .before .before .before .before .before .before .before .before .before .before .before .before in
+    omega (arith, word-fits _ _ _ _ _ (s .before .pre) (λ i. (s .slice-known .given i) .fits))
 
 cast-t22 : tie.Need-cast-t22
 cast-t22 c =
+    let s = c .before .before .before .before .before .before .before .before .before .before .before .before .before .before in
+    omega (arith, signer-fits _ _ _ _ _ (s .before .pre) .0)
+
+cast-t23 : tie.Need-cast-t23
+cast-t23 c =
     let s = c .before .before .before .before .before .before .before .before .before .before .before .before .before .before .before in
-    omega (arith, signer-fits _ _ _ _ (s .before .pre) .1)
+    omega (arith, signer-fits _ _ _ _ _ (s .before .pre) .1)
 
 put-entry-requires : tie.Need-put-entry-requires
 put-entry-requires c κs = search needs
@@ -80,7 +80,7 @@ returns c =
     let w = q .before .before .before .before .before .before .before in
     let p = w .before .before .before .before .before .before .before in
     let s = p .before .before .before in
-    written _ _ _ _ (s .before .pre) (λ i. (s .slice-known .given i) .fits) _ (p .put-value .ensures) _ _ (w .put-words .ensures) (q .put-entry .ensures)
+    written _ _ _ _ _ (s .before .pre) (λ i. (s .slice-known .given i) .fits) _ (p .put-value .ensures) _ _ (w .put-words .ensures) (q .put-entry .ensures)
 
 pub write-edit-spec : {M : Type 1} → statement M
 write-edit-spec =
@@ -98,9 +98,9 @@ write-edit-spec =
     mul-put-words
     slice-aggregate-put-words
     put-words-requires
-    cast-t20
     cast-t21
     cast-t22
+    cast-t23
     put-entry-requires
     same-length
     returns)

@@ -1,8 +1,13 @@
 -- `plane::history::entry_fits` meets its contract.
 -- Assumes nothing.
 use denote.Ref.{now}
-use mathlib.Core.Path.{sym, _∙_}
-use Rattle.plane.proofs.UndoLaws.{unfit-there, there-inside, other-there, fit-there}
+use mathlib.Core.Path.{refl, ap, sym, _∙_}
+use Rattle.format.specs.Spots.{spotOf}
+use Rattle.book.specs.Views.{viewItem}
+use Rattle.book.specs.declared.items.Item.{Item}
+use Rattle.frame.specs.Views.{viewStanding}
+use Rattle.plane.proofs.Scanning.{other-spot}
+use Rattle.plane.proofs.UndoLaws.{unnoted-fits, nothing-fits, other-fits, item-fits}
 use borrow.Author.Needs.{needs}
 use Rattle.plane.proofs.history.entry_fits.Statement.{statement}
 use Rattle.plane.proofs.history.entry_fits.Tie as tie
@@ -10,58 +15,89 @@ use Rattle.plane.proofs.history.entry_fits.Tie as tie
 cast-at : tie.Need-cast-at
 cast-at c = search needs
 
-kind-at-requires : tie.Need-kind-at-requires
-kind-at-requires c κs = search needs
+head-at-requires : tie.Need-head-at-requires
+head-at-requires c κs = search needs
 
 returns : tie.Need-returns
-returns c = let s = c .before .before .before .before .before in unfit-there (now (s .args .map)) (now (s .args .f)) (s .pre) _ _ _ _ _ _ (sym (c .before .kind-at .ensures) ∙ c .if1 .taken)
+returns c =
+    let s = c .before .before .before .before .before in
+    unnoted-fits (now (s .args .map)) (now (s .args .f)) (s .pre) _ _ _ _ _ _ (sym (c .before .head-at .ensures) ∙ c .if1 .taken)
 
-cast-if2 : tie.Need-cast-if2
-cast-if2 c = search needs
+item-at-requires : tie.Need-item-at-requires
+item-at-requires c κs = search needs
+
+enum-known-standing : tie.Need-enum-known-standing
+enum-known-standing c = search needs
+
+enum-told : tie.Need-enum-told
+enum-told c = search needs
 
 returns-2 : tie.Need-returns-2
 returns-2 c =
-    let k = c .before .before in
-    let s = k .before .before .before .before .before in
-    other-there (now (s .args .map)) (now (s .args .f)) (s .pre) _ _ (k .before .kind-at .ensures) (k .if1 .left) _ _ _ _ _ (c .if2 .taken)
+    let i = c .before .before in
+    let s = i .before .before .before .before .before .before in
+    nothing-fits (now (s .args .map)) (now (s .args .f)) (s .pre) _ _ _ _ _ _ (sym (ap viewStanding (c .enum-told .given .1)) ∙ i .item-at .ensures)
 
-value-in-requires : tie.Need-value-in-requires
-value-in-requires c κs =
-    let k = c .before .before in
-    let s = k .before .before .before .before .before in
-    there-inside (now (s .args .map)) (now (s .args .f)) (s .pre) _ _ (k .before .kind-at .ensures) (k .if1 .left)
+enum-known-item : tie.Need-enum-known-item
+enum-known-item c = search needs
 
-cast-signed : tie.Need-cast-signed
-cast-signed c = search needs
+cast-fits-item : tie.Need-cast-fits-item
+cast-fits-item c = search needs
 
-cast-signed-2 : tie.Need-cast-signed-2
-cast-signed-2 c = search needs
+fits-item-requires : tie.Need-fits-item-requires
+fits-item-requires c κs = search needs
 
-signed-requires : tie.Need-signed-requires
-signed-requires c κs = search needs
+enum-known-item-2 : tie.Need-enum-known-item-2
+enum-known-item-2 c = search needs
 
-legal-requires : tie.Need-legal-requires
-legal-requires c κs = search needs
+fits-item-requires-2 : tie.Need-fits-item-requires-2
+fits-item-requires-2 c κs = search needs
 
 returns-3 : tie.Need-returns-3
 returns-3 c =
-    let v = c .before .before .before .before .before .before in
-    let k = v .before .before .before in
-    let s = k .before .before .before .before .before in
-    fit-there (now (s .args .map)) (now (s .args .f)) (s .pre) _ _ (k .before .kind-at .ensures) (k .if1 .left) _ _ _ _ _ (v .before .if2 .left) _ (v .value-in .ensures) _ _ (c .before .legal .ensures) (c .before .before .before .signed .ensures)
+    let t = c .before .before .before in
+    let s = t .before .before .before in
+    let i = s .before .before in
+    let h = i .before in
+    let a = h .before .before .before .before .before in
+    item-fits (now (a .args .map)) (now (a .args .f)) (a .pre) _ _ _ _ _ _ (λ z. h .if1 .left (h .before .head-at .ensures ∙ z)) _ _ (sym (ap viewStanding (s .standing .given .1)) ∙ i .item-at .ensures) _ _ _
+    (λ k. ap (λ (z : Item). spotOf k (viewItem z)) (sym (t .item .given .1))) (c .fits-item .ensures)
+
+returns-4 : tie.Need-returns-4
+returns-4 c =
+    let t = c .before .before in
+    let s = t .before .before .before in
+    let i = s .before .before in
+    let h = i .before in
+    let a = h .before .before .before .before .before in
+    item-fits (now (a .args .map)) (now (a .args .f)) (a .pre) _ _ _ _ _ _ (λ z. h .if1 .left (h .before .head-at .ensures ∙ z)) _ _ (sym (ap viewStanding (s .standing .given .1)) ∙ i .item-at .ensures) _ _ _
+    (λ k. ap (λ (z : Item). spotOf k (viewItem z)) (sym (t .item2 .given .1))) (c .fits-item2 .ensures)
+
+returns-5 : tie.Need-returns-5
+returns-5 c =
+    let s = c .before .before in
+    let i = s .before .before in
+    let h = i .before in
+    let a = h .before .before .before .before .before in
+    other-fits (now (a .args .map)) (now (a .args .f)) (a .pre) _ _ _ _ _ _ (λ z. h .if1 .left (h .before .head-at .ensures ∙ z)) _ _ (sym (ap viewStanding (s .standing .given .1)) ∙ i .item-at .ensures)
+    (other-spot (s .standing .given .0 .0 .item) (c .match2 .keys3))
 
 pub entry-fits-spec : {M : Type 1} → statement M
 entry-fits-spec =
     tie.close
     (tie.spec
     cast-at
-    kind-at-requires
+    head-at-requires
     returns
-    cast-if2
+    item-at-requires
+    enum-known-standing
+    enum-told
     returns-2
-    value-in-requires
-    cast-signed
-    cast-signed-2
-    signed-requires
-    legal-requires
-    returns-3)
+    enum-known-item
+    cast-fits-item
+    fits-item-requires
+    enum-known-item-2
+    fits-item-requires-2
+    returns-3
+    returns-4
+    returns-5)

@@ -9,8 +9,8 @@ use borrow.Author.Needs.{needs}
 use Rattle.plane.proofs.history.unwind.Statement.{statement}
 use Rattle.plane.proofs.history.unwind.Tie as tie
 
-note-kinds-requires : tie.Need-note-kinds-requires
-note-kinds-requires c κs = search needs
+note-heads-requires : tie.Need-note-heads-requires
+note-heads-requires c κs = search needs
 
 copy-requires : tie.Need-copy-requires
 copy-requires c κs = search needs
@@ -20,7 +20,7 @@ add-walk-back c = search needs
 
 walk-back-requires : tie.Need-walk-back-requires
 walk-back-requires c κs = let s = c .before .before .before .before .before .before .before .before .before .before .before .before .before .before in (
-  undoing-start _ (now (s .args .f)) _ (s .pre .1) (c .before .before .before .before .copy .ensures) (s .pre .0) _ (c .before .before .before .before .before .before .before .before .note-kinds .ensures),
+  undoing-start _ (now (s .args .f)) _ (s .pre .1) (c .before .before .before .before .copy .ensures) (s .pre .0) _ (c .before .before .before .before .before .before .before .before .note-heads .ensures),
   ap (λ (n : ℕ). 16 + n) (s .pre .4),
   omega (arith, s .pre .4, s .pre .5),
 )
@@ -35,13 +35,13 @@ returns : tie.Need-returns
 returns c =
     let k = c .before .before .before .before .before .before .before .before .before .before .before in
     let s = c .before .before .before .before .before .before .before .before .before .before .before .before .before .before .before .before .before in
-    (same-history _ (now (s .args .f)) _ (s .pre .1) (c .before .before .before .before .before .before .before .copy .ensures) _ _ (c .before .before .walk-back .ensures), k .note-kinds .ensures)
+    (same-history _ (now (s .args .f)) _ (s .pre .1) (c .before .before .before .before .before .before .before .copy .ensures) _ _ (c .before .before .walk-back .ensures), k .note-heads .ensures)
 
 pub unwind-spec : {M : Type 1} → statement M
 unwind-spec =
     tie.close
     (tie.spec
-    note-kinds-requires
+    note-heads-requires
     copy-requires
     add-walk-back
     walk-back-requires

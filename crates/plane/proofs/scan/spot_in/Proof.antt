@@ -1,113 +1,76 @@
 -- `plane::scan::spot_in` meets its contract: what it has passed is not the word asked for.
 -- Assumes nothing.
 use Prim.Native.Nat.{_-_}
+use mathlib.Core.Path.{refl, ap, sym, _∙_}
 use native.Mathlib.Omega.{arith}
+use Rattle.format.specs.Frames.{lastOf}
+use Rattle.frame.specs.Views.{viewStanding}
 use borrow.Author.Needs.{needs}
-use Rattle.plane.proofs.Scanning.{Seeking, sized, seek-start, seek-found, seek-next, seek-one, seek-bin, seek-end}
+use Rattle.plane.proofs.Scanning.{Seeking, seek-start, seek-found, seek-next, seek-end}
 use Rattle.plane.proofs.scan.spot_in.Statement.{statement}
 use Rattle.plane.proofs.scan.spot_in.Tie as tie
 
 abbrev Inv-loop : tie.InvT-loop
-Inv-loop f w last at₀ key₀ at key = Seeking f w last at key
+Inv-loop f w at₀ head₀ at head = Seeking f w at head
 
 abbrev μ-loop : tie.MeasureT-loop
-μ-loop f w last at₀ key₀ at key = last - at
-
-sub-last : tie.Need-sub-last Inv-loop μ-loop
-sub-last c = omega (arith, sized _ (c .before .pre) .some-words)
+μ-loop f w at₀ head₀ at head = lastOf f - at
 
 loop-holds : tie.Need-loop-holds Inv-loop μ-loop
 loop-holds c = seek-start _ _ (c .before .pre)
 
-word-in-requires : tie.Need-word-in-requires Inv-loop μ-loop
-word-in-requires c κs = omega (arith, c .before .loop .inv .ends)
+item-at-requires : tie.Need-item-at-requires Inv-loop μ-loop
+item-at-requires c κs = search needs
 
-classify-requires : tie.Need-classify-requires Inv-loop μ-loop
-classify-requires c κs = search needs
+enum-known-standing : tie.Need-enum-known-standing Inv-loop μ-loop
+enum-known-standing c = search needs
 
-kind-of-requires : tie.Need-kind-of-requires Inv-loop μ-loop
-kind-of-requires c κs = search needs
-
-value-at-requires : tie.Need-value-at-requires Inv-loop μ-loop
-value-at-requires c κs = omega (arith, c .before .before .before .before .before .loop .inv .few)
-
-spot-from-requires : tie.Need-spot-from-requires Inv-loop μ-loop
-spot-from-requires c κs = search needs
+enum-told : tie.Need-enum-told Inv-loop μ-loop
+enum-told c = search needs
 
 returns : tie.Need-returns Inv-loop μ-loop
 returns c =
-    let v = c .before in
-    let t = v .before .before .before in
-    let w = t .before in
-    seek-found _ _ _ _ _ (w .before .before .loop .inv) (w .before .loop-test .taken) _ _ (w .word-in .ensures) (v .before .before .classify .ensures) (t .if1 .taken) _ _ _
-    (v .before .kind-of .ensures) (v .value-at .ensures) (c .spot-from .ensures)
+    let i = c .before .before in
+    seek-end _ _ _ _ (i .before .before .loop .inv) (sym (ap viewStanding (c .enum-told .given .1)) ∙ i .item-at .ensures) (i .before .loop-test .taken)
 
-key-high-requires : tie.Need-key-high-requires Inv-loop μ-loop
-key-high-requires c κs = omega arith
+header-at-requires : tie.Need-header-at-requires Inv-loop μ-loop
+header-at-requires c κs = search needs
 
-add-at : tie.Need-add-at Inv-loop μ-loop
-add-at c = omega (arith, c .before .before .before .before .before .loop .inv .few)
+spot-of-requires : tie.Need-spot-of-requires Inv-loop μ-loop
+spot-of-requires c κs = search needs
+
+returns-2 : tie.Need-returns-2 Inv-loop μ-loop
+returns-2 c =
+    let h = c .before in
+    let s = h .before .before .before in
+    let i = s .before .before in
+    seek-found _ _ _ _ (i .before .before .loop .inv) _ _ (sym (ap viewStanding (s .standing .given .1)) ∙ i .item-at .ensures) (h .before .if1 .taken) _ _ (h .header-at .ensures) (c .spot-of .ensures)
+
+cast-head-behind : tie.Need-cast-head-behind Inv-loop μ-loop
+cast-head-behind c =
+    let s = c .before .before in
+    let i = s .before .before in
+    let n = seek-next _ _ _ _ (i .before .before .loop .inv) _ _ (sym (ap viewStanding (s .standing .given .1)) ∙ i .item-at .ensures) (c .if1 .left) (i .before .loop-test .taken) _ refl in
+    omega (arith, i .before .before .loop .inv .few, n .0, n .1)
+
+head-behind-requires : tie.Need-head-behind-requires Inv-loop μ-loop
+head-behind-requires c κs = search needs
 
 loop-less : tie.Need-loop-less Inv-loop μ-loop
-loop-less c = omega arith
+loop-less c =
+    let s = c .before .before .before in
+    let i = s .before .before in
+    let n = seek-next _ _ _ _ (i .before .before .loop .inv) _ _ (sym (ap viewStanding (s .standing .given .1)) ∙ i .item-at .ensures) (c .before .if1 .left) (i .before .loop-test .taken) _ (c .head-behind .ensures) in
+    omega (arith, n .0, n .1)
 
 loop-again : tie.Need-loop-again Inv-loop μ-loop
 loop-again c =
-    let e = c .before .before in
-    let w = e .before in
-    seek-one _ _ _ _ _ (w .before .before .loop .inv) (w .before .loop-test .taken) _ _ (w .word-in .ensures) (e .if1 .left) (omega arith) (omega arith) (c .key-high .ensures)
+    let s = c .before .before .before in
+    let i = s .before .before in
+    seek-next _ _ _ _ (i .before .before .loop .inv) _ _ (sym (ap viewStanding (s .standing .given .1)) ∙ i .item-at .ensures) (c .before .if1 .left) (i .before .loop-test .taken) _ (c .head-behind .ensures) .2
 
-add-at-2 : tie.Need-add-at-2 Inv-loop μ-loop
-add-at-2 c = omega (arith, c .before .before .before .before .before .loop .inv .few)
-
-loop-less-2 : tie.Need-loop-less-2 Inv-loop μ-loop
-loop-less-2 c = omega arith
-
-loop-again-2 : tie.Need-loop-again-2 Inv-loop μ-loop
-loop-again-2 c =
-    let e = c .before .before in
-    let w = e .before in
-    seek-bin _ _ _ _ _ (w .before .before .loop .inv) (w .before .loop-test .taken) _ (w .word-in .ensures) (e .if1 .left) (omega arith) (omega arith)
-
-header-key-requires : tie.Need-header-key-requires Inv-loop μ-loop
-header-key-requires c κs = search needs
-
-classify-requires-2 : tie.Need-classify-requires-2 Inv-loop μ-loop
-classify-requires-2 c κs = search needs
-
-key-behind-requires : tie.Need-key-behind-requires Inv-loop μ-loop
-key-behind-requires c κs = c .before .header-key .ensures
-
-words-after-requires : tie.Need-words-after-requires Inv-loop μ-loop
-words-after-requires c κs = search needs
-
-cast-more : tie.Need-cast-more Inv-loop μ-loop
-cast-more c = search needs
-
-add-at-3 : tie.Need-add-at-3 Inv-loop μ-loop
-add-at-3 c = omega (arith, c .before .before .before .before .before .before .before .before .before .loop .inv .few)
-
-add-at-4 : tie.Need-add-at-4 Inv-loop μ-loop
-add-at-4 c = omega (arith, c .before .before .before .before .before .before .before .before .before .loop .inv .few)
-
-loop-less-3 : tie.Need-loop-less-3 Inv-loop μ-loop
-loop-less-3 c =
-    let k = c .before in
-    let e = k .before .before .before .before .before in
-    let w = e .before in
-    let m = seek-next _ _ _ _ _ (w .before .before .loop .inv) (w .before .loop-test .taken) _ _ (w .word-in .ensures) (k .before .classify2 .ensures) (e .if1 .left) _ _ (k .key-behind .ensures) (c .words-after .ensures) in
-    omega (arith, m .0)
-
-loop-again-3 : tie.Need-loop-again-3 Inv-loop μ-loop
-loop-again-3 c =
-    let k = c .before in
-    let e = k .before .before .before .before .before in
-    let w = e .before in
-    let m = seek-next _ _ _ _ _ (w .before .before .loop .inv) (w .before .loop-test .taken) _ _ (w .word-in .ensures) (k .before .classify2 .ensures) (e .if1 .left) _ _ (k .key-behind .ensures) (c .words-after .ensures) in
-    m .2
-
-returns-2 : tie.Need-returns-2 Inv-loop μ-loop
-returns-2 c = seek-end _ _ _ _ _ (c .before .loop .inv) (c .loop-test .left)
+returns-3 : tie.Need-returns-3 Inv-loop μ-loop
+returns-3 c = sym (c .before .loop .inv .passed (c .loop-test .left))
 
 pub spot-in-spec : {M : Type 1} → statement M
 spot-in-spec =
@@ -115,28 +78,16 @@ spot-in-spec =
     (tie.spec
     Inv-loop
     μ-loop
-    sub-last
     loop-holds
-    word-in-requires
-    classify-requires
-    kind-of-requires
-    value-at-requires
-    spot-from-requires
+    item-at-requires
+    enum-known-standing
+    enum-told
     returns
-    key-high-requires
-    add-at
+    header-at-requires
+    spot-of-requires
+    returns-2
+    cast-head-behind
+    head-behind-requires
     loop-less
     loop-again
-    add-at-2
-    loop-less-2
-    loop-again-2
-    header-key-requires
-    classify-requires-2
-    key-behind-requires
-    words-after-requires
-    cast-more
-    add-at-3
-    add-at-4
-    loop-less-3
-    loop-again-3
-    returns-2)
+    returns-3)

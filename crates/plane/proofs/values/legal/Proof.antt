@@ -6,20 +6,14 @@ use borrow.Author.Needs.{needs}
 use Rattle.plane.proofs.values.legal.Statement.{statement}
 use Rattle.plane.proofs.values.legal.Tie as tie
 
-cast-if1 : tie.Need-cast-if1
-cast-if1 c = search needs
-
 cast-result : tie.Need-cast-result
 cast-result c = search needs
 
 returns : tie.Need-returns
 returns c = legal-sample _ _ (omega arith)
 
-cast-result-2 : tie.Need-cast-result-2
-cast-result-2 c = search needs
-
 returns-2 : tie.Need-returns-2
 returns-2 c = legal-bin (c .before .args .kind) (c .before .args .value) (λ e. omega arith) (omega arith)
 
 pub legal-spec : {M : Type 1} → statement M
-legal-spec = tie.close (tie.spec cast-if1 cast-result returns cast-result-2 returns-2)
+legal-spec = tie.close (tie.spec cast-result returns returns-2)

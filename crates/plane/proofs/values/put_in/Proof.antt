@@ -6,9 +6,6 @@ use borrow.Author.Needs.{needs}
 use Rattle.plane.proofs.values.put_in.Statement.{statement}
 use Rattle.plane.proofs.values.put_in.Tie as tie
 
-cast-if1 : tie.Need-cast-if1
-cast-if1 c = search needs
-
 cast-word-put : tie.Need-cast-word-put
 cast-word-put c = omega (arith, sample-fits _ _ (c .before .before .pre .1) (omega arith))
 
@@ -68,7 +65,6 @@ pub put-in-spec : {M : Type 1} → statement M
 put-in-spec =
     tie.close
     (tie.spec
-    cast-if1
     cast-word-put
     mul-word-put
     word-requires

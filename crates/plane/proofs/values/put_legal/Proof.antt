@@ -6,9 +6,6 @@ use borrow.Author.Needs.{needs}
 use Rattle.plane.proofs.values.put_legal.Statement.{statement}
 use Rattle.plane.proofs.values.put_legal.Tie as tie
 
-cast-if1 : tie.Need-cast-if1
-cast-if1 c = search needs
-
 cast-put-word : tie.Need-cast-put-word
 cast-put-word c = omega (arith, sample-fits _ _ (c .before .before .pre .1) (omega arith))
 
@@ -68,7 +65,6 @@ pub put-legal-spec : {M : Type 1} → statement M
 put-legal-spec =
     tie.close
     (tie.spec
-    cast-if1
     cast-put-word
     mul-put-word
     word-requires
