@@ -6,7 +6,8 @@ use mathlib.Core.List.{List, [], _∷_}
 use mathlib.Core.Bool.{Bool, true, false, _&&_, true≢false}
 use mathlib.Core.Option.{none, some}
 use native.Mathlib.Omega.{arith}
-use lib.Dec.{eqb, lit<}
+use lib.Dec.{leb, ltb, eqb, lit<}
+use borrow.Author.Tests.{leb-true, ltb-true}
 use Rattle.format.specs.Words.{wordAt}
 use Rattle.format.specs.Book.{channel, endEvent}
 use Rattle.format.specs.Items.{ItemOf, Item, Channel, Histogram, HitCount, Sample, Bin, LastCell, TimeBin, Text, StartEvent, EndEvent, classFor}
@@ -14,6 +15,7 @@ use Rattle.format.specs.Rules.{dataKind, same}
 use Rattle.format.specs.Frames.{behind, lastOf}
 use Rattle.format.specs.Cursor.{standingAt, shownBy, unshown, itemsFrom, On}
 use Rattle.format.specs.Questions.{shown, until, past, isChannel}
+use Rattle.format.proofs.book.PrefixLaws.{and-left, and-right}
 use Rattle.format.proofs.items.WordLaws.{word-below}
 use Rattle.format.proofs.book.BookLaws.{ranged, in-range}
 use Rattle.format.proofs.CursorLaws.{Turn, channel-turn, answered, run-out}
@@ -121,11 +123,13 @@ module _ (s : List ℕ) (from chip c at : ℕ) (k : Seeking s from chip c at) wh
       pub seeking-hit : eqb (y .chip) chip && eqb (y .channel) c ≡ true → ChannelAt s from chip c (at + 1)
       seeking-hit e = hit-item _ (at + 1) header-turn refl (fields true e)
 
-    pub seeking-one : 0x0100 ≤ w → w < 0xC000 → Seeking s from chip c (at + 1)
-    seeking-one a b =
+    pub seeking-one : leb 0x0100 w && ltb w 0xC000 ≡ true → Seeking s from chip c (at + 1)
+    seeking-one e =
+        let a = leb-true 0x0100 w (and-left (leb 0x0100 w) (ltb w 0xC000) e) in
+        let b = ltb-true w 0xC000 (and-right (leb 0x0100 w) (ltb w 0xC000) e) in
         let o = one-turn s at (k .amid) h w i a in
         past-item (o .x) (at + 1) (o .turn) (o .plain .no-end)
-        (other-class chip c (o .x) (λ e. let (u, v) = ranged (wordAt s at) channel (sym (e ∙ o .turn .class)) refl in omega arith))
+        (other-class chip c (o .x) (λ f. let (u, v) = ranged (wordAt s at) channel (sym (f ∙ o .turn .class)) refl in omega arith))
 
   -- ---- an item that the cursor answers
 

@@ -5,13 +5,15 @@ use mathlib.Core.Path.{_≡_, refl, sym, ap, _∙_}
 use mathlib.Core.List.{List, _∷_}
 use mathlib.Core.Bool.{Bool, true, false, _&&_}
 use mathlib.Core.Option.{none, some}
-use lib.Dec.{eqb}
+use lib.Dec.{leb, ltb, eqb}
+use borrow.Author.Tests.{ltb-true}
 use Rattle.format.specs.Words.{wordAt}
 use Rattle.format.specs.Items.{ItemOf, Item, Channel, Histogram, HitCount, Sample, Bin, LastCell, TimeBin, Text, StartEvent, EndEvent}
 use Rattle.format.specs.Rules.{monitorKind}
 use Rattle.format.specs.Frames.{lastOf}
 use Rattle.format.specs.Cursor.{standingAt, shownBy, unshown, itemsFrom, On}
 use Rattle.format.specs.Questions.{shown, past, isHistogram}
+use Rattle.format.proofs.PrefixLaws.{and-right}
 use Rattle.format.proofs.CursorLaws.{Turn, histogram-turn, bin-turn, answered, run-out}
 use Rattle.book.specs.Fields.{histogramOf}
 use Rattle.book.specs.declared.items.Histogram as hi
@@ -68,8 +70,9 @@ module _ (s : List ℕ) (chip c at : ℕ) (k : Seeking s chip c at) where
       pub seeking-hit : eqb (y .chip) chip && eqb (y .channel) c ≡ true → HistogramAt s chip c (at + 1)
       seeking-hit e = hit-item _ (at + 1) header-turn (fields true e)
 
-    pub seeking-bin : w < 0x8000 → Seeking s chip c (at + 3)
-    seeking-bin l = past-item _ (at + 3) (bin-turn s at g h (bin-word s at (k .amid) h w i l)) refl
+    pub seeking-bin : leb 0x2000 w && ltb w 0x8000 ≡ true → Seeking s chip c (at + 3)
+    seeking-bin e =
+        past-item _ (at + 3) (bin-turn s at g h (bin-word s at (k .amid) h w i (ltb-true w 0x8000 (and-right (leb 0x2000 w) (ltb w 0x8000) e)))) refl
 
   -- ---- an item that the cursor answers
 

@@ -192,15 +192,15 @@ pub(crate) fn seek_channel(s: &[u8], from: usize, chip: u16, channel: u16) -> Pl
     let mut at = from;
     while at < last {
         let w = word_in(s, at);
+        if (Class::TEXT <= w) & (w < Class::CHANNEL) {
+            at += 1;
+            continue;
+        }
         if Class::CHANNEL <= w {
             let x = Channel::of_word(w);
             if (x.chip == chip) & (x.channel == channel) {
                 return Place::At(at + 1);
             }
-            at += 1;
-            continue;
-        }
-        if Class::TEXT <= w {
             at += 1;
             continue;
         }
@@ -233,16 +233,16 @@ pub(crate) fn seek_histogram(s: &[u8], chip: u16, channel: u16) -> Place
     let mut at: usize = FIRST;
     while at < last {
         let w = word_in(s, at);
+        if (Class::BIN <= w) & (w < Class::HISTOGRAM) {
+            at += 3;
+            continue;
+        }
         if Class::HISTOGRAM <= w {
             let x = Histogram::of_word(w);
             if (x.chip == chip) & (x.channel == channel) {
                 return Place::At(at + 1);
             }
             at += 1;
-            continue;
-        }
-        if Class::BIN <= w {
-            at += 3;
             continue;
         }
         let standing = item_at(s, at);

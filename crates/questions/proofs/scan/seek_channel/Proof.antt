@@ -6,7 +6,7 @@ use native.Mathlib.Omega.{arith}
 use Rattle.format.specs.Frames.{lastOf}
 use Rattle.frame.specs.Views.{viewStanding}
 use Rattle.questions.proofs.Turns.{amid-range, next-further, nothing-there}
-use Rattle.questions.proofs.ChannelScan.{Seeking, seeking-start, seeking-header, seeking-hit, seeking-one, seeking-end, seeking-next, seeking-found, seeking-none}
+use Rattle.questions.proofs.ChannelScan.{Seeking, seeking-start, seeking-one, seeking-header, seeking-hit, seeking-end, seeking-next, seeking-found, seeking-none}
 use borrow.Author.Needs.{needs}
 use Rattle.questions.proofs.scan.seek_channel.Statement.{statement}
 use Rattle.questions.proofs.scan.seek_channel.Tie as tie
@@ -26,15 +26,6 @@ loop-holds c = (refl, seeking-start _ _ _ _ (c .before .pre))
 word-in-requires : tie.Need-word-in-requires Inv-loop μ-loop
 word-in-requires c κs = omega arith
 
-of-word-requires : tie.Need-of-word-requires Inv-loop μ-loop
-of-word-requires c κs = search needs
-
-add-t18 : tie.Need-add-t18 Inv-loop μ-loop
-add-t18 c = omega arith
-
-returns : tie.Need-returns Inv-loop μ-loop
-returns c = let o = c .before .before .before in let w = o .before .before in let v = w .before .before .loop .inv in seeking-hit _ _ _ _ _ (v .1) (omega arith) _ (w .word-in .ensures) (o .before .if1 .taken) _ (o .of-word .ensures) (c .if2 .taken)
-
 add-at : tie.Need-add-at Inv-loop μ-loop
 add-at c = omega arith
 
@@ -42,7 +33,16 @@ loop-less : tie.Need-loop-less Inv-loop μ-loop
 loop-less c = omega arith
 
 loop-again : tie.Need-loop-again Inv-loop μ-loop
-loop-again c = let o = c .before .before .before in let w = o .before .before in let v = w .before .before .loop .inv in (v .0, seeking-header _ _ _ _ _ (v .1) (omega arith) _ (w .word-in .ensures) (o .before .if1 .taken) _ (o .of-word .ensures) (c .if2 .left))
+loop-again c = let w = c .before in let v = w .before .before .loop .inv in (v .0, seeking-one _ _ _ _ _ (v .1) (omega arith) _ (w .word-in .ensures) (c .if1 .taken))
+
+of-word-requires : tie.Need-of-word-requires Inv-loop μ-loop
+of-word-requires c κs = search needs
+
+add-t20 : tie.Need-add-t20 Inv-loop μ-loop
+add-t20 c = omega arith
+
+returns : tie.Need-returns Inv-loop μ-loop
+returns c = let o = c .before .before .before in let w = o .before .before .before in let v = w .before .before .loop .inv in seeking-hit _ _ _ _ _ (v .1) (omega arith) _ (w .word-in .ensures) (o .before .if2 .taken) _ (o .of-word .ensures) (c .if3 .taken)
 
 add-at-2 : tie.Need-add-at-2 Inv-loop μ-loop
 add-at-2 c = omega arith
@@ -51,7 +51,7 @@ loop-less-2 : tie.Need-loop-less-2 Inv-loop μ-loop
 loop-less-2 c = omega arith
 
 loop-again-2 : tie.Need-loop-again-2 Inv-loop μ-loop
-loop-again-2 c = let w = c .before .before in let v = w .before .before .loop .inv in (v .0, seeking-one _ _ _ _ _ (v .1) (omega arith) _ (w .word-in .ensures) (c .if3 .taken) (omega arith))
+loop-again-2 c = let o = c .before .before .before in let w = o .before .before .before in let v = w .before .before .loop .inv in (v .0, seeking-header _ _ _ _ _ (v .1) (omega arith) _ (w .word-in .ensures) (o .before .if2 .taken) _ (o .of-word .ensures) (c .if3 .left))
 
 item-at-requires : tie.Need-item-at-requires Inv-loop μ-loop
 item-at-requires c κs = search needs
@@ -95,12 +95,12 @@ seek-channel-spec =
     sub-last
     loop-holds
     word-in-requires
-    of-word-requires
-    add-t18
-    returns
     add-at
     loop-less
     loop-again
+    of-word-requires
+    add-t20
+    returns
     add-at-2
     loop-less-2
     loop-again-2

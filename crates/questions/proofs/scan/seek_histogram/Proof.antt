@@ -6,7 +6,7 @@ use native.Mathlib.Omega.{arith}
 use Rattle.format.specs.Frames.{lastOf}
 use Rattle.frame.specs.Views.{viewStanding}
 use Rattle.questions.proofs.Turns.{amid-range, next-further, nothing-there}
-use Rattle.questions.proofs.HistogramScan.{Seeking, seeking-start, seeking-header, seeking-hit, seeking-bin, seeking-next, seeking-found, seeking-none}
+use Rattle.questions.proofs.HistogramScan.{Seeking, seeking-start, seeking-bin, seeking-header, seeking-hit, seeking-next, seeking-found, seeking-none}
 use borrow.Author.Needs.{needs}
 use Rattle.questions.proofs.scan.seek_histogram.Statement.{statement}
 use Rattle.questions.proofs.scan.seek_histogram.Tie as tie
@@ -26,15 +26,6 @@ loop-holds c = (refl, seeking-start _ _ _ (c .before .pre))
 word-in-requires : tie.Need-word-in-requires Inv-loop μ-loop
 word-in-requires c κs = omega arith
 
-of-word-requires : tie.Need-of-word-requires Inv-loop μ-loop
-of-word-requires c κs = search needs
-
-add-t17 : tie.Need-add-t17 Inv-loop μ-loop
-add-t17 c = omega arith
-
-returns : tie.Need-returns Inv-loop μ-loop
-returns c = let o = c .before .before .before in let w = o .before .before in let v = w .before .before .loop .inv in seeking-hit _ _ _ _ (v .1) (omega arith) _ (w .word-in .ensures) (o .before .if1 .taken) _ (o .of-word .ensures) (c .if2 .taken)
-
 add-at : tie.Need-add-at Inv-loop μ-loop
 add-at c = omega arith
 
@@ -42,7 +33,16 @@ loop-less : tie.Need-loop-less Inv-loop μ-loop
 loop-less c = omega arith
 
 loop-again : tie.Need-loop-again Inv-loop μ-loop
-loop-again c = let o = c .before .before .before in let w = o .before .before in let v = w .before .before .loop .inv in (v .0, seeking-header _ _ _ _ (v .1) (omega arith) _ (w .word-in .ensures) (o .before .if1 .taken) _ (o .of-word .ensures) (c .if2 .left))
+loop-again c = let w = c .before in let v = w .before .before .loop .inv in (v .0, seeking-bin _ _ _ _ (v .1) (omega arith) _ (w .word-in .ensures) (c .if1 .taken))
+
+of-word-requires : tie.Need-of-word-requires Inv-loop μ-loop
+of-word-requires c κs = search needs
+
+add-t19 : tie.Need-add-t19 Inv-loop μ-loop
+add-t19 c = omega arith
+
+returns : tie.Need-returns Inv-loop μ-loop
+returns c = let o = c .before .before .before in let w = o .before .before .before in let v = w .before .before .loop .inv in seeking-hit _ _ _ _ (v .1) (omega arith) _ (w .word-in .ensures) (o .before .if2 .taken) _ (o .of-word .ensures) (c .if3 .taken)
 
 add-at-2 : tie.Need-add-at-2 Inv-loop μ-loop
 add-at-2 c = omega arith
@@ -51,7 +51,7 @@ loop-less-2 : tie.Need-loop-less-2 Inv-loop μ-loop
 loop-less-2 c = omega arith
 
 loop-again-2 : tie.Need-loop-again-2 Inv-loop μ-loop
-loop-again-2 c = let w = c .before .before in let v = w .before .before .loop .inv in (v .0, seeking-bin _ _ _ _ (v .1) (omega arith) _ (w .word-in .ensures) (omega arith))
+loop-again-2 c = let o = c .before .before .before in let w = o .before .before .before in let v = w .before .before .loop .inv in (v .0, seeking-header _ _ _ _ (v .1) (omega arith) _ (w .word-in .ensures) (o .before .if2 .taken) _ (o .of-word .ensures) (c .if3 .left))
 
 item-at-requires : tie.Need-item-at-requires Inv-loop μ-loop
 item-at-requires c κs = search needs
@@ -89,12 +89,12 @@ seek-histogram-spec =
     sub-last
     loop-holds
     word-in-requires
-    of-word-requires
-    add-t17
-    returns
     add-at
     loop-less
     loop-again
+    of-word-requires
+    add-t19
+    returns
     add-at-2
     loop-less-2
     loop-again-2
