@@ -1,4 +1,4 @@
-// fill: what crates/probe does, by the baseline's writer. Six bytes on standard input, words low byte first: how many frames, of how many bytes
+// fill: what crates/filler does, by the baseline's writer. Six bytes on standard input, words low byte first: how many frames, of how many bytes
 // at most, and 1 where each is closed. Prints the last frame's length and a sum of its bytes. The baseline's writer is taken in as text, so that
 // the compiler sees all of it here as it sees all of ours.
 #include "baseline_writer.c"

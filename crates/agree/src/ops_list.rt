@@ -1,7 +1,7 @@
 // The op over the listing of a record.
 use crate::reply;
 use crate::sums;
-use lines::answers::Listing;
+use listing::answers::Listing;
 
 // The line of an answer, with the buffer as the call left it.
 fn told(answer: Listing, left: &[u8], line: &mut [u8]) -> usize {
@@ -19,6 +19,6 @@ fn told(answer: Listing, left: &[u8], line: &mut [u8]) -> usize {
 
 // Op 17: lists the buffer p into q.
 pub(crate) fn list(p: &[u8], q: &mut [u8], line: &mut [u8]) -> usize {
-    let answer = lines::listing(p, q);
+    let answer = listing::listing(p, q);
     told(answer, q, line)
 }

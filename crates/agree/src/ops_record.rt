@@ -1,12 +1,12 @@
 // The ops over a record: its verdict, an entry.
 use crate::reply;
-use plane::answers::Entry;
-use plane::answers::EntryFound;
-use plane::answers::RecordFound;
+use records::answers::Entry;
+use records::answers::EntryFound;
+use records::answers::RecordFound;
 
 // Op 12: the verdict on the record p.
 pub(crate) fn record(p: &[u8], line: &mut [u8]) -> usize {
-    let answer = plane::record(p);
+    let answer = records::record(p);
     match answer {
         RecordFound::Record(x) => reply::ok3(line, x.length as u64, x.count as u64, x.total as u64),
         RecordFound::Refused(r) => reply::refused(line, r.number, r.place),
@@ -27,7 +27,7 @@ fn told(x: Entry, line: &mut [u8]) -> usize {
 
 // Op 13: entry a0 of the record p.
 pub(crate) fn entry(p: &[u8], a0: u64, line: &mut [u8]) -> usize {
-    let answer = plane::entry(p, a0 as usize);
+    let answer = records::entry(p, a0 as usize);
     match answer {
         EntryFound::Entry(x) => told(x, line),
         EntryFound::Refused(r) => reply::refused(line, r.number, r.place),

@@ -46,7 +46,7 @@ typeOf w = w % 16
 
 -- three fields, each cut to its width, put together
 abbrev pub threeCut : ℕ → ℕ → ℕ → ℕ
-threeCut a b c = items.three (a % 32) (b % 4) (c % 128)
+threeCut a b c = items.headerBits (a % 32) (b % 4) (c % 128)
 
 -- the first word of each item, its fields cut to their widths
 abbrev pub channelWord : Channel → ℕ

@@ -16,25 +16,25 @@ use Rattle.ledger.specs.Formats as formats
 use Rattle.ledger.specs.Records.{lengthIn, entriesIn}
 use Rattle.ledger.specs.Calls.{entryFor, recordAnswer, entryAnswer, restoreAnswer, restoreExit}
 use Rattle.ledger.specs.Histories.{oldestFirst, frameAfter, entriesOf, recordAfter, acceptedEdits}
-use Rattle.ledger.specs.First.{first}
-use Rattle.ledger.specs.House.{house, Free}
+use Rattle.ledger.specs.VersionOne.{versionOne}
+use Rattle.ledger.specs.PlaneFrames.{planeFrames, Free}
 use Rattle.ledger.specs.Layout.{totalLength, frameOf, headerFor, entryWritten, historyWritten}
 use Rattle.ledger.specs.Reasons.{RecordRefused, OpenRefused, EditRefused, RestoreRefused, EntryRefused}
 use Rattle.ledger.proofs.calls.Restoring.{entry-above}
-use Rattle.ledger.proofs.front.HouseDemand3 as house3
-use Rattle.plane.specs.declared.answers.Record.{Record}
-use Rattle.plane.specs.declared.answers.RecordFound.{RecordFound}
-use Rattle.plane.specs.declared.answers.RecordFound.the-variants as records
-use Rattle.plane.specs.declared.answers.EntryFound.{EntryFound}
-use Rattle.plane.specs.declared.answers.EntryFound.the-variants as entries
-use Rattle.plane.proofs.Unique.{same-record, same-entry}
+use Rattle.ledger.proofs.front.PlaneDemand3 as house3
+use Rattle.records.specs.declared.answers.Record.{Record}
+use Rattle.records.specs.declared.answers.RecordFound.{RecordFound}
+use Rattle.records.specs.declared.answers.RecordFound.the-variants as records
+use Rattle.records.specs.declared.answers.EntryFound.{EntryFound}
+use Rattle.records.specs.declared.answers.EntryFound.the-variants as entries
+use Rattle.records.proofs.Unique.{same-record, same-entry}
 use Rattle.editor.specs.declared.answers.Done.{Done}
 use Rattle.editor.specs.declared.answers.Done.the-variants as answer
 use Rattle.editor.specs.declared.editing.Correction.{Correction}
 use Rattle.editor.specs.Views.{viewDone, asked}
 use Rattle.editor.specs.Promises.{Opened, Edited, Restored}
-use Rattle.plane.specs.Promises.{Recorded, EntryTold}
-use Rattle.editor.specs.Sequences.{Calls, madeBy, corrected, entriesFor, toldOf, correctionFor, Moment, AllGiven, Sequence}
+use Rattle.records.specs.Promises.{Recorded, EntryTold}
+use Rattle.editor.specs.Sequences.{Calls, madeBy, corrected, entriesFor, entryMade, correctionFor, Moment, AllGiven, Sequence}
 use Rattle.editor.proofs.CallLaws.{says-accepted, says-refused, after-calls, edits-of-calls, count-of-calls, asked-take, asked-nth, moment}
 use Rattle.editor.proofs.SequenceLaws as sequences
 use Rattle.editor.proofs.Effects as effects
@@ -91,33 +91,33 @@ module _ (b : List ℕ) (y : Bytes b) (c : Correction) (e : List ℕ) (o : Edite
   pub edited-bytes : e
       ≡ headerFor (wordAt b 3) (suc (wordAt b 5))
       ++ (put (frameOf b) (c .word) (c .value)
-      ++ (take (16 * wordAt b 5) (drop (16 + wordAt b 3) b) ++ (entryWritten (entryFor house (frameOf b) (asked c)) ++ drop (totalLength b + 16) b)))
+      ++ (take (16 * wordAt b 5) (drop (16 + wordAt b 3) b) ++ (entryWritten (entryFor planeFrames (frameOf b) (asked c)) ++ drop (totalLength b + 16) b)))
   edited-bytes = o .left ∙ house3.edited-bytes b (asked c) y (sym (o .answered))
 
 -- the entry that a correction makes, by the item that stands there
 entry-at : (g : List ℕ) (c : Correction) (p : Spot) → spot g (c .word) ≡ some p
-    → entryFor house g (asked c)
+    → entryFor planeFrames g (asked c)
     ≡ record { word = c .word; kind = p .kind; old = p .value; new = c .value; operator = c .operator; reason = c .reason; extra = [] }
-unfolding house
+unfolding planeFrames
 entry-at g c p h = rw h
 
 -- ---- a frame opened, and corrections asked for after it
 
 module _ (f buf : List ℕ) (y : Bytes f) (b : List ℕ) (o : Opened f buf (viewDone answer.Accepted) b) (cs : List Correction) (rs : List Done) (e : List ℕ) (k : Calls b cs rs e) where
-  after : e ≡ recordAfter house first f buf (map asked cs)
+  after : e ≡ recordAfter planeFrames versionOne f buf (map asked cs)
   after = after-calls f buf b o k
 
-  edits : acceptedEdits house first f buf (map asked cs) ≡ map asked (madeBy cs rs)
+  edits : acceptedEdits planeFrames versionOne f buf (map asked cs) ≡ map asked (madeBy cs rs)
   edits = edits-of-calls f buf b o k
 
-  as-many : length (acceptedEdits house first f buf (map asked cs)) ≡ length (madeBy cs rs)
+  as-many : length (acceptedEdits planeFrames versionOne f buf (map asked cs)) ≡ length (madeBy cs rs)
   as-many = count-of-calls f buf b o k
 
   pub record-told : (r : RecordFound) → Recorded e r
       → r ≡ records.Record (record { length = length f; count = length (madeBy cs rs); total = 16 + length f + 16 * length (madeBy cs rs) })
   record-told r h =
       same-record r _
-      (h ∙ ap (recordAnswer house first) after ∙ house3.record-told f buf y (sym (o .answered)) (map asked cs)
+      (h ∙ ap (recordAnswer planeFrames versionOne) after ∙ house3.record-told f buf y (sym (o .answered)) (map asked cs)
       ∙ ap (λ (n : ℕ). accepted (record { length = length f; count = n; total = 16 + length f + 16 * n })) as-many)
 
   pub whole-record : e
@@ -126,7 +126,7 @@ module _ (f buf : List ℕ) (y : Bytes f) (b : List ℕ) (o : Opened f buf (view
   whole-record =
       after ∙ house3.whole-record f buf y (sym (o .answered)) (map asked cs)
       ∙ ap₂
-      (λ (m : List formats.Correction) (n : ℕ). headerFor (length f) n ++ (frameAfter house f m ++ (historyWritten (entriesOf house f m) ++ drop (16 + length f + 16 * n) buf)))
+      (λ (m : List formats.Correction) (n : ℕ). headerFor (length f) n ++ (frameAfter planeFrames f m ++ (historyWritten (entriesOf planeFrames f m) ++ drop (16 + length f + 16 * n) buf)))
       edits as-many
 
   pub restores-what-stood : (n : ℕ) (M : Moment b cs rs e n) (out : List ℕ) (r : Done) (left : List ℕ) → Restored e n out (viewDone r) left → length f ≤ length out
@@ -134,21 +134,21 @@ module _ (f buf : List ℕ) (y : Bytes f) (b : List ℕ) (o : Opened f buf (view
   unfolding lengthIn
   restores-what-stood n M out r left t l =
       let q = house3.restores-what-stood f buf y (sym (o .answered)) (map asked (M .earlier)) (map asked (M .later)) out l in
-      let x : e ≡ recordAfter house first f buf (map asked (M .earlier) ++ map asked (M .later))
-      = after ∙ ap (recordAfter house first f buf) (ap (map asked) (M .all) ∙ map-append asked (M .earlier) (M .later)) in
-      let j : n ≡ length (acceptedEdits house first f buf (map asked (M .earlier))) = sym (count-of-calls f buf b o (M .before) ∙ M .count) in
+      let x : e ≡ recordAfter planeFrames versionOne f buf (map asked (M .earlier) ++ map asked (M .later))
+      = after ∙ ap (recordAfter planeFrames versionOne f buf) (ap (map asked) (M .all) ∙ map-append asked (M .earlier) (M .later)) in
+      let j : n ≡ length (acceptedEdits planeFrames versionOne f buf (map asked (M .earlier))) = sym (count-of-calls f buf b o (M .before) ∙ M .count) in
       let z = after-calls f buf b o (M .before) in (
-        says-accepted r .1 (t .answered ∙ ap₂ (λ (a : List ℕ) (i : ℕ). restoreAnswer house first a i out) x j ∙ q .0),
-        t .left ∙ ap₂ (λ (a : List ℕ) (i : ℕ). restoreExit house first a i out) x j ∙ q .1 ∙ ap (λ (a : List ℕ). frameOf a ++ drop (length f) out) (sym z),
+        says-accepted r .1 (t .answered ∙ ap₂ (λ (a : List ℕ) (i : ℕ). restoreAnswer planeFrames versionOne a i out) x j ∙ q .0),
+        t .left ∙ ap₂ (λ (a : List ℕ) (i : ℕ). restoreExit planeFrames versionOne a i out) x j ∙ q .1 ∙ ap (λ (a : List ℕ). frameOf a ++ drop (length f) out) (sym z),
       )
 
   pub restores-to : (n : ℕ) (out : List ℕ) (r : Done) (left : List ℕ) → Restored e n out (viewDone r) left → n ≤ length (madeBy cs rs) → length f ≤ length out
       → (r ≡ answer.Accepted) × (left ≡ corrected f (take n (madeBy cs rs)) ++ drop (length f) out)
   restores-to n out r left t h l =
       let q = house3.restores-to-k f buf y (sym (o .answered)) (map asked cs) n out (subst (λ (m : ℕ). n ≤ m) (sym as-many) h) l in (
-        says-accepted r .1 (t .answered ∙ ap (λ (x : List ℕ). restoreAnswer house first x n out) after ∙ q .0),
-        t .left ∙ ap (λ (x : List ℕ). restoreExit house first x n out) after ∙ q .1
-            ∙ ap (λ (m : List formats.Correction). frameAfter house f m ++ drop (length f) out) (ap (take n) edits ∙ asked-take n (madeBy cs rs)),
+        says-accepted r .1 (t .answered ∙ ap (λ (x : List ℕ). restoreAnswer planeFrames versionOne x n out) after ∙ q .0),
+        t .left ∙ ap (λ (x : List ℕ). restoreExit planeFrames versionOne x n out) after ∙ q .1
+            ∙ ap (λ (m : List formats.Correction). frameAfter planeFrames f m ++ drop (length f) out) (ap (take n) edits ∙ asked-take n (madeBy cs rs)),
       )
 
   pub restores-as-recorded : (out : List ℕ) (r : Done) (left : List ℕ) → Restored e 0 out (viewDone r) left → length f ≤ length out
@@ -160,38 +160,38 @@ module _ (f buf : List ℕ) (y : Bytes f) (b : List ℕ) (o : Opened f buf (view
       → r ≡ answer.Refused (record { number = 26; place = 0 })
   no-such-edit n out r left t h =
       says-refused r 26 0 .1
-      (t .answered ∙ ap (λ (x : List ℕ). restoreAnswer house first x n out) after
+      (t .answered ∙ ap (λ (x : List ℕ). restoreAnswer planeFrames versionOne x n out) after
       ∙ house3.no-entry f buf y (sym (o .answered)) (map asked cs) n out (subst (λ (m : ℕ). m < n) (sym as-many) h))
 
   pub no-room : (n : ℕ) (out : List ℕ) (r : Done) (left : List ℕ) → Restored e n out (viewDone r) left → n ≤ length (madeBy cs rs) → length out < length f
       → r ≡ answer.Refused (record { number = 12; place = 0 })
   no-room n out r left t h l =
       says-refused r 12 0 .1
-      (t .answered ∙ ap (λ (x : List ℕ). restoreAnswer house first x n out) after
+      (t .answered ∙ ap (λ (x : List ℕ). restoreAnswer planeFrames versionOne x n out) after
       ∙ house3.no-room f buf y (sym (o .answered)) (map asked cs) n out (subst (λ (m : ℕ). n ≤ m) (sym as-many) h) l)
 
-  pub history-in-order : oldestFirst (entriesIn first e) ≡ entriesFor f (madeBy cs rs)
+  pub history-in-order : oldestFirst (entriesIn versionOne e) ≡ entriesFor f (madeBy cs rs)
   history-in-order =
-      ap (λ (x : List ℕ). oldestFirst (entriesIn first x)) after
+      ap (λ (x : List ℕ). oldestFirst (entriesIn versionOne x)) after
       ∙ house3.history-in-order f buf y (sym (o .answered)) (map asked cs)
-      ∙ ap (entriesOf house f) edits
+      ∙ ap (entriesOf planeFrames f) edits
 
   pub entry-asked : (j : ℕ) → j < length (madeBy cs rs) → (d : Correction) (r : EntryFound) → EntryTold e (suc j) r
       → (p : Spot)
       × (spot (corrected f (take j (madeBy cs rs))) (getD (madeBy cs rs) j d .word) ≡ some p)
-      × (r ≡ entries.Entry (toldOf (getD (madeBy cs rs) j d) p))
+      × (r ≡ entries.Entry (entryMade (getD (madeBy cs rs) j d) p))
   entry-asked j h d r t =
       let l = subst (λ (m : ℕ). j < m) (sym as-many) h in
       let m = ap (take j) edits ∙ asked-take j (madeBy cs rs) in
       let c = ap (λ (m : List formats.Correction). getD m j (asked d)) edits ∙ asked-nth (madeBy cs rs) j d in
       let s = house3.item-stood f buf y (sym (o .answered)) (map asked cs) j (asked d) l in
-      let q = ap₂ (λ (g : List formats.Correction) (x : formats.Correction). spot (frameAfter house f g) (x .word)) (sym m) (sym c) ∙ s .1 in (
+      let q = ap₂ (λ (g : List formats.Correction) (x : formats.Correction). spot (frameAfter planeFrames f g) (x .word)) (sym m) (sym c) ∙ s .1 in (
         s .0,
         q,
         same-entry r _
-            (t ∙ ap (λ (x : List ℕ). entryAnswer house first x (suc j)) after
+            (t ∙ ap (λ (x : List ℕ). entryAnswer planeFrames versionOne x (suc j)) after
             ∙ house3.entry-asked f buf y (sym (o .answered)) (map asked cs) j (asked d) l
-            ∙ ap₂ (λ (g : List formats.Correction) (x : formats.Correction). accepted (entryFor house (frameAfter house f g) x)) m c
+            ∙ ap₂ (λ (g : List formats.Correction) (x : formats.Correction). accepted (entryFor planeFrames (frameAfter planeFrames f g) x)) m c
             ∙ ap accepted (entry-at (corrected f (take j (madeBy cs rs))) (getD (madeBy cs rs) j d) (s .0) q)),
       )
 
@@ -199,8 +199,8 @@ module _ (f buf : List ℕ) (y : Bytes f) (b : List ℕ) (o : Opened f buf (view
   no-other-entry j h r t =
       let n = house3.history-count f buf y (sym (o .answered)) (map asked cs) in
       same-entry r _
-      (t ∙ ap (λ (x : List ℕ). entryAnswer house first x j) after
-      ∙ entry-above house first _ j (house3.accepted-after f buf y (sym (o .answered)) (map asked cs)) (subst (λ (m : ℕ). m < j) (sym (n ∙ as-many)) h))
+      (t ∙ ap (λ (x : List ℕ). entryAnswer planeFrames versionOne x j) after
+      ∙ entry-above planeFrames versionOne _ j (house3.accepted-after f buf y (sym (o .answered)) (map asked cs)) (subst (λ (m : ℕ). m < j) (sym (n ∙ as-many)) h))
 
 -- ---- any buffer
 

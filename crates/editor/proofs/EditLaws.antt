@@ -25,19 +25,19 @@ use Rattle.ledger.specs.Formats as formats
 use Rattle.ledger.specs.Records.{countIn, frameIn, entryBytes, entriesIn, length-entries, signed, recordVerdict}
 use Rattle.ledger.specs.Calls.{Summary, entryFor, newValue, editTests, editAnswer, editWritten}
 use Rattle.ledger.specs.Chains.{Allowed}
-use Rattle.ledger.specs.First.{first}
-use Rattle.ledger.specs.House.{house, house-spot}
+use Rattle.ledger.specs.VersionOne.{versionOne}
+use Rattle.ledger.specs.PlaneFrames.{planeFrames, plane-frames-spot}
 use Rattle.ledger.proofs.calls.Editing.{edit-exactly, exit-written, exit-found}
-use Rattle.ledger.proofs.house.FirstLaws.{full-limit}
-use Rattle.ledger.proofs.house.House.{house-lawful}
-use Rattle.plane.specs.Stored.{stored}
-use Rattle.plane.proofs.UndoLaws.{stored-put}
+use Rattle.ledger.proofs.plane.VersionOneLaws.{full-limit}
+use Rattle.ledger.proofs.plane.PlaneFrames.{plane-frames-lawful}
+use Rattle.records.specs.Stored.{stored}
+use Rattle.records.proofs.UndoLaws.{stored-put}
 use Rattle.editor.specs.declared.editing.Correction.{Correction}
 use Rattle.editor.specs.Views.{also, refusing, asked, itemTests}
 use Rattle.editor.specs.Promises.{Edited}
 use Rattle.editor.specs.Writes.{Known, Holds, Editable}
 use Rattle.editor.proofs.Orders.{ordered}
-use Rattle.format.proofs.StoringLaws.{part-whole}
+use Rattle.format.proofs.items.StoringLaws.{part-whole}
 use Rattle.editor.proofs.KnownLaws.{frame-long, sum, inside, standing}
 
 -- ---- tests
@@ -48,7 +48,7 @@ pub tests-answer : (c : Correction) (x : Summary) (kind was room : ℕ) (fresh s
     → sign ≡ signed (c .operator) (c .reason) → signer ≡ need sign 24 0
     → full ≡ need (ltb (x .count) 512) 25 0 → end ≡ need (leb (x .total + 16) room) 12 0
     → rest ≡ also full end → more ≡ also signer rest → all ≡ also value more → all ≡ itemTests (asked c) x kind was room
-unfolding itemTests house
+unfolding itemTests planeFrames
 tests-answer c x kind was room fresh sign value signer full end rest more all l v g t u w r₁ r₂ r₃ =
     rw (r₃, r₂, r₁, v, l, t, g, u, w) (ordered (_ ∷ _ ∷ _ ∷ _ ∷ []))
 
@@ -57,16 +57,16 @@ module _ (b : List ℕ) (x : Summary) (k : Known b x) (y : Bytes b) (w : ℕ) wh
   part : take (16 + x .length - 16) (drop 16 b) ≡ frameIn b
   part = rw (add-sub-cancel-left 16 (x .length), k .length)
 
-  told-spot : house .spot (frameIn b) w ≡ spotBy (headed (frameIn b) w) (shownBy (standingAt (take (16 + x .length - 16) (drop 16 b)) w))
+  told-spot : planeFrames .spot (frameIn b) w ≡ spotBy (headed (frameIn b) w) (shownBy (standingAt (take (16 + x .length - 16) (drop 16 b)) w))
   told-spot =
-      house-spot (frameIn b) w ∙ spot-by (frameIn b) (standing b x k y .bytes) w
+      plane-frames-spot (frameIn b) w ∙ spot-by (frameIn b) (standing b x k y .bytes) w
       ∙ ap (λ (f : List ℕ). spotBy (headed (frameIn b) w) (shownBy (standingAt f w))) (sym part)
 
   -- no item begins there, or nothing stands there
-  pub not-headed : none ≡ headed (frameIn b) w → none ≡ house .spot (frameIn b) w
+  pub not-headed : none ≡ headed (frameIn b) w → none ≡ planeFrames .spot (frameIn b) w
   not-headed e = sym (told-spot ∙ ap (λ (o : Option Header). spotBy o (shownBy (standingAt (take (16 + x .length - 16) (drop 16 b)) w))) (sym e))
 
-  pub not-standing : none ≡ shownBy (standingAt (take (16 + x .length - 16) (drop 16 b)) w) → none ≡ house .spot (frameIn b) w
+  pub not-standing : none ≡ shownBy (standingAt (take (16 + x .length - 16) (drop 16 b)) w) → none ≡ planeFrames .spot (frameIn b) w
   not-standing e = sym (told-spot ∙ ap (spotBy (headed (frameIn b) w)) (sym e) ∙ go (headed (frameIn b) w))
     where
       go : (o : Option Header) → spotBy o none ≡ none
@@ -75,10 +75,10 @@ module _ (b : List ℕ) (x : Summary) (k : Known b x) (y : Bytes b) (w : ℕ) wh
 
   -- an item does
   module _ (h : Header) (z : ItemOf ℕ) (n : ℕ) (e : some h ≡ headed (frameIn b) w) (i : some (record { item = z; next = n }) ≡ shownBy (standingAt (take (16 + x .length - 16) (drop 16 b)) w)) where
-    told-item : house .spot (frameIn b) w ≡ spotOf h z
+    told-item : planeFrames .spot (frameIn b) w ≡ spotOf h z
     told-item = told-spot ∙ ap₂ (λ (o : Option Header) (r : Option Shown). spotBy o r) (sym e) (sym i)
 
-    pub other-item : none ≡ spotOf h z → none ≡ house .spot (frameIn b) w
+    pub other-item : none ≡ spotOf h z → none ≡ planeFrames .spot (frameIn b) w
     other-item q = q ∙ sym told-item
 
     pub item-holds : (kind value : ℕ) → some (record { kind = kind; value = value; header = h }) ≡ spotOf h z → Holds b w kind value
@@ -86,17 +86,17 @@ module _ (b : List ℕ) (x : Summary) (k : Known b x) (y : Bytes b) (w : ℕ) wh
 
 -- of all tests of an edit, those at the item are left where the record is accepted and an item stands there
 module _ (b : List ℕ) (x : Summary) (k : Known b x) (c : Correction) where
-  limit-left : (e : formats.Entry) → first .limit (e ∷ entriesIn first b) ≡ ltb (x .count) 512
-  unfolding first
-  limit-left e = rw (length-entries first b (countIn b), ← k .count)
+  limit-left : (e : formats.Entry) → versionOne .limit (e ∷ entriesIn versionOne b) ≡ ltb (x .count) 512
+  unfolding versionOne
+  limit-left e = rw (length-entries versionOne b (countIn b), ← k .count)
 
-  pub no-target : none ≡ house .spot (frameIn b) (c .word) → editAnswer house first b (asked c) ≡ refused 22 0
-  unfolding editAnswer editTests firstOf first
+  pub no-target : none ≡ planeFrames .spot (frameIn b) (c .word) → editAnswer planeFrames versionOne b (asked c) ≡ refused 22 0
+  unfolding editAnswer editTests firstOf versionOne
   no-target e = rw (k .judged, ← e)
 
-  pub tests-left : (kind was : ℕ) → Holds b (c .word) kind was → (r : Done) → r ≡ itemTests (asked c) x kind was (length b) → editAnswer house first b (asked c) ≡ r
-  unfolding itemTests editAnswer editTests newValue firstOf first
-  tests-left kind was h r q = sym (q ∙ rw (k .judged, h .stands, and-true (signed (c .operator) (c .reason)), limit-left (entryFor house (frameIn b) (asked c)), k .total))
+  pub tests-left : (kind was : ℕ) → Holds b (c .word) kind was → (r : Done) → r ≡ itemTests (asked c) x kind was (length b) → editAnswer planeFrames versionOne b (asked c) ≡ r
+  unfolding itemTests editAnswer editTests newValue firstOf versionOne
+  tests-left kind was h r q = sym (q ∙ rw (k .judged, h .stands, and-true (signed (c .operator) (c .reason)), limit-left (entryFor planeFrames (frameIn b) (asked c)), k .total))
 
 -- an answer that does not refuse
 pub not-refusing : (r : Done) → refusing r ≡ false → r ≡ accepted tt
@@ -105,22 +105,22 @@ not-refusing (refused n p) e = absurd (true≢false e)
 
 -- ---- the promise, kept where an edit is refused and where it is made
 module _ (b : List ℕ) (c : formats.Correction) where
-  pub edited-refused : (r : Done) (n p : ℕ) → r ≡ refused n p → editAnswer house first b c ≡ refused n p → Edited b c r b
-  edited-refused r n p e a = record { answered = e ∙ sym a; left = sym (exit-found house first b c n p a) }
+  pub edited-refused : (r : Done) (n p : ℕ) → r ≡ refused n p → editAnswer planeFrames versionOne b c ≡ refused n p → Edited b c r b
+  edited-refused r n p e a = record { answered = e ∙ sym a; left = sym (exit-found planeFrames versionOne b c n p a) }
 
   -- an answer that refuses leaves the buffer; one that does not is Accepted
-  pub edited-refusing : (r : Done) → refusing r ≡ true → editAnswer house first b c ≡ r → Edited b c r b
+  pub edited-refusing : (r : Done) → refusing r ≡ true → editAnswer planeFrames versionOne b c ≡ r → Edited b c r b
   edited-refusing (accepted u) e a = absurd (true≢false (sym e))
   edited-refusing (refused n p) e a = edited-refused (refused n p) n p refl a
 
-  pub edited-written : (l : List ℕ) → editAnswer house first b c ≡ accepted tt → l ≡ editWritten house first b c → Edited b c (accepted tt) l
-  edited-written l a w = record { answered = sym a; left = w ∙ sym (exit-written house first b c a) }
+  pub edited-written : (l : List ℕ) → editAnswer planeFrames versionOne b c ≡ accepted tt → l ≡ editWritten planeFrames versionOne b c → Edited b c (accepted tt) l
+  edited-written l a w = record { answered = sym a; left = w ∙ sym (exit-written planeFrames versionOne b c a) }
 
-  pub edited-making : (r : Done) (l : List ℕ) → refusing r ≡ false → editAnswer house first b c ≡ r → l ≡ editWritten house first b c → Edited b c r l
+  pub edited-making : (r : Done) (l : List ℕ) → refusing r ≡ false → editAnswer planeFrames versionOne b c ≡ r → l ≡ editWritten planeFrames versionOne b c → Edited b c r l
   edited-making (accepted u) l e a w = edited-written l a w
   edited-making (refused n p) l e a w = absurd (true≢false e)
 
-  pub edited-unknown : (n p : ℕ) → recordVerdict house first b ≡ refused n p → Edited b c (refused n p) b
+  pub edited-unknown : (n p : ℕ) → recordVerdict planeFrames versionOne b ≡ refused n p → Edited b c (refused n p) b
   unfolding editAnswer editTests firstOf
   edited-unknown n p e = edited-refused (refused n p) n p refl (rw e)
 
@@ -133,44 +133,44 @@ length-stored f kind w v = go (legalValue kind v)
     go true = length-sets f (2 * valueWord kind w) (bytes (valueWords kind v))
     go false = refl
 
-all-written : (b : List ℕ) (x : Summary) → Known b x → (c : Correction) (s : Spot) → house .spot (frameIn b) (c .word) ≡ some s
-    → (l₁ l₂ l₃ : List ℕ) → l₁ ≡ sets b 16 (house .put (frameIn b) (c .word) (c .value)) → l₂ ≡ sets l₁ 10 (bytes ((x .count + 1) ∷ (x .total + 16) ∷ []))
-    → l₃ ≡ sets l₂ (x .total) (entryBytes first (record { word = c .word; kind = s .kind; old = s .value; new = c .value; operator = c .operator; reason = c .reason; extra = [] }))
-    → l₃ ≡ editWritten house first b (asked c)
-unfolding editWritten bytes first
+all-written : (b : List ℕ) (x : Summary) → Known b x → (c : Correction) (s : Spot) → planeFrames .spot (frameIn b) (c .word) ≡ some s
+    → (l₁ l₂ l₃ : List ℕ) → l₁ ≡ sets b 16 (planeFrames .put (frameIn b) (c .word) (c .value)) → l₂ ≡ sets l₁ 10 (bytes ((x .count + 1) ∷ (x .total + 16) ∷ []))
+    → l₃ ≡ sets l₂ (x .total) (entryBytes versionOne (record { word = c .word; kind = s .kind; old = s .value; new = c .value; operator = c .operator; reason = c .reason; extra = [] }))
+    → l₃ ≡ editWritten planeFrames versionOne b (asked c)
+unfolding editWritten bytes versionOne
 all-written b x k c s i l₁ l₂ l₃ e₁ e₂ e₃ = rw (e₃, e₂, e₁, i, k .count, k .total)
 
 module _ (b : List ℕ) (x : Summary) (c : Correction) (kind was : ℕ) (e : Editable b x (asked c) kind was) where
   abbrev item : Spot
   item = record { kind = kind; value = was; header = e .holds .header }
 
-  stands : house .spot (frameIn b) (c .word) ≡ some item
+  stands : planeFrames .spot (frameIn b) (c .word) ≡ some item
   stands = e .holds .stands
 
-  allowed : Allowed house first b (asked c)
-  allowed = edit-exactly house first b (asked c) (e .known .judged) .0 (e .accepted)
+  allowed : Allowed planeFrames versionOne b (asked c)
+  allowed = edit-exactly planeFrames versionOne b (asked c) (e .known .judged) .0 (e .accepted)
 
   same-spot : allowed .spot ≡ item
   same-spot = Option·some-injective (allowed .spot) item (sym (allowed .stands) ∙ stands)
 
-  settable : Bytes b → Settable house (frameIn b) (c .word) (c .value) item
+  settable : Bytes b → Settable planeFrames (frameIn b) (c .word) (c .value) item
   settable y = record {
     frame = standing b x (e .known) y;
     stands = stands;
-    legal = ap (λ (t : Spot). house .legal (t .kind) (c .value)) (sym same-spot) ∙ allowed .legal;
+    legal = ap (λ (t : Spot). planeFrames .legal (t .kind) (c .value)) (sym same-spot) ∙ allowed .legal;
   }
 
   pub word-fits : Bytes b → c .word < 65536
-  word-fits y = house-lawful .index-fits (frameIn b) (c .word) item (standing b x (e .known) y) stands
+  word-fits y = plane-frames-lawful .index-fits (frameIn b) (c .word) item (standing b x (e .known) y) stands
 
   pub signer-fits : (c .operator < 65536) × (c .reason < 65536)
   signer-fits = let o = allowed .operator in let r = allowed .reason in (omega arith, omega arith)
 
   pub one-more : x .count < 512
-  one-more = let n = e .known .count in let f = full-limit b (entryFor house (frameIn b) (asked c)) .0 (allowed .limit) in omega arith
+  one-more = let n = e .known .count in let f = full-limit b (entryFor planeFrames (frameIn b) (asked c)) .0 (allowed .limit) in omega arith
 
   pub entry-room : x .total + 16 ≤ length b
-  unfolding first
+  unfolding versionOne
   entry-room = let t = e .known .total in let r = allowed .room in omega arith
 
   -- the part with a value stored, whichever it is, is as long as it was, and so is the whole
@@ -180,16 +180,16 @@ module _ (b : List ℕ) (x : Summary) (c : Correction) (kind was : ℕ) (e : Edi
 
   -- three stores: the value in the frame's part, two header words, one entry
   module _ (y : Bytes b) (l₁ : List ℕ) (e₁ : l₁ ≡ stored (take (16 + x .length - 16) (drop 16 b)) kind (c .word) (c .value)) where
-    value-stores : putMid 16 (16 + x .length - 16) b l₁ ≡ sets b 16 (house .put (frameIn b) (c .word) (c .value))
+    value-stores : putMid 16 (16 + x .length - 16) b l₁ ≡ sets b 16 (planeFrames .put (frameIn b) (c .word) (c .value))
     value-stores =
         let k = e .known in
-        let g = house .put (frameIn b) (c .word) (c .value) in
+        let g = planeFrames .put (frameIn b) (c .word) (c .value) in
         let r : 16 + x .length ≤ length b = let i = inside b x k in let t = sum b x k in omega arith in
-        let l : length g ≡ 16 + x .length - 16 = house-lawful .put-length (frameIn b) (c .word) (c .value) item (settable y) ∙ frame-long b x k ∙ sym (add-sub-cancel-left 16 (x .length)) in
+        let l : length g ≡ 16 + x .length - 16 = plane-frames-lawful .put-length (frameIn b) (c .word) (c .value) item (settable y) ∙ frame-long b x k ∙ sym (add-sub-cancel-left 16 (x .length)) in
         ap (putMid 16 (16 + x .length - 16) b) (e₁ ∙ ap (λ (f : List ℕ). stored f kind (c .word) (c .value)) (part b x (e .known) y (c .word)) ∙ stored-put (frameIn b) (c .word) (c .value) item (settable y)) ∙ part-whole b 16 (16 + x .length) g (omega arith) r l
 
     pub written : (l₂ l₃ : List ℕ) → l₂ ≡ sets (putMid 16 (16 + x .length - 16) b l₁) 10 (bytes ((x .count + 1) ∷ (x .total + 16) ∷ []))
-        → l₃ ≡ sets l₂ (x .total) (entryBytes first (record { word = c .word; kind = kind; old = was; new = c .value; operator = c .operator; reason = c .reason; extra = [] }))
-        → l₃ ≡ editWritten house first b (asked c)
+        → l₃ ≡ sets l₂ (x .total) (entryBytes versionOne (record { word = c .word; kind = kind; old = was; new = c .value; operator = c .operator; reason = c .reason; extra = [] }))
+        → l₃ ≡ editWritten planeFrames versionOne b (asked c)
     written l₂ l₃ e₂ e₃ =
         all-written b x (e .known) c item stands _ l₂ l₃ value-stores e₂ e₃

@@ -13,30 +13,30 @@ use Rattle.ledger.specs.Frames.{Accepted}
 use Rattle.ledger.specs.Records.{lengthIn, countIn, totalIn, frameIn, entriesIn, historyVerdict, recordVerdict}
 use Rattle.ledger.specs.Calls.{Summary, recordAnswer}
 use Rattle.ledger.specs.Chains.{Header}
-use Rattle.ledger.specs.First.{first}
-use Rattle.ledger.specs.House.{house}
+use Rattle.ledger.specs.VersionOne.{versionOne}
+use Rattle.ledger.specs.PlaneFrames.{planeFrames}
 use Rattle.ledger.specs.Judged.{Judged, judgedAt}
 use Rattle.ledger.proofs.records.Codecs.{bytes-part}
 use Rattle.ledger.proofs.records.Headers.{header-words, frame-length, few-entries}
 use Rattle.ledger.proofs.records.Judging.{verdict-parts}
-use Rattle.ledger.proofs.house.FirstLaws.{first-lawful}
-use Rattle.ledger.proofs.house.House.{house-lawful}
+use Rattle.ledger.proofs.plane.VersionOneLaws.{version-one-lawful}
+use Rattle.ledger.proofs.plane.PlaneFrames.{plane-frames-lawful}
 use Rattle.editor.specs.Writes.{Known}
 
 -- ---- from the answer of judging
 abbrev here : List ℕ → ℕ → Judged
-here b w = record { length = lengthIn b; count = countIn b; total = totalIn first b; header = spots.headed (frameIn b) w }
+here b w = record { length = lengthIn b; count = countIn b; total = totalIn versionOne b; header = spots.headed (frameIn b) w }
 
 same-judged : (i j : Judged) → _≡_ {A = Outcome Judged} (accepted i) (accepted j) → i ≡ j
 same-judged i j e = cc
 
 pub judged-known : (b : List ℕ) (w : ℕ) (x : Summary) (o : Option spots.Header)
-    → accepted (record { length = x .length; count = x .count; total = x .total; header = o }) ≡ judgedAt house first b w
+    → accepted (record { length = x .length; count = x .count; total = x .total; header = o }) ≡ judgedAt planeFrames versionOne b w
     → Known b x × (o ≡ spots.headed (frameIn b) w)
 unfolding judgedAt
-judged-known b w x o e = go (recordVerdict house first b) refl e
+judged-known b w x o e = go (recordVerdict planeFrames versionOne b) refl e
   where
-    go : (v : Done) → recordVerdict house first b ≡ v
+    go : (v : Done) → recordVerdict planeFrames versionOne b ≡ v
         → accepted (record { length = x .length; count = x .count; total = x .total; header = o }) ≡ andThen v (λ u. accepted (here b w))
         → Known b x × (o ≡ spots.headed (frameIn b) w)
     go (accepted u) q h =
@@ -51,25 +51,25 @@ judged-known b w x o e = go (recordVerdict house first b) refl e
         )
     go (refused n p) q h = let z : _≡_ {A = ℕ} 0 1 = cc in absurd (omega arith)
 
-pub judged-refused : (b : List ℕ) (w n p : ℕ) → refused n p ≡ judgedAt house first b w → recordVerdict house first b ≡ refused n p
+pub judged-refused : (b : List ℕ) (w n p : ℕ) → refused n p ≡ judgedAt planeFrames versionOne b w → recordVerdict planeFrames versionOne b ≡ refused n p
 unfolding judgedAt
-judged-refused b w n p e = go (recordVerdict house first b) e
+judged-refused b w n p e = go (recordVerdict planeFrames versionOne b) e
   where
     go : (v : Done) → refused n p ≡ andThen v (λ u. accepted (here b w)) → v ≡ refused n p
     go (accepted u) h = let z : _≡_ {A = ℕ} 0 1 = cc in absurd (omega arith)
     go (refused m q) h = cc
 
 abbrev lengths : List ℕ → Summary
-lengths b = record { length = lengthIn b; count = countIn b; total = totalIn first b }
+lengths b = record { length = lengthIn b; count = countIn b; total = totalIn versionOne b }
 
 same-summary : (i j : Summary) → _≡_ {A = Outcome Summary} (accepted i) (accepted j) → i ≡ j
 same-summary i j e = cc
 
-pub record-known : (b : List ℕ) (x : Summary) → accepted x ≡ recordAnswer house first b → Known b x
+pub record-known : (b : List ℕ) (x : Summary) → accepted x ≡ recordAnswer planeFrames versionOne b → Known b x
 unfolding recordAnswer
-record-known b x e = go (recordVerdict house first b) refl e
+record-known b x e = go (recordVerdict planeFrames versionOne b) refl e
   where
-    go : (v : Done) → recordVerdict house first b ≡ v → accepted x ≡ andThen v (λ u. accepted (lengths b)) → Known b x
+    go : (v : Done) → recordVerdict planeFrames versionOne b ≡ v → accepted x ≡ andThen v (λ u. accepted (lengths b)) → Known b x
     go (accepted u) q h =
         let s = same-summary x (lengths b) h in
         record {
@@ -80,9 +80,9 @@ record-known b x e = go (recordVerdict house first b) refl e
         }
     go (refused n p) q h = let z : _≡_ {A = ℕ} 0 1 = cc in absurd (omega arith)
 
-pub record-refused : (b : List ℕ) (n p : ℕ) → refused n p ≡ recordAnswer house first b → recordVerdict house first b ≡ refused n p
+pub record-refused : (b : List ℕ) (n p : ℕ) → refused n p ≡ recordAnswer planeFrames versionOne b → recordVerdict planeFrames versionOne b ≡ refused n p
 unfolding recordAnswer
-record-refused b n p e = go (recordVerdict house first b) e
+record-refused b n p e = go (recordVerdict planeFrames versionOne b) e
   where
     go : (v : Done) → refused n p ≡ andThen v (λ u. accepted (lengths b)) → v ≡ refused n p
     go (accepted u) h = let z : _≡_ {A = ℕ} 0 1 = cc in absurd (omega arith)
@@ -90,27 +90,27 @@ record-refused b n p e = go (recordVerdict house first b) e
 
 -- ---- what an accepted record is
 module _ (b : List ℕ) (x : Summary) (k : Known b x) where
-  pub head : Header first b
-  head = header-words first b (verdict-parts house first b (k .judged) .0)
+  pub head : Header versionOne b
+  head = header-words versionOne b (verdict-parts planeFrames versionOne b (k .judged) .0)
 
-  pub fitting : historyVerdict house first (frameIn b) (entriesIn first b) ≡ accepted tt
-  fitting = verdict-parts house first b (k .judged) .2
+  pub fitting : historyVerdict planeFrames versionOne (frameIn b) (entriesIn versionOne b) ≡ accepted tt
+  fitting = verdict-parts planeFrames versionOne b (k .judged) .2
 
-  pub standing : Bytes b → Accepted house (frameIn b)
-  standing y = record { bytes = bytes-part b 16 (lengthIn b) y; judged = verdict-parts house first b (k .judged) .1 }
+  pub standing : Bytes b → Accepted planeFrames (frameIn b)
+  standing y = record { bytes = bytes-part b 16 (lengthIn b) y; judged = verdict-parts planeFrames versionOne b (k .judged) .1 }
 
   pub frame-long : length (frameIn b) ≡ x .length
-  frame-long = frame-length first b head ∙ sym (k .length)
+  frame-long = frame-length versionOne b head ∙ sym (k .length)
 
   pub sum : x .total ≡ 16 + x .length + 16 * x .count
-  unfolding first
+  unfolding versionOne
   sum = let l = k .length in let n = k .count in let t = k .total in omega arith
 
   pub inside : x .total ≤ length b
   inside = let t = k .total in let r = head .room in omega arith
 
   pub few : x .count ≤ 512
-  few = let n = k .count in let f = few-entries first first-lawful b head in omega arith
+  few = let n = k .count in let f = few-entries versionOne version-one-lawful b head in omega arith
 
   pub short : Bytes b → x .length ≤ 8192
-  short y = let l = frame-long in let s = house-lawful .short (frameIn b) (standing y) in omega arith
+  short y = let l = frame-long in let s = plane-frames-lawful .short (frameIn b) (standing y) in omega arith

@@ -16,67 +16,67 @@ use Rattle.ledger.specs.Formats.{Entry}
 use Rattle.ledger.specs.Records.{lengthIn, countIn, totalIn, entryOf, numbered, entriesTo, entriesIn, recordVerdict}
 use Rattle.ledger.specs.Calls.{Summary, recordAnswer, openExit, restored}
 use Rattle.ledger.specs.Histories as histories
-use Rattle.ledger.specs.Histories.{oldestFirst, correctionOf, run, made, recordAfter, acceptedEdits}
-use Rattle.ledger.specs.First.{first}
-use Rattle.ledger.specs.House.{house}
+use Rattle.ledger.specs.Histories.{oldestFirst, correctionOf, editAll, made, recordAfter, acceptedEdits}
+use Rattle.ledger.specs.VersionOne.{versionOne}
+use Rattle.ledger.specs.PlaneFrames.{planeFrames}
 use Rattle.ledger.specs.Layout.{totalLength}
 use Rattle.ledger.specs.Reasons.{cut}
 use Rattle.ledger.proofs.histories.Backward.{restored-first}
-use Rattle.ledger.proofs.house.House.{house-first}
-use Rattle.ledger.proofs.front.HouseDemand3 as house3
-use Rattle.plane.specs.declared.answers.Record.{Record}
-use Rattle.plane.specs.declared.answers.RecordFound.{RecordFound}
-use Rattle.plane.specs.declared.answers.RecordFound.the-variants as records
-use Rattle.plane.specs.Views.{summaryOf}
-use Rattle.plane.proofs.Unique.{same-record}
+use Rattle.ledger.proofs.plane.PlaneFrames.{plane-frames-version-one}
+use Rattle.ledger.proofs.front.PlaneDemand3 as house3
+use Rattle.records.specs.declared.answers.Record.{Record}
+use Rattle.records.specs.declared.answers.RecordFound.{RecordFound}
+use Rattle.records.specs.declared.answers.RecordFound.the-variants as records
+use Rattle.records.specs.Views.{summaryOf}
+use Rattle.records.proofs.Unique.{same-record}
 use Rattle.editor.specs.declared.answers.Done as code
 use Rattle.editor.specs.declared.editing.Correction.{Correction}
 use Rattle.editor.specs.Views.{asked}
-use Rattle.plane.specs.Promises.{Recorded}
+use Rattle.records.specs.Promises.{Recorded}
 use Rattle.editor.specs.Sequences.{Calls, done, then, madeBy, correctionFor, Given, AllGiven, none, more, Sequence}
-use Rattle.editor.proofs.CallLaws.{calls-run, calls-made, after-calls, called}
+use Rattle.editor.proofs.CallLaws.{calls-edit-all, calls-made, after-calls, called}
 
 -- ---- what `record` answers
 module _ (b : List ℕ) where
-  pub recorded : (x : Record) → Recorded b (records.Record x) → recordVerdict house first b ≡ accepted tt
+  pub recorded : (x : Record) → Recorded b (records.Record x) → recordVerdict planeFrames versionOne b ≡ accepted tt
   unfolding recordAnswer
-  recorded x e = go (recordVerdict house first b) _ e
+  recorded x e = go (recordVerdict planeFrames versionOne b) _ e
     where
       go : (d : Done) (s : Summary) → accepted (summaryOf x) ≡ andThen d (λ u. accepted s) → d ≡ accepted tt
       go (accepted u) s q = refl
       go (refused n p) s q = let z : _≡_ {A = ℕ} 0 1 = cc in absurd (omega arith)
 
-  pub recorded-back : (r : RecordFound) → Recorded b r → recordVerdict house first b ≡ accepted tt → (x : Record) × (r ≡ records.Record x)
+  pub recorded-back : (r : RecordFound) → Recorded b r → recordVerdict planeFrames versionOne b ≡ accepted tt → (x : Record) × (r ≡ records.Record x)
   unfolding recordAnswer
   recorded-back r t v =
-      (record { length = lengthIn b; count = countIn b; total = totalIn first b }, same-record r _ (t ∙ rw v))
+      (record { length = lengthIn b; count = countIn b; total = totalIn versionOne b }, same-record r _ (t ∙ rw v))
 
-  pub recorded-refused : (n p : ℕ) → (refused n p ≡ recordAnswer house first b) ↔ (recordVerdict house first b ≡ refused n p)
+  pub recorded-refused : (n p : ℕ) → (refused n p ≡ recordAnswer planeFrames versionOne b) ↔ (recordVerdict planeFrames versionOne b ≡ refused n p)
   unfolding recordAnswer
-  recorded-refused n p = go (recordVerdict house first b) _
+  recorded-refused n p = go (recordVerdict planeFrames versionOne b) _
     where
       go : (d : Done) (s : Summary) → (refused n p ≡ andThen d (λ u. accepted s)) ↔ (d ≡ refused n p)
       go (accepted u) s = (λ e. let z : _≡_ {A = ℕ} 0 1 = cc in absurd (omega arith), λ e. let z : _≡_ {A = ℕ} 0 1 = cc in absurd (omega arith))
       go (refused m q) s = (λ e. let i : m ≡ n = cc in let j : q ≡ p = cc in rw (i, j), λ e. let i : m ≡ n = cc in let j : q ≡ p = cc in rw (i, j))
 
 -- ---- the corrections that a record's entries tell of
-asked-for : (b : List ℕ) (j : ℕ) → asked (correctionFor (numbered first b j)) ≡ correctionOf (numbered first b j)
-unfolding numbered entryOf first
+asked-for : (b : List ℕ) (j : ℕ) → asked (correctionFor (numbered versionOne b j)) ≡ correctionOf (numbered versionOne b j)
+unfolding numbered entryOf versionOne
 asked-for b j = refl
 
-all-asked : (b : List ℕ) (n : ℕ) → map asked (map correctionFor (oldestFirst (entriesTo first b n))) ≡ map correctionOf (oldestFirst (entriesTo first b n))
+all-asked : (b : List ℕ) (n : ℕ) → map asked (map correctionFor (oldestFirst (entriesTo versionOne b n))) ≡ map correctionOf (oldestFirst (entriesTo versionOne b n))
 unfolding entriesTo oldestFirst
 all-asked b zero = refl
 all-asked b (suc n) =
-    let l = oldestFirst (entriesTo first b n) in
-    let x = numbered first b (suc n) in
+    let l = oldestFirst (entriesTo versionOne b n) in
+    let x = numbered versionOne b (suc n) in
     ap (map asked) (map-append correctionFor l (x ∷ []))
     ∙ map-append asked (map correctionFor l) (correctionFor x ∷ [])
     ∙ ap₂ (λ (c : List formats.Correction) (d : formats.Correction). c ++ (d ∷ [])) (all-asked b n) (asked-for b (suc n))
     ∙ sym (map-append correctionOf l (x ∷ []))
 
-given-for : (b : List ℕ) → Bytes b → (j : ℕ) → Given (correctionFor (numbered first b j))
-unfolding numbered entryOf lengthIn first
+given-for : (b : List ℕ) → Bytes b → (j : ℕ) → Given (correctionFor (numbered versionOne b j))
+unfolding numbered entryOf lengthIn versionOne
 given-for b y j =
     let s : (i : ℕ) → _ < 256 = below-drop (16 + lengthIn b + 16 * (j - 1)) b 256 y in
     record {
@@ -90,18 +90,18 @@ given-both : {cs ds : List Correction} → AllGiven cs → AllGiven ds → AllGi
 given-both none h = h
 given-both (more g r) h = more g (given-both r h)
 
-all-given : (b : List ℕ) → Bytes b → (n : ℕ) → AllGiven (map correctionFor (oldestFirst (entriesTo first b n)))
+all-given : (b : List ℕ) → Bytes b → (n : ℕ) → AllGiven (map correctionFor (oldestFirst (entriesTo versionOne b n)))
 unfolding entriesTo oldestFirst
 all-given b y zero = none
-all-given b y (suc n) = rw (map-append correctionFor (oldestFirst (entriesTo first b n)) (numbered first b (suc n) ∷ [])) (given-both (all-given b y n) (more (given-for b y (suc n)) none))
+all-given b y (suc n) = rw (map-append correctionFor (oldestFirst (entriesTo versionOne b n)) (numbered versionOne b (suc n) ∷ [])) (given-both (all-given b y n) (more (given-for b y (suc n)) none))
 
 -- ---- a sequence of calls is one of ledger's
 module _ (b : List ℕ) (S : Sequence b) where
-  left-after : S .left ≡ recordAfter house first (S .frame) (S .buffer) (map asked (S .corrections))
-  left-after = calls-run (S .calls) ∙ ap (λ (m : List ℕ). run house first m (map asked (S .corrections))) (S .opening .left)
+  left-after : S .left ≡ recordAfter planeFrames versionOne (S .frame) (S .buffer) (map asked (S .corrections))
+  left-after = calls-edit-all (S .calls) ∙ ap (λ (m : List ℕ). editAll planeFrames versionOne m (map asked (S .corrections))) (S .opening .left)
 
-  pub as-ledgers : histories.Sequence house first b
-  unfolding lengthIn countIn first
+  pub as-ledgers : histories.Sequence planeFrames versionOne b
+  unfolding lengthIn countIn versionOne
   as-ledgers = record {
     origin = S .frame;
     buffer = S .buffer;
@@ -112,20 +112,20 @@ module _ (b : List ℕ) (S : Sequence b) where
     same = subst (λ (l : List ℕ). take (totalLength l) b ≡ take (totalLength l) l) left-after (S .same);
   }
 
-  edits-made : map asked (madeBy (S .corrections) (S .answers)) ≡ acceptedEdits house first (S .frame) (S .buffer) (map asked (S .corrections))
-  edits-made = calls-made (S .calls) ∙ ap (λ (m : List ℕ). made house first m (map asked (S .corrections))) (S .opening .left)
+  edits-made : map asked (madeBy (S .corrections) (S .answers)) ≡ acceptedEdits planeFrames versionOne (S .frame) (S .buffer) (map asked (S .corrections))
+  edits-made = calls-made (S .calls) ∙ ap (λ (m : List ℕ). made planeFrames versionOne m (map asked (S .corrections))) (S .opening .left)
 
   -- its frame and its accepted corrections are those that the record tells of
-  pub only-frame : S .frame ≡ restored house first b 0
+  pub only-frame : S .frame ≡ restored planeFrames versionOne b 0
   unfolding as-ledgers
   only-frame = house3.the-only-ones b as-ledgers .0
 
-  pub only-corrections : madeBy (S .corrections) (S .answers) ≡ map correctionFor (oldestFirst (entriesIn first b))
+  pub only-corrections : madeBy (S .corrections) (S .answers) ≡ map correctionFor (oldestFirst (entriesIn versionOne b))
   unfolding as-ledgers
   only-corrections =
       sym (back (madeBy (S .corrections) (S .answers)))
       ∙ ap (map unasked) (edits-made ∙ house3.the-only-ones b as-ledgers .1)
-      ∙ both (oldestFirst (entriesIn first b))
+      ∙ both (oldestFirst (entriesIn versionOne b))
     where
       unasked : formats.Correction → Correction
       unasked c = record { word = c .word; value = c .value; operator = c .operator; reason = c .reason }
@@ -138,7 +138,7 @@ module _ (b : List ℕ) (S : Sequence b) where
       both [] = refl
       both (e ∷ es) = ap (λ (l : List Correction). correctionFor e ∷ l) (both es)
 
-fits-inside : (b : List ℕ) → recordVerdict house first b ≡ accepted tt → totalLength b ≤ length b
+fits-inside : (b : List ℕ) → recordVerdict planeFrames versionOne b ≡ accepted tt → totalLength b ≤ length b
 fits-inside b v = by-cases (decLt (length b) (totalLength b)) (λ l. absurd (house3.accepted-record b .0 v .0 (cut l))) (λ h. let n : length b < totalLength b → ⊥ = h in omega arith)
 
 joined : {b m e : List ℕ} {cs ds : List Correction} {rs qs : List code.Done} → Calls b cs rs m → Calls m ds qs e → Calls b (cs ++ ds) (rs ++ qs) e
@@ -146,29 +146,29 @@ joined done k = k
 joined (then o j) k = then o (joined j k)
 
 -- ---- and an accepted record has one: the frame that it restores to, opened in that very buffer, and its own entries as calls
-module _ (b : List ℕ) (y : Bytes b) (v : recordVerdict house first b ≡ accepted tt) where
+module _ (b : List ℕ) (y : Bytes b) (v : recordVerdict planeFrames versionOne b ≡ accepted tt) where
   origin : List ℕ
-  origin = restored house first b 0
+  origin = restored planeFrames versionOne b 0
 
   start : List ℕ
-  start = openExit house first origin b
+  start = openExit planeFrames versionOne origin b
 
   own : List Correction
-  own = map correctionFor (oldestFirst (entriesIn first b))
+  own = map correctionFor (oldestFirst (entriesIn versionOne b))
 
-  makes : run house first start (map asked own) ≡ b
+  makes : editAll planeFrames versionOne start (map asked own) ≡ b
   unfolding origin start own
-  makes = ap (run house first (openExit house first (restored house first b 0) b)) (all-asked b (countIn b)) ∙ house3.made-again b y v .1
+  makes = ap (editAll planeFrames versionOne (openExit planeFrames versionOne (restored planeFrames versionOne b 0) b)) (all-asked b (countIn b)) ∙ house3.made-again b y v .1
 
   pub has-sequence : Sequence b
   unfolding origin start own
   has-sequence =
       let k = called start own in
-      let l : k .1 .0 ≡ b = calls-run (k .1 .1) ∙ makes in
+      let l : k .1 .0 ≡ b = calls-edit-all (k .1 .1) ∙ makes in
       record {
         frame = origin;
         buffer = b;
-        lent = (restored-first house first house-first b y v .bytes, y);
+        lent = (restored-first planeFrames versionOne plane-frames-version-one b y v .bytes, y);
         opened = start;
         opening = record { answered = sym (house3.made-again b y v .0); left = refl };
         corrections = own;
@@ -186,15 +186,15 @@ module _ (b : List ℕ) (y : Bytes b) (v : recordVerdict house first b ≡ accep
 
   pub own-left : has-sequence .left ≡ b
   unfolding has-sequence
-  own-left = calls-run (called start own .1 .1) ∙ makes
+  own-left = calls-edit-all (called start own .1 .1) ∙ makes
 
   -- calls on an accepted record are calls that follow that sequence
   pub followed : {cs : List Correction} {rs : List code.Done} {e : List ℕ} → Calls b cs rs e → AllGiven cs → Sequence e
   followed {cs = cs} {rs = rs} {e = e} k g =
       let S = has-sequence in
       let a = joined (S .calls) (subst (λ (m : List ℕ). Calls m cs rs e) (sym own-left) k) in
-      let v : recordVerdict house first e ≡ accepted tt
-      = ap (recordVerdict house first) (after-calls (S .frame) (S .buffer) (S .opened) (S .opening) a)
+      let v : recordVerdict planeFrames versionOne e ≡ accepted tt
+      = ap (recordVerdict planeFrames versionOne) (after-calls (S .frame) (S .buffer) (S .opened) (S .opening) a)
       ∙ house3.accepted-after (S .frame) (S .buffer) (S .lent .0) (sym (S .opening .answered)) (map asked (S .corrections ++ cs)) in
       record {
         frame = S .frame;
@@ -211,5 +211,5 @@ module _ (b : List ℕ) (y : Bytes b) (v : recordVerdict house first b ≡ accep
         same = refl;
       }
 
-pub accepted-exactly : (b : List ℕ) → Bytes b → (recordVerdict house first b ≡ accepted tt) ↔ Sequence b
+pub accepted-exactly : (b : List ℕ) → Bytes b → (recordVerdict planeFrames versionOne b ≡ accepted tt) ↔ Sequence b
 accepted-exactly b y = (has-sequence b y, λ S. house3.accepted-exactly b y .1 (as-ledgers b S))

@@ -6,20 +6,20 @@ use mathlib.Core.List.{List}
 use Rattle.format.specs.Answers.{Done}
 use Rattle.ledger.specs.Formats.{Correction}
 use Rattle.ledger.specs.Calls.{openAnswer, openExit, editAnswer, editExit, restoreAnswer, restoreExit}
-use Rattle.ledger.specs.First.{first}
-use Rattle.ledger.specs.House.{house}
+use Rattle.ledger.specs.VersionOne.{versionOne}
+use Rattle.ledger.specs.PlaneFrames.{planeFrames}
 
 -- opening a record of the frame f in a buffer
 pub record Opened (f found : List ℕ) (answer : Done) (exit : List ℕ) : Type 0 where
-  pub answered : answer ≡ openAnswer house first f found
-  pub left : exit ≡ openExit house first f found
+  pub answered : answer ≡ openAnswer planeFrames versionOne f found
+  pub left : exit ≡ openExit planeFrames versionOne f found
 
 -- an edit of the record in a buffer
 pub record Edited (found : List ℕ) (c : Correction) (answer : Done) (exit : List ℕ) : Type 0 where
-  pub answered : answer ≡ editAnswer house first found c
-  pub left : exit ≡ editExit house first found c
+  pub answered : answer ≡ editAnswer planeFrames versionOne found c
+  pub left : exit ≡ editExit planeFrames versionOne found c
 
 -- restoring the record b to k, into a second buffer
 pub record Restored (b : List ℕ) (k : ℕ) (found : List ℕ) (answer : Done) (exit : List ℕ) : Type 0 where
-  pub answered : answer ≡ restoreAnswer house first b k found
-  pub left : exit ≡ restoreExit house first b k found
+  pub answered : answer ≡ restoreAnswer planeFrames versionOne b k found
+  pub left : exit ≡ restoreExit planeFrames versionOne b k found

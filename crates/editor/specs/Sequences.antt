@@ -9,9 +9,9 @@ use Rattle.format.specs.Words.{Bytes}
 use Rattle.format.specs.Spots.{Spot}
 use Rattle.ledger.specs.Formats.{Entry}
 use Rattle.ledger.specs.Histories.{frameAfter, entriesOf}
-use Rattle.ledger.specs.House.{house}
+use Rattle.ledger.specs.PlaneFrames.{planeFrames}
 use Rattle.ledger.specs.Layout.{totalLength}
-use Rattle.plane.specs.declared.answers.Entry as told
+use Rattle.records.specs.declared.answers.Entry as told
 use Rattle.editor.specs.declared.answers.Done.{Done}
 use Rattle.editor.specs.declared.answers.Done.the-variants as answer
 use Rattle.editor.specs.declared.editing.Correction.{Correction}
@@ -39,14 +39,14 @@ madeBy (c ∷ cs) (r ∷ rs) = kept r c (madeBy cs rs)
 
 -- the frame f with some corrections made, in order, and the entries that they make: each has the value that stood before it as its old one
 abbrev pub corrected : List ℕ → List Correction → List ℕ
-corrected f cs = frameAfter house f (map asked cs)
+corrected f cs = frameAfter planeFrames f (map asked cs)
 
 abbrev pub entriesFor : List ℕ → List Correction → List Entry
-entriesFor f cs = entriesOf house f (map asked cs)
+entriesFor f cs = entriesOf planeFrames f (map asked cs)
 
 -- the entry of a correction as `entry` tells it: what was asked, with the kind and the value of the item p that stood there before
-abbrev pub toldOf : Correction → Spot → told.Entry
-toldOf c p = record { word = c .word; kind = p .kind; old = p .value; new = c .value; operator = c .operator; reason = c .reason }
+abbrev pub entryMade : Correction → Spot → told.Entry
+entryMade c p = record { word = c .word; kind = p .kind; old = p .value; new = c .value; operator = c .operator; reason = c .reason }
 
 -- a moment among some calls from b to e: `buffer` as it stood when k of them had been accepted
 pub record Moment (b : List ℕ) (cs : List Correction) (rs : List Done) (e : List ℕ) (k : ℕ) : Type 0 where

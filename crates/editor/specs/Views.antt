@@ -10,7 +10,7 @@ use Rattle.book.specs.Views.{refusal}
 use Rattle.ledger.specs.Formats as formats
 use Rattle.ledger.specs.Records.{signed}
 use Rattle.ledger.specs.Calls.{Summary}
-use Rattle.ledger.specs.House.{house}
+use Rattle.ledger.specs.PlaneFrames.{planeFrames}
 use Rattle.editor.specs.declared.answers.Done.{Done}
 use Rattle.editor.specs.declared.answers.Done.the-variants as done
 use Rattle.editor.specs.declared.editing.Correction.{Correction}
@@ -35,7 +35,7 @@ asked c = record { word = c .word; value = c .value; operator = c .operator; rea
 unfoldable pub itemTests : formats.Correction → Summary → ℕ → ℕ → ℕ → answers.Done
 itemTests c x kind value room =
     firstOf
-    (need (house .legal kind (c .value) && not (eqb value (c .value))) 23 0
+    (need (planeFrames .legal kind (c .value) && not (eqb value (c .value))) 23 0
     ∷ need (signed (c .operator) (c .reason)) 24 0
     ∷ need (ltb (x .count) 512) 25 0
     ∷ need (leb (x .total + 16) room) 12 0

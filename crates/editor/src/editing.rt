@@ -4,9 +4,9 @@ ghost use Prim.Native.Nat.{_<_};
 ghost use Rattle.format.specs.Spots.{headed};
 ghost use Rattle.ledger.specs.Records.{frameIn};
 ghost use Rattle.ledger.specs.Calls.{editWritten};
-ghost use Rattle.ledger.specs.First.{first};
-ghost use Rattle.ledger.specs.House.{house};
-ghost use Rattle.plane.specs.Views.{viewHeaderFound, summaryOf};
+ghost use Rattle.ledger.specs.VersionOne.{versionOne};
+ghost use Rattle.ledger.specs.PlaneFrames.{planeFrames};
+ghost use Rattle.records.specs.Views.{viewHeaderFound, summaryOf};
 ghost use Rattle.editor.specs.Views.{viewDone, asked, itemTests};
 ghost use Rattle.editor.specs.Promises.{Edited};
 ghost use Rattle.editor.specs.Writes.{Known, Holds, Editable};
@@ -19,16 +19,16 @@ use book::items::Item;
 use book::refusal::Refusal;
 use frame::cursor::Standing;
 use frame::cursor::item_at;
-use plane::answers::Entry;
-use plane::answers::HeaderFound;
-use plane::answers::Judged;
-use plane::answers::Record;
-use plane::answers::Spot;
-use plane::entries::put_entry;
-use plane::history::signed;
-use plane::judge;
-use plane::values::legal;
-use plane::values::put_value;
+use records::answers::Entry;
+use records::answers::HeaderFound;
+use records::answers::Judged;
+use records::answers::Record;
+use records::answers::Spot;
+use records::entries::put_entry;
+use records::history::signed;
+use records::judge;
+use records::values::legal;
+use records::values::put_value;
 
 // What an edit asks: the item by the index of its first word, its new value, and who corrects it for what reason. The numbers are wide
 // enough that every one out of range can be given, and is refused.
@@ -56,7 +56,7 @@ fn edit_tests(c: Correction, x: Record, kind: u16, value: u32, room: usize) -> D
 // An edit that may be made: the value, the two header words that change, and one entry.
 fn write_edit(buf: &mut [u8], c: Correction, x: Record, kind: u16, value: u32)
     requires { ⌜ Editable (now buf) (summaryOf x) (asked c) kind value ⌝ }
-    ensures { λ _. ⌜ now (buf .exit) ≡ editWritten house first (now (buf .entry)) (asked c) ⌝ }
+    ensures { λ _. ⌜ now (buf .exit) ≡ editWritten planeFrames versionOne (now (buf .entry)) (asked c) ⌝ }
 {
     let start = Record::HEADER;
     let end = start + x.length;

@@ -5,9 +5,9 @@ ghost use lib.ListN.{length};
 ghost use lib.Seq.{sets};
 ghost use Rattle.ledger.specs.Records.{frameIn};
 ghost use Rattle.ledger.specs.Calls.{restored};
-ghost use Rattle.ledger.specs.First.{first};
-ghost use Rattle.ledger.specs.House.{house};
-ghost use Rattle.plane.specs.Views.{summaryOf};
+ghost use Rattle.ledger.specs.VersionOne.{versionOne};
+ghost use Rattle.ledger.specs.PlaneFrames.{planeFrames};
+ghost use Rattle.records.specs.Views.{summaryOf};
 ghost use Rattle.editor.specs.Views.{viewDone};
 ghost use Rattle.editor.specs.Promises.{Restored};
 ghost use Rattle.editor.specs.Writes.{Known};
@@ -16,16 +16,16 @@ use crate::answers::first_of;
 use crate::answers::test;
 use book::refusal::Refusal;
 use book::words::copy;
-use plane::answers::Entry;
-use plane::answers::Record;
-use plane::answers::RecordFound;
-use plane::history::undo_from;
-use plane::record;
+use records::answers::Entry;
+use records::answers::Record;
+use records::answers::RecordFound;
+use records::history::undo_from;
+use records::record;
 
 // Undoes the entries of an accepted record, from the newest down to number k + 1, in a copy of its frame. They were tested when it was judged.
 fn rewind(frame: &mut [u8], buf: &[u8], x: Record, k: usize)
     requires { ⌜ Known (now buf) (summaryOf x) × (k ≤ x .count) × (now frame ≡ frameIn (now buf)) ⌝ }
-    ensures { λ _. ⌜ now (frame .exit) ≡ restored house first (now (buf .entry)) k ⌝ }
+    ensures { λ _. ⌜ now (frame .exit) ≡ restored planeFrames versionOne (now (buf .entry)) k ⌝ }
 {
     let history = Record::HEADER + x.length;
     let mut n = x.count;
@@ -40,7 +40,7 @@ fn rewind(frame: &mut [u8], buf: &[u8], x: Record, k: usize)
 // no scratch: nothing can refuse any more.
 fn write_restored(buf: &[u8], x: Record, k: usize, out: &mut [u8])
     requires { ⌜ Known (now buf) (summaryOf x) × (k ≤ x .count) × (x .length ≤ length (now out)) ⌝ }
-    ensures { λ _. ⌜ now (out .exit) ≡ sets (now (out .entry)) 0 (restored house first (now (buf .entry)) k) ⌝ }
+    ensures { λ _. ⌜ now (out .exit) ≡ sets (now (out .entry)) 0 (restored planeFrames versionOne (now (buf .entry)) k) ⌝ }
 {
     let start = Record::HEADER;
     let n = x.length;

@@ -4,7 +4,7 @@ ghost use Prim.Native.Nat.{_+_, _*_, _≤_};
 ghost use lib.ListN.{length};
 ghost use lib.Seq.{sets};
 ghost use Rattle.format.specs.Words.{bytes};
-use plane::values::put_word;
+use records::values::put_word;
 
 // Stores some words, from byte `at` on.
 pub(crate) fn put_words(buf: &mut [u8], at: usize, ws: &[u16])

@@ -59,6 +59,6 @@ module _ (buf : List ℕ) (n k : ℕ) where
       go (refused j p) = refl
 
 -- what is promised of a token is promised of one that equals it
-pub told : (buf : List ℕ) (n : ℕ) (t u : Token) → t ≡ u → (r : PlaneWritten) (l : List ℕ)
+pub answered-alike : (buf : List ℕ) (n : ℕ) (t u : Token) → t ≡ u → (r : PlaneWritten) (l : List ℕ)
     → Leaves (flatWritten (addAnswer buf n t)) (addLeft buf n t) r l → Leaves (flatWritten (addAnswer buf n u)) (addLeft buf n u) r l
-told buf n t u e r l = subst (λ (v : Token). Leaves (flatWritten (addAnswer buf n v)) (addLeft buf n v) r l) e
+answered-alike buf n t u e r l = subst (λ (v : Token). Leaves (flatWritten (addAnswer buf n v)) (addLeft buf n v) r l) e

@@ -21,13 +21,13 @@ use Rattle.format.specs.WriterCases.{oneOf, handed}
 use Rattle.format.proofs.front.Refusals.{places}
 use Rattle.format.proofs.front.Writing.{partial-list, begin-list, add-list, close-list}
 use Rattle.ledger.specs.Calls.{recordAnswer, entryAnswer, openAnswer, editAnswer, restoreAnswer}
-use Rattle.ledger.specs.First.{first}
-use Rattle.ledger.specs.House.{house, house-judge}
+use Rattle.ledger.specs.VersionOne.{versionOne}
+use Rattle.ledger.specs.PlaneFrames.{planeFrames, plane-frames-judge}
 use Rattle.ledger.proofs.answers.Refusals as ledger
 use Rattle.exports.specs.declared.answers.PlaneItem.{PlaneItem}
 use Rattle.exports.specs.declared.answers.PlaneCorrection.{PlaneCorrection}
 use Rattle.exports.specs.Given.{asked, begun, said, tokenOf}
-use Rattle.exports.specs.Told.{Numbered}
+use Rattle.exports.specs.FlatTells.{Numbered}
 
 granted : {A : Type 0} (a : A) → Numbered (accepted a)
 granted a = record { least = λ n p e. let z : _≡_ {A = ℕ} 0 1 = cc in absurd (omega arith) }
@@ -151,35 +151,35 @@ done-refused : {A : Type 0} (o : Outcome A) (n p : ℕ) → done o ≡ refused n
 done-refused (accepted a) n p e = let z : _≡_ {A = ℕ} 0 1 = cc in absurd (omega arith)
 done-refused (refused m q) n p e = cc
 
-judge-numbers : (f : List ℕ) (n p : ℕ) → Bytes f → house .judge f ≡ refused n p → (1 ≤ n) × (n ≤ 11)
+judge-numbers : (f : List ℕ) (n p : ℕ) → Bytes f → planeFrames .judge f ≡ refused n p → (1 ≤ n) × (n ≤ 11)
 judge-numbers f n p bs e =
-    let h = places f bs n p (done-refused (verdict f) n p (sym (house-judge f) ∙ e)) in
+    let h = places f bs n p (done-refused (verdict f) n p (sym (plane-frames-judge f) ∙ e)) in
     (h .least, h .most)
 
 -- the format of document 01 asks nothing of its own
-first-asks : (c : PlaneCorrection) (n p : ℕ) → first .asked (asked c .extra) ≡ refused n p → 1 ≤ n
-unfolding first
+first-asks : (c : PlaneCorrection) (n p : ℕ) → versionOne .asked (asked c .extra) ≡ refused n p → 1 ≤ n
+unfolding versionOne
 first-asks c n p e = let z : _≡_ {A = ℕ} 0 1 = cc in absurd (omega arith)
 
 module _ (b : List ℕ) (bs : Bytes b) where
   low : {n : ℕ} → ((1 ≤ n) × (n ≤ 11)) ⊎ ((20 ≤ n) × (n ≤ 21)) → 1 ≤ n
   low = ⊎-elim (λ h. h .0) (λ h. let q = h .0 in omega arith)
 
-  pub record-numbered : Numbered (recordAnswer house first b)
+  pub record-numbered : Numbered (recordAnswer planeFrames versionOne b)
   record-numbered =
-      record { least = λ n p e. low (ledger.record-numbers house first judge-numbers b n p bs (ledger.record-question-refusals house first b n p e)) }
+      record { least = λ n p e. low (ledger.record-numbers planeFrames versionOne judge-numbers b n p bs (ledger.record-question-refusals planeFrames versionOne b n p e)) }
 
-  pub entry-numbered : (j : ℕ) → Numbered (entryAnswer house first b j)
+  pub entry-numbered : (j : ℕ) → Numbered (entryAnswer planeFrames versionOne b j)
   entry-numbered j =
-      record { least = λ n p e. ⊎-elim (λ h. h .0) (⊎-elim (λ h. let q = h .0 in omega arith) (λ h. omega arith)) (ledger.entry-numbers house first judge-numbers b j n p bs e) }
+      record { least = λ n p e. ⊎-elim (λ h. h .0) (⊎-elim (λ h. let q = h .0 in omega arith) (λ h. omega arith)) (ledger.entry-numbers planeFrames versionOne judge-numbers b j n p bs e) }
 
-  pub open-numbered : (buf : List ℕ) → Numbered (openAnswer house first b buf)
-  open-numbered buf = record { least = λ n p e. ledger.open-numbers house first judge-numbers b buf n p bs e .0 }
+  pub open-numbered : (buf : List ℕ) → Numbered (openAnswer planeFrames versionOne b buf)
+  open-numbered buf = record { least = λ n p e. ledger.open-numbers planeFrames versionOne judge-numbers b buf n p bs e .0 }
 
-  pub edit-numbered : (c : PlaneCorrection) → Numbered (editAnswer house first b (asked c))
+  pub edit-numbered : (c : PlaneCorrection) → Numbered (editAnswer planeFrames versionOne b (asked c))
   edit-numbered c =
-      record { least = λ n p e. ⊎-elim (⊎-elim (λ h. h .0) (λ h. let q = h .0 in omega arith)) (first-asks c n p) (ledger.edit-numbers house first judge-numbers b (asked c) n p bs e) }
+      record { least = λ n p e. ⊎-elim (⊎-elim (λ h. h .0) (λ h. let q = h .0 in omega arith)) (first-asks c n p) (ledger.edit-numbers planeFrames versionOne judge-numbers b (asked c) n p bs e) }
 
-  pub restore-numbered : (k : ℕ) (out : List ℕ) → Numbered (restoreAnswer house first b k out)
+  pub restore-numbered : (k : ℕ) (out : List ℕ) → Numbered (restoreAnswer planeFrames versionOne b k out)
   restore-numbered k out =
-      record { least = λ n p e. ⊎-elim (λ h. h .0) (⊎-elim (λ h. let q = h .0 in omega arith) (λ h. omega arith)) (ledger.restore-numbers house first judge-numbers b k out n p bs e) }
+      record { least = λ n p e. ⊎-elim (λ h. h .0) (⊎-elim (λ h. let q = h .0 in omega arith) (λ h. omega arith)) (ledger.restore-numbers planeFrames versionOne judge-numbers b k out n p bs e) }

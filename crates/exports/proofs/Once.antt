@@ -10,8 +10,8 @@ use Rattle.format.specs.Questions.{shownAt, eventAt}
 use Rattle.follower.specs.Follow.{follow}
 use Rattle.ledger.specs.Formats.{Correction}
 use Rattle.ledger.specs.Calls.{recordAnswer, entryAnswer}
-use Rattle.ledger.specs.First.{first}
-use Rattle.ledger.specs.House.{house}
+use Rattle.ledger.specs.VersionOne.{versionOne}
+use Rattle.ledger.specs.PlaneFrames.{planeFrames}
 use Rattle.book.proofs.Unique.{equal-once}
 use Rattle.exports.specs.declared.answers.PlaneDone.{PlaneDone}
 use Rattle.exports.specs.declared.answers.PlaneFrame.{PlaneFrame}
@@ -52,10 +52,10 @@ pub follow-once : (x : PlaneFollower) (word : ℕ) (r q : PlaneFollowed) → Fol
 follow-once x word = equal-once (flatFollowed x (follow (followerOf x) word))
 
 pub record-once : (b : List ℕ) (r q : PlaneRecord) → RecordTold b r → RecordTold b q → r ≡ q
-record-once b = equal-once (flatRecord (recordAnswer house first b))
+record-once b = equal-once (flatRecord (recordAnswer planeFrames versionOne b))
 
 pub entry-once : (b : List ℕ) (n : ℕ) (r q : PlaneEntry) → EntryTold b n r → EntryTold b n q → r ≡ q
-entry-once b n = equal-once (flatEntry (entryAnswer house first b n))
+entry-once b n = equal-once (flatEntry (entryAnswer planeFrames versionOne b n))
 
 -- ---- an answer and all lent memory
 

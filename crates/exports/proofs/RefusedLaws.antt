@@ -19,7 +19,7 @@ use Rattle.exports.specs.declared.answers.PlaneFollowed.{PlaneFollowed}
 use Rattle.exports.specs.Flat.{flatFollowed}
 use Rattle.exports.specs.Given.{followerOf, begun, begunLeft}
 use Rattle.exports.specs.Promises.{Leaves}
-use Rattle.exports.specs.Told.{Tells}
+use Rattle.exports.specs.FlatTells.{Tells}
 use Rattle.exports.proofs.Unique.{refuses}
 
 -- of any call: what document 01's call leaves where it is refused, the export leaves

@@ -26,7 +26,7 @@ use Rattle.exports.specs.declared.answers.PlaneFollower.{PlaneFollower}
 use Rattle.exports.specs.declared.answers.PlaneCorrection.{PlaneCorrection}
 use Rattle.exports.specs.Flat.{kindNumber, flatDone, flatFrame, flatItem, flatFound, flatEvent, flatWritten, flatFollower, flatFollowed, flatRecord, flatEntry}
 use Rattle.exports.specs.Given.{asked, followerOf, kindOf, tokenOf}
-use Rattle.exports.specs.Told.{Numbered, Tells, FrameSeen, seenFrame, seenEntry}
+use Rattle.exports.specs.FlatTells.{Numbered, Tells, FrameSeen, seenFrame, seenEntry}
 
 -- ---- numbers of classes and kinds
 

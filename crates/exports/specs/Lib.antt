@@ -1,4 +1,4 @@
 pub mod Flat
 pub mod Given
 pub mod Promises
-pub mod Told
+pub mod FlatTells

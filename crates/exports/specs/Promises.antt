@@ -14,8 +14,8 @@ use Rattle.follower.specs.Follow.{follow}
 use Rattle.frame.specs.Parts.{textFrom}
 use Rattle.ledger.specs.Formats.{Correction}
 use Rattle.ledger.specs.Calls.{recordAnswer, entryAnswer, openAnswer, openExit, editAnswer, editExit, restoreAnswer, restoreExit}
-use Rattle.ledger.specs.First.{first}
-use Rattle.ledger.specs.House.{house}
+use Rattle.ledger.specs.VersionOne.{versionOne}
+use Rattle.ledger.specs.PlaneFrames.{planeFrames}
 use Rattle.exports.specs.declared.answers.PlaneDone.{PlaneDone}
 use Rattle.exports.specs.declared.answers.PlaneFrame.{PlaneFrame}
 use Rattle.exports.specs.declared.answers.PlaneFound.{PlaneFound}
@@ -54,10 +54,10 @@ abbrev pub FollowTold : PlaneFollower → ℕ → PlaneFollowed → Type 0
 FollowTold follower word r = r ≡ flatFollowed follower (follow (followerOf follower) word)
 
 abbrev pub RecordTold : List ℕ → PlaneRecord → Type 0
-RecordTold b r = r ≡ flatRecord (recordAnswer house first b)
+RecordTold b r = r ≡ flatRecord (recordAnswer planeFrames versionOne b)
 
 abbrev pub EntryTold : List ℕ → ℕ → PlaneEntry → Type 0
-EntryTold b n r = r ≡ flatEntry (entryAnswer house first b n)
+EntryTold b n r = r ≡ flatEntry (entryAnswer planeFrames versionOne b n)
 
 -- ---- an answer and the memory it leaves, whole
 
@@ -84,10 +84,10 @@ abbrev pub Closed : List ℕ → ℕ → PlaneWritten → List ℕ → Type 0
 Closed found n = Leaves (flatWritten (closeAnswer found n)) (closeLeft found n)
 
 abbrev pub Opened : List ℕ → List ℕ → PlaneDone → List ℕ → Type 0
-Opened f found = Leaves (flatDone (openAnswer house first f found)) (openExit house first f found)
+Opened f found = Leaves (flatDone (openAnswer planeFrames versionOne f found)) (openExit planeFrames versionOne f found)
 
 abbrev pub Edited : List ℕ → Correction → PlaneDone → List ℕ → Type 0
-Edited found c = Leaves (flatDone (editAnswer house first found c)) (editExit house first found c)
+Edited found c = Leaves (flatDone (editAnswer planeFrames versionOne found c)) (editExit planeFrames versionOne found c)
 
 abbrev pub Restored : List ℕ → ℕ → List ℕ → PlaneDone → List ℕ → Type 0
-Restored b k found = Leaves (flatDone (restoreAnswer house first b k found)) (restoreExit house first b k found)
+Restored b k found = Leaves (flatDone (restoreAnswer planeFrames versionOne b k found)) (restoreExit planeFrames versionOne b k found)

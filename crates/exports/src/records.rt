@@ -1,6 +1,6 @@
 // The calls on a record.
 ghost use mathlib.Core.Path.{_≡_};
-ghost use Rattle.plane.specs.Views.{viewRecord, viewEntry};
+ghost use Rattle.records.specs.Views.{viewRecord, viewEntry};
 ghost use Rattle.editor.specs.Views.{viewDone};
 ghost use Rattle.exports.specs.Flat.{flatDone, flatRecord, flatEntry};
 ghost use Rattle.exports.specs.Given.{asked};
@@ -14,10 +14,10 @@ use editor::editing::Correction;
 use editor::editing::edit;
 use editor::opening::open;
 use editor::restoring::restore;
-use plane::answers::EntryFound;
-use plane::answers::RecordFound;
-use plane::entry;
-use plane::record;
+use records::answers::EntryFound;
+use records::answers::RecordFound;
+use records::entry;
+use records::record;
 
 fn flat_record(found: RecordFound) -> PlaneRecord
     ensures { λ r. ⌜ r ≡ flatRecord (viewRecord found) ⌝ }
@@ -40,7 +40,7 @@ fn flat_record(found: RecordFound) -> PlaneRecord
     }
 }
 
-// Whether a buffer begins with a record, and of what lengths and entry count: `plane::record`.
+// Whether a buffer begins with a record, and of what lengths and entry count: `records::record`.
 #[no_mangle]
 pub extern "C" fn plane_record(buffer: &[u8]) -> PlaneRecord
     ensures { λ r. ⌜ RecordTold (now (buffer .entry)) r ⌝ }
@@ -75,7 +75,7 @@ fn flat_entry(found: EntryFound) -> PlaneEntry
     }
 }
 
-// Entry n of a record, 1 the oldest: `plane::entry`.
+// Entry n of a record, 1 the oldest: `records::entry`.
 #[no_mangle]
 pub extern "C" fn plane_entry(buffer: &[u8], n: usize) -> PlaneEntry
     ensures { λ r. ⌜ EntryTold (now (buffer .entry)) n r ⌝ }

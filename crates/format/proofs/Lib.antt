@@ -8,5 +8,3 @@ pub mod reader
 pub mod questions
 pub mod writer
 pub mod spots
-pub mod CursorLaws
-pub mod StoringLaws

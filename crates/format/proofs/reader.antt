@@ -2,6 +2,7 @@
 pub mod StateLaws
 pub mod StepLaws
 pub mod TurnLaws
+pub mod CursorLaws
 pub mod HeadTests
 pub mod JudgeLaws
 pub mod Placed

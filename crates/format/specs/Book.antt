@@ -33,12 +33,12 @@ book =
     ∷ []
 
 -- a word that no row matches is unassigned
-abbrev pub named : Option Class → Class
-named none = unassigned
-named (some c) = c
+abbrev pub orUnassigned : Option Class → Class
+orUnassigned none = unassigned
+orUnassigned (some c) = c
 
 unfoldable pub classOf : ℕ → Class
-classOf w = named (find book w)
+classOf w = orUnassigned (find book w)
 
 -- the number of a class's row in document 01's table, from 1 on; 0 for a word that has none
 abbrev pub rowOf : Class → ℕ
@@ -110,22 +110,22 @@ abbrev pub range : ℕ → ℕ → Range
 range a b = record { from = a; to = b }
 
 -- an unassigned word has no range
-abbrev pub printed : Class → Range
-printed channel = range 0xC000 0xFFFF
-printed histogram = range 0x8000 0xBFFF
-printed hitCount = range 0x4000 0x7FFF
-printed sample = range 0x3000 0x3FFF
-printed bin = range 0x2000 0x2FFF
-printed lastCell = range 0x1800 0x1FFF
-printed timeBin = range 0x0E00 0x0FFF
-printed dataFrame = range 0x0800 0x09FF
-printed monitorFrame = range 0x0600 0x07FF
-printed commandFrame = range 0x0400 0x05FF
-printed text = range 0x0100 0x01FF
-printed startEvent = range 0x00F0 0x00FF
-printed endEvent = range 0x00E0 0x00EF
-printed frameEnd = range 0x000F 0x000F
-printed unassigned = range 1 0
+abbrev pub pageRange : Class → Range
+pageRange channel = range 0xC000 0xFFFF
+pageRange histogram = range 0x8000 0xBFFF
+pageRange hitCount = range 0x4000 0x7FFF
+pageRange sample = range 0x3000 0x3FFF
+pageRange bin = range 0x2000 0x2FFF
+pageRange lastCell = range 0x1800 0x1FFF
+pageRange timeBin = range 0x0E00 0x0FFF
+pageRange dataFrame = range 0x0800 0x09FF
+pageRange monitorFrame = range 0x0600 0x07FF
+pageRange commandFrame = range 0x0400 0x05FF
+pageRange text = range 0x0100 0x01FF
+pageRange startEvent = range 0x00F0 0x00FF
+pageRange endEvent = range 0x00E0 0x00EF
+pageRange frameEnd = range 0x000F 0x000F
+pageRange unassigned = range 1 0
 
 -- the word lies in the range
 abbrev pub Within : ℕ → Range → Type 0

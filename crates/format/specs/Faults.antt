@@ -11,7 +11,7 @@ use Rattle.format.specs.Answers.{accepted, refused}
 use Rattle.format.specs.Book.{Class, unassigned, classOf, after}
 use Rattle.format.specs.Items.{Item, classFor, wordsOf}
 use Rattle.format.specs.Rules.{Kind, place, value, order, mayEnd}
-use Rattle.format.specs.Frames.{Frame, behind, Sound, allWords, encode, Legal, isStart, lastOf, kindIn, cardIn, front, verdict}
+use Rattle.format.specs.Frames.{Frame, earlierThen, Sound, allWords, encode, Legal, isStart, lastOf, kindIn, cardIn, front, verdict}
 
 -- ---- rules 1 to 5: what breaks each
 pub data HeadBroken (s : List ℕ) : ℕ → Type 0 where
@@ -64,7 +64,7 @@ pub record FirstFaulty (s : List ℕ) (end n p : ℕ) : Type 0 where
   pub stand : take (length (allWords items)) (drop 3 (words s)) ≡ allWords items
   pub begins : p ≡ 3 + length (allWords items)
   pub inside : p < end
-  pub first : First (ItemBroken s end (behind [] items) p) n
+  pub first : First (ItemBroken s end (earlierThen [] items) p) n
 
 -- ---- rules 8 to 10, of a new item x that is handed to the writer after the items q
 pub data NewBroken (kind : Kind) (card : ℕ) (q : List Item) (x : Item) : ℕ → Type 0 where
@@ -88,7 +88,7 @@ pub data Refused (s : List ℕ) : ℕ → ℕ → Type 0 where
   ofItem : (n p : ℕ) → ((m : ℕ) → HeadBroken s m → ⊥) → FirstFaulty s (lastOf s) n p → Refused s n p
   -- "then 11", at "that of the last word": all items are faultless, and an event is open
   ofEnd : (xs : List Item) → ((m : ℕ) → HeadBroken s m → ⊥) → Sound (kindIn s) (cardIn s) [] xs
-      → drop 3 (front s) ≡ allWords xs → mayEnd (behind [] xs) ≡ false → Refused s 11 (lastOf s)
+      → drop 3 (front s) ≡ allWords xs → mayEnd (earlierThen [] xs) ≡ false → Refused s 11 (lastOf s)
 
 -- ---- its number, 1 to 11, and its place: "the word index of the item for 6 to 10, that of the last word for 11, .. else 0"
 pub record Placed (s : List ℕ) (n p : ℕ) : Type 0 where

@@ -21,9 +21,9 @@ pub record Frame : Type 0 where
 -- ---- legal frames, and what they are written as
 
 -- the items xs after those of p, the latest first
-unfoldable pub behind : List Item → List Item → List Item
-behind p [] = p
-behind p (x ∷ xs) = behind (x ∷ p) xs
+unfoldable pub earlierThen : List Item → List Item → List Item
+earlierThen p [] = p
+earlierThen p (x ∷ xs) = earlierThen (x ∷ p) xs
 
 -- the rules hold of an item after those of p
 pub record Allowed (kind : Kind) (card : ℕ) (p : List Item) (x : Item) : Type 0 where
@@ -58,7 +58,7 @@ pub record Legal (f : Frame) : Type 0 where
   pub card : f .card ≤ 31
   pub sequence : f .sequence ≤ 0x0100
   pub sound : Sound (f .kind) (f .card) [] (f .items)
-  pub ended : mayEnd (behind [] (f .items)) ≡ true
+  pub ended : mayEnd (earlierThen [] (f .items)) ≡ true
   pub short : length (encode f) ≤ 8192
 
 -- ---- the verdict
@@ -123,7 +123,7 @@ walk kind card p at (t ∷ ts) = elim (check kind card p t) [ good q ↦ walk ki
 -- a frame whose items are p, latest first, and end at the word `last`
 abbrev pub ending : List ℕ → List Item → Outcome Frame
 ending s p =
-    pick (mayEnd p) (accepted (record { kind = kindIn s; card = cardIn s; sequence = wordAt s 2; items = behind [] p })) (refused 11 (lastOf s))
+    pick (mayEnd p) (accepted (record { kind = kindIn s; card = cardIn s; sequence = wordAt s 2; items = earlierThen [] p })) (refused 11 (lastOf s))
 
 -- some bytes of which the first five rules hold
 unfoldable pub judged : List ℕ → Outcome Frame

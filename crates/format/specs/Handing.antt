@@ -7,14 +7,14 @@ use mathlib.Core.List.{List, [], _∷_, _++_, map}
 use lib.ListN.{length, take}
 use Rattle.format.specs.Words.{pick, words, longWords, timeWords}
 use Rattle.format.specs.Answers.{accepted}
-use Rattle.format.specs.Book.{text, printed}
+use Rattle.format.specs.Book.{text, pageRange}
 use Rattle.format.specs.Items.{ItemOf, Item, Channel, Histogram, HitCount, Sample, Bin, LastCell, TimeBin, Text, StartEvent, EndEvent, classFor, Token, whole}
 use Rattle.format.specs.Rules.{Kind, same}
 use Rattle.format.specs.Frames.{Frame, startWord, encode, Legal}
 use Rattle.format.specs.Questions.{Shown, shown, shownAt, textIn, textAt}
 use Rattle.format.specs.Steps.{Overview, overview, readOf}
 use Rattle.format.specs.Writing.{given}
-use Rattle.format.specs.Runs.{Ran, writeAll}
+use Rattle.format.specs.WriterCalls.{CallsDone, writeAll}
 use Rattle.format.specs.WriterCases.{Holds}
 
 -- ---- what a caller is told
@@ -27,18 +27,18 @@ pub record StandsFor (s : List ℕ) (o : Overview) : Type 0 where
   pub told : o ≡ overview frame
 
 -- of an item: what `item` answers, and the bytes that `text` answers
-pub record Told : Type 0 where
+pub record ItemAnswer : Type 0 where
   pub answer : Shown
   pub text : List ℕ
 
 -- what is told of the item x that ends before word `next`
-abbrev pub toldOf : Item → ℕ → Told
-toldOf x next = record { answer = record { item = shown x; next = next }; text = textIn x }
+abbrev pub itemAnswerOf : Item → ℕ → ItemAnswer
+itemAnswerOf x next = record { answer = record { item = shown x; next = next }; text = textIn x }
 
 -- the answers as they come, from ordinal n on: the one question asked and then the other, as often as the caller likes
-pub data Answers (s : List ℕ) : ℕ → List Told → Type 0 where
+pub data Answers (s : List ℕ) : ℕ → List ItemAnswer → Type 0 where
   no-more : {n : ℕ} → Answers s n []
-  then : {n : ℕ} {x : Told} {xs : List Told} → shownAt s n ≡ accepted (x .answer) → textAt s n ≡ x .text → Answers s (suc n) xs → Answers s n (x ∷ xs)
+  then : {n : ℕ} {x : ItemAnswer} {xs : List ItemAnswer} → shownAt s n ≡ accepted (x .answer) → textAt s n ≡ x .text → Answers s (suc n) xs → Answers s n (x ∷ xs)
 
 -- document 01's column "Content, high bits first", of an item as it is answered: each field at the bit where it begins. A text's is its n, an
 -- End event's low four bits are zero
@@ -69,16 +69,16 @@ wordsAfter (StartEvent type stamp number) s = timeWords stamp ++ longWords numbe
 wordsAfter (EndEvent size) s = longWords size
 
 -- the words that an item has by what is told of it: the first of its class's words with the content, and those after it
-abbrev pub toldWords : Told → List ℕ
-toldWords x = (printed (classFor (x .answer .item)) .from + contentOf (x .answer .item)) ∷ wordsAfter (x .answer .item) (x .text)
+abbrev pub answerWords : ItemAnswer → List ℕ
+answerWords x = (pageRange (classFor (x .answer .item)) .from + contentOf (x .answer .item)) ∷ wordsAfter (x .answer .item) (x .text)
 
-unfoldable pub allTold : List Told → List ℕ
-allTold [] = []
-allTold (x ∷ xs) = toldWords x ++ allTold xs
+unfoldable pub allAnswerWords : List ItemAnswer → List ℕ
+allAnswerWords [] = []
+allAnswerWords (x ∷ xs) = answerWords x ++ allAnswerWords xs
 
 -- a frame's words by what `read`, `item` and `text` tell of it
-abbrev pub frameTold : ℕ → Overview → List Told → List ℕ
-frameTold size o xs = startWord (o .kind) (o .card) ∷ size ∷ o .sequence ∷ (allTold xs ++ (0x000F ∷ []))
+abbrev pub frameTold : ℕ → Overview → List ItemAnswer → List ℕ
+frameTold size o xs = startWord (o .kind) (o .card) ∷ size ∷ o .sequence ∷ (allAnswerWords xs ++ (0x000F ∷ []))
 
 -- ---- what a caller hands over
 
@@ -95,7 +95,7 @@ tokenOfCall (byText s) = whole (Text s)
 abbrev pub callFor : ItemOf ℕ → List ℕ → Call
 callFor x s = pick (same text (classFor x)) (byText s) (byAdd x)
 
-abbrev pub callOf : Told → Call
+abbrev pub callOf : ItemAnswer → Call
 callOf x = callFor (x .answer .item) (x .text)
 
 -- an item as a caller who has it would hand it over
@@ -103,7 +103,7 @@ abbrev pub handOver : Item → Call
 handOver x = callFor (shown x) (textIn x)
 
 -- begin, these calls, close
-abbrev pub writeCalls : List ℕ → Kind → ℕ → ℕ → List Call → Ran
+abbrev pub writeCalls : List ℕ → Kind → ℕ → ℕ → List Call → CallsDone
 writeCalls buf kind card sequence cs = writeAll buf kind card sequence (map tokenOfCall cs)
 
 -- an accepted run of calls: what it wrote is a legal frame of the items handed over, and the questions answer of it what was handed over, in that
@@ -113,7 +113,7 @@ pub record CallsWrote (buf : List ℕ) (kind : Kind) (card sequence : ℕ) (cs :
   pub handed : cs ≡ map handOver items
   pub holds : Holds buf left (record { kind = kind; card = card; sequence = sequence; items = items }) m
   pub read : readOf (take m left) ≡ accepted (overview (record { kind = kind; card = card; sequence = sequence; items = items }))
-  pub answers : List Told
+  pub answers : List ItemAnswer
   pub answered : Answers (take m left) 0 answers
   pub counted : length answers ≡ length cs
   pub same : map callOf answers ≡ cs

@@ -46,14 +46,14 @@ classFor (StartEvent a b c) = startEvent
 classFor (EndEvent n) = endEvent
 
 -- the low 14 bits of a Channel, Histogram or Hit count word: card 5, chip 2, and 7 more
-abbrev pub three : ℕ → ℕ → ℕ → ℕ
-three a b c = a * 512 + b * 128 + c
+abbrev pub headerBits : ℕ → ℕ → ℕ → ℕ
+headerBits a b c = a * 512 + b * 128 + c
 
 -- the words of an item
 unfoldable pub wordsOf : Item → List ℕ
-wordsOf (Channel a b c) = (0xC000 + three a b c) ∷ []
-wordsOf (Histogram a b c) = (0x8000 + three a b c) ∷ []
-wordsOf (HitCount a b c) = (0x4000 + three a b c) ∷ []
+wordsOf (Channel a b c) = (0xC000 + headerBits a b c) ∷ []
+wordsOf (Histogram a b c) = (0x8000 + headerBits a b c) ∷ []
+wordsOf (HitCount a b c) = (0x4000 + headerBits a b c) ∷ []
 wordsOf (Sample v) = (0x3000 + v) ∷ []
 wordsOf (Bin b n) = (0x2000 + b) ∷ longWords n
 wordsOf (LastCell a b) = (0x1800 + (a * 512 + b)) ∷ []

@@ -14,7 +14,7 @@ pub mod Table
 pub mod Stands
 pub mod Faults
 pub mod Tree
-pub mod Runs
+pub mod WriterCalls
 pub mod WriterCases
 pub mod Handing
 pub mod Spots

@@ -11,7 +11,7 @@ use Rattle.format.specs.Words.{pick}
 use Rattle.format.specs.Answers.{Outcome, accepted, refused, andThen, Done}
 use Rattle.format.specs.Book.{Class, endEvent}
 use Rattle.format.specs.Items.{ItemOf, Item, Channel, Histogram, HitCount, Sample, Bin, LastCell, TimeBin, Text, StartEvent, EndEvent, classFor, wordsOf}
-use Rattle.format.specs.Rules.{same, gather, first}
+use Rattle.format.specs.Rules.{same, gather, headOrZero}
 use Rattle.format.specs.Frames.{Frame, verdict}
 
 -- ---- the item at an ordinal
@@ -114,7 +114,7 @@ opens at (LastCell a b) xs = []
 opens at (TimeBin t) xs = []
 opens at (Text s) xs = []
 opens at (StartEvent t ts n) xs =
-    record { event = record { kind = t; timestamp = ts; number = n; size = first (gather endSize xs); index = at }; items = xs } ∷ []
+    record { event = record { kind = t; timestamp = ts; number = n; size = headOrZero (gather endSize xs); index = at }; items = xs } ∷ []
 opens at (EndEvent n) xs = []
 
 -- the events of some items, the first of which stands at word `at`

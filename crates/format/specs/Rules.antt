@@ -116,9 +116,9 @@ startTime (Text s) = []
 startTime (StartEvent t ts n) = []
 startTime (EndEvent n) = []
 
-abbrev pub first : List ℕ → ℕ
-first [] = 0
-first (n ∷ ns) = n
+abbrev pub headOrZero : List ℕ → ℕ
+headOrZero [] = 0
+headOrZero (n ∷ ns) = n
 
 -- the number is above every one of these
 unfoldable pub above : ℕ → List ℕ → Bool
@@ -131,7 +131,7 @@ inEvent p = has startEvent (since endEvent p)
 
 -- "A Time bin's first sample is at that time, each further sample one later": the time that a sample after p has
 abbrev pub time : List Item → ℕ
-time p = first (gather startTime p) + count sample (since timeBin p)
+time p = headOrZero (gather startTime p) + count sample (since timeBin p)
 
 -- "the last sample's time": the one that the latest Sample has, after the items before it
 abbrev pub lastTime : List Item → ℕ
@@ -140,34 +140,34 @@ lastTime p = time (before sample p)
 -- ---- place
 
 -- where the next item would stand
-pub data Where : Type 0 where
-  outside inside afterChannel afterTime afterSample unheaded headed commands : Where
+pub data ReaderMode : Type 0 where
+  outside inside afterChannel afterTime afterSample unheaded headed commands : ReaderMode
 
-abbrev pub within : Class → Where
-within channel = afterChannel
-within histogram = inside
-within hitCount = inside
-within sample = afterSample
-within bin = inside
-within lastCell = inside
-within timeBin = afterTime
-within dataFrame = inside
-within monitorFrame = inside
-within commandFrame = inside
-within text = inside
-within startEvent = inside
-within endEvent = inside
-within frameEnd = inside
-within unassigned = inside
+abbrev pub insideAfter : Class → ReaderMode
+insideAfter channel = afterChannel
+insideAfter histogram = inside
+insideAfter hitCount = inside
+insideAfter sample = afterSample
+insideAfter bin = inside
+insideAfter lastCell = inside
+insideAfter timeBin = afterTime
+insideAfter dataFrame = inside
+insideAfter monitorFrame = inside
+insideAfter commandFrame = inside
+insideAfter text = inside
+insideAfter startEvent = inside
+insideAfter endEvent = inside
+insideAfter frameEnd = inside
+insideAfter unassigned = inside
 
-abbrev pub whereAfter : Kind → List Item → Where
-whereAfter dataKind p = pick (inEvent p) (within (latest p)) outside
-whereAfter monitorKind p = pick (same histogram (latest p) || same bin (latest p)) headed unheaded
-whereAfter commandKind p = commands
+abbrev pub modeAfter : Kind → List Item → ReaderMode
+modeAfter dataKind p = pick (inEvent p) (insideAfter (latest p)) outside
+modeAfter monitorKind p = pick (same histogram (latest p) || same bin (latest p)) headed unheaded
+modeAfter commandKind p = commands
 
 -- "outside an event only Start event. Inside: Hit count, Last cell, Channel, End event; after Channel only Time bin; after Time bin only Sample;
 -- after Sample also Sample and Time bin"; "Histogram anywhere; Bin after Histogram or Bin"; "Text only"
-abbrev pub allowed : Where → List Class
+abbrev pub allowed : ReaderMode → List Class
 allowed outside = startEvent ∷ []
 allowed inside = hitCount ∷ lastCell ∷ channel ∷ endEvent ∷ []
 allowed afterChannel = timeBin ∷ []
@@ -182,7 +182,7 @@ among c [] = false
 among c (d ∷ ds) = same c d || among c ds
 
 abbrev pub place : Kind → List Item → Class → Bool
-place kind p c = among c (allowed (whereAfter kind p))
+place kind p c = among c (allowed (modeAfter kind p))
 
 -- the items may end here: no event is open
 abbrev pub mayEnd : List Item → Bool

@@ -9,14 +9,14 @@ use Rattle.format.specs.Words.{pick, words, wordAt}
 use Rattle.format.specs.Answers.{Outcome, accepted, andThen}
 use Rattle.format.specs.Book.{Class, histogram, startEvent, classOf, after}
 use Rattle.format.specs.Items.{Item, Channel, Histogram, HitCount, Sample, Bin, LastCell, TimeBin, Text, StartEvent, EndEvent, classFor, inRange, key, Token, whole, broken, flawed, tokenOf, tokens}
-use Rattle.format.specs.Rules.{Kind, dataKind, monitorKind, commandKind, since, total, gather, channelKey, histogramKey, binNumber, time, Where, outside, inside, afterChannel, afterTime, afterSample, unheaded, headed, commands, whereAfter, allowed, among, Checked, good, bad}
-use Rattle.format.specs.Frames.{Frame, behind, walk, verdict}
+use Rattle.format.specs.Rules.{Kind, dataKind, monitorKind, commandKind, since, total, gather, channelKey, histogramKey, binNumber, time, ReaderMode, outside, inside, afterChannel, afterTime, afterSample, unheaded, headed, commands, modeAfter, allowed, among, Checked, good, bad}
+use Rattle.format.specs.Frames.{Frame, earlierThen, walk, verdict}
 
 -- ---- the state
 
-pub record St : Type 0 where
+pub record ReaderState : Type 0 where
   -- where the next item would stand
-  pub mode : Where
+  pub mode : ReaderMode
   -- a header's key is at least this
   pub key : ℕ
   -- the time that a sample would have, or the least number that a bin may have
@@ -43,24 +43,24 @@ nextAfter commandKind p = 0
 abbrev pub openerAfter : List Item → ℕ
 openerAfter p = (3 + total p) - total (since startEvent p)
 
-unfoldable pub stateOf : Kind → List Item → St
-stateOf kind p = record { mode = whereAfter kind p; key = keyAfter kind p; next = nextAfter kind p; opener = openerAfter p }
+unfoldable pub stateOf : Kind → List Item → ReaderState
+stateOf kind p = record { mode = modeAfter kind p; key = keyAfter kind p; next = nextAfter kind p; opener = openerAfter p }
 
 -- the state before any item
-abbrev pub firstMode : Kind → Where
+abbrev pub firstMode : Kind → ReaderMode
 firstMode dataKind = outside
 firstMode monitorKind = unheaded
 firstMode commandKind = commands
 
-abbrev pub start : Kind → St
+abbrev pub start : Kind → ReaderState
 start kind = record { mode = firstMode kind; key = 0; next = 0; opener = 3 }
 
 -- ---- the rules by the state alone, of an item at word `at`
 
-abbrev pub placeBy : St → Class → Bool
+abbrev pub placeBy : ReaderState → Class → Bool
 placeBy st c = among c (allowed (st .mode))
 
-abbrev pub sizedBy : ℕ → St → Item → Bool
+abbrev pub sizedBy : ℕ → ReaderState → Item → Bool
 sizedBy at st (Channel a b c) = true
 sizedBy at st (Histogram a b c) = true
 sizedBy at st (HitCount a b c) = true
@@ -72,11 +72,11 @@ sizedBy at st (Text s) = true
 sizedBy at st (StartEvent t ts n) = true
 sizedBy at st (EndEvent n) = eqb n (2 * (at - st .opener) + 6)
 
-abbrev pub valueBy : ℕ → ℕ → St → Item → Bool
+abbrev pub valueBy : ℕ → ℕ → ReaderState → Item → Bool
 valueBy card at st x = inRange card x && sizedBy at st x
 
 -- a Time bin right after a Sample leaves a pause
-abbrev pub paused : Where → ℕ → ℕ → Bool
+abbrev pub paused : ReaderMode → ℕ → ℕ → Bool
 paused outside next t = true
 paused inside next t = true
 paused afterChannel next t = true
@@ -86,7 +86,7 @@ paused unheaded next t = true
 paused headed next t = true
 paused commands next t = true
 
-abbrev pub orderBy : St → Item → Bool
+abbrev pub orderBy : ReaderState → Item → Bool
 orderBy st (Channel a b c) = leb (st .key) (key a b c)
 orderBy st (Histogram a b c) = leb (st .key) (key a b c)
 orderBy st (HitCount a b c) = true
@@ -99,7 +99,7 @@ orderBy st (StartEvent t ts n) = true
 orderBy st (EndEvent n) = true
 
 -- the state after an item at word `at`
-abbrev pub stateAfter : ℕ → St → Item → St
+abbrev pub stateAfter : ℕ → ReaderState → Item → ReaderState
 stateAfter at st (Channel a b c) = record { mode = afterChannel; key = key a b c + 1; next = st .next; opener = st .opener }
 stateAfter at st (Histogram a b c) = record { mode = headed; key = key a b c + 1; next = 0; opener = st .opener }
 stateAfter at st (HitCount a b c) = record { mode = inside; key = st .key; next = st .next; opener = st .opener }
@@ -111,14 +111,14 @@ stateAfter at st (Text s) = record { mode = commands; key = 0; next = 0; opener 
 stateAfter at st (StartEvent t ts n) = record { mode = inside; key = 0; next = st .next; opener = at }
 stateAfter at st (EndEvent n) = record { mode = outside; key = st .key; next = st .next; opener = st .opener }
 
-unfoldable pub checkBy : ℕ → ℕ → St → Token → Checked St
+unfoldable pub checkBy : ℕ → ℕ → ReaderState → Token → Checked ReaderState
 checkBy card at st (flawed n) = bad n
 checkBy card at st (broken c) = pick (placeBy st c) (bad 9) (bad 8)
 checkBy card at st (whole x) =
     pick (placeBy st (classFor x)) (pick (valueBy card at st x) (pick (orderBy st x) (good (stateAfter at st x)) (bad 10)) (bad 9)) (bad 8)
 
 -- the items may end here: no event is open
-abbrev pub endedBy : Where → Bool
+abbrev pub endedBy : ReaderMode → Bool
 endedBy outside = true
 endedBy inside = false
 endedBy afterChannel = false
@@ -144,15 +144,15 @@ rest s last at = tokens 0 (drop at (take last (words s)))
 
 pub data Stepped : Type 0 where
   -- the state after the item, and the index of the next
-  moved : St → ℕ → Stepped
+  moved : ReaderState → ℕ → Stepped
   -- the number of the refusal
   stopped : ℕ → Stepped
 
-abbrev pub marked : ℕ → Checked St → Stepped
+abbrev pub marked : ℕ → Checked ReaderState → Stepped
 marked next (good st) = moved st next
 marked next (bad n) = stopped n
 
-unfoldable pub stepOf : ℕ → List ℕ → ℕ → ℕ → St → Stepped
+unfoldable pub stepOf : ℕ → List ℕ → ℕ → ℕ → ReaderState → Stepped
 stepOf card s last at st = marked (nextAt s at) (checkBy card at st (tokenAt s last at))
 
 -- ---- what a walk to the end tells of the items p, latest first
@@ -166,7 +166,7 @@ indexIn n (x ∷ p) = pick (eqb (length p) n) (3 + total p) (indexIn n p)
 pub record Summary : Type 0 where
   pub count : ℕ
   pub index : ℕ
-  pub state : St
+  pub state : ReaderState
 
 abbrev pub summary : Kind → ℕ → List Item → Summary
 summary kind n p = record { count = length p; index = indexIn n p; state = stateOf kind p }
@@ -181,10 +181,10 @@ pub record Overview : Type 0 where
   pub card : ℕ
   pub sequence : ℕ
   pub items : ℕ
-  pub state : St
+  pub state : ReaderState
 
 abbrev pub overview : Frame → Overview
-overview f = record { kind = f .kind; card = f .card; sequence = f .sequence; items = length (f .items); state = stateOf (f .kind) (behind [] (f .items)) }
+overview f = record { kind = f .kind; card = f .card; sequence = f .sequence; items = length (f .items); state = stateOf (f .kind) (earlierThen [] (f .items)) }
 
 -- "A frame is tested 1 to 5 in order, then item by item from the left"
 unfoldable pub readOf : List ℕ → Outcome Overview
@@ -196,4 +196,4 @@ pub record Indexed : Type 0 where
   pub index : ℕ
 
 unfoldable pub indexOf : List ℕ → ℕ → Outcome Indexed
-indexOf s n = andThen (verdict s) (λ f. accepted (record { frame = overview f; index = indexIn n (behind [] (f .items)) }))
+indexOf s n = andThen (verdict s) (λ f. accepted (record { frame = overview f; index = indexIn n (earlierThen [] (f .items)) }))

@@ -5,15 +5,15 @@ use Prim.Native.Nat.{ℕ, suc, _+_, _*_, _^_, _<_, _≤_}
 use mathlib.Core.Path.{_≡_}
 use mathlib.Core.List.{List, [], _∷_}
 use lib.ListN.{length}
-use Rattle.format.specs.Items.{Item, Channel, Histogram, HitCount, Sample, Bin, LastCell, TimeBin, Text, StartEvent, EndEvent, three}
+use Rattle.format.specs.Items.{Item, Channel, Histogram, HitCount, Sample, Bin, LastCell, TimeBin, Text, StartEvent, EndEvent, headerBits}
 use Rattle.format.specs.Rules.{Kind, dataKind, monitorKind, commandKind}
 use Rattle.format.specs.Frames.{allWords}
 
 -- ---- trees
 
 -- a Time bin with its samples: the time, the first sample, the further ones
-pub data Run : Type 0 where
-  run : ℕ → ℕ → List ℕ → Run
+pub data Stretch : Type 0 where
+  stretch : ℕ → ℕ → List ℕ → Stretch
 
 -- what stands in an event, in any order
 pub data Part : Type 0 where
@@ -22,7 +22,7 @@ pub data Part : Type 0 where
   -- a Last cell: chip, cell
   cell : ℕ → ℕ → Part
   -- a Channel (card, chip, channel) with its first run and the further ones
-  pulse : ℕ → ℕ → ℕ → Run → List Run → Part
+  pulse : ℕ → ℕ → ℕ → Stretch → List Stretch → Part
 
 -- a Start event (type, timestamp, number), the parts, and the size that the End event gives
 pub data Event : Type 0 where
@@ -47,15 +47,15 @@ unfoldable pub ofSamples : List ℕ → List Item → List Item
 ofSamples [] xs = xs
 ofSamples (v ∷ vs) xs = Sample v ∷ ofSamples vs xs
 
-unfoldable pub ofRuns : List Run → List Item → List Item
-ofRuns [] xs = xs
-ofRuns (run t v vs ∷ rs) xs = TimeBin t ∷ Sample v ∷ ofSamples vs (ofRuns rs xs)
+unfoldable pub ofStretches : List Stretch → List Item → List Item
+ofStretches [] xs = xs
+ofStretches (stretch t v vs ∷ rs) xs = TimeBin t ∷ Sample v ∷ ofSamples vs (ofStretches rs xs)
 
 unfoldable pub ofParts : List Part → List Item → List Item
 ofParts [] xs = xs
 ofParts (hits a b c ∷ ps) xs = HitCount a b c ∷ ofParts ps xs
 ofParts (cell a b ∷ ps) xs = LastCell a b ∷ ofParts ps xs
-ofParts (pulse a b c r rs ∷ ps) xs = Channel a b c ∷ ofRuns (r ∷ rs) (ofParts ps xs)
+ofParts (pulse a b c r rs ∷ ps) xs = Channel a b c ∷ ofStretches (r ∷ rs) (ofParts ps xs)
 
 unfoldable pub ofEvents : List Event → List Item
 ofEvents [] = []
@@ -86,9 +86,9 @@ Rising m [] = Unit {0}
 Rising m (k ∷ ks) = (m ≤ k) × Rising (suc k) ks
 
 -- a channel's runs, the first at time m or later: "none after 511", and a later one "at least 2 above the last sample's time"
-unfoldable pub Spaced : ℕ → List Run → Type 0
+unfoldable pub Spaced : ℕ → List Stretch → Type 0
 Spaced m [] = Unit {0}
-Spaced m (run t v vs ∷ rs) = (m ≤ t) × (t + length vs ≤ 511) × Spaced (t + length vs + 2) rs
+Spaced m (stretch t v vs ∷ rs) = (m ≤ t) × (t + length vs ≤ 511) × Spaced (t + length vs + 2) rs
 
 unfoldable pub AllSpaced : List Part → Type 0
 AllSpaced [] = Unit {0}
@@ -101,7 +101,7 @@ unfoldable pub channels : List Part → List ℕ
 channels [] = []
 channels (hits a b c ∷ ps) = channels ps
 channels (cell a b ∷ ps) = channels ps
-channels (pulse a b c r rs ∷ ps) = three a b c ∷ channels ps
+channels (pulse a b c r rs ∷ ps) = headerBits a b c ∷ channels ps
 
 -- the bytes of an event, "from its Start event word to the end of its End event item"
 abbrev pub eventBytes : Event → ℕ
@@ -118,7 +118,7 @@ binNumbers (bar b n ∷ bs) = b ∷ binNumbers bs
 -- the 14-bit contents of the Histogram headers
 unfoldable pub histograms : List Pedestal → List ℕ
 histograms [] = []
-histograms (pedestal a b c bs ∷ hs) = three a b c ∷ histograms hs
+histograms (pedestal a b c bs ∷ hs) = headerBits a b c ∷ histograms hs
 
 unfoldable pub AllBars : List Pedestal → Type 0
 AllBars [] = Unit {0}

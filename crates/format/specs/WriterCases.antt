@@ -12,7 +12,7 @@ use Rattle.format.specs.Answers.{Outcome, accepted, refused}
 use Rattle.format.specs.Book.{Class}
 use Rattle.format.specs.Items.{Item, wordsOf, Token, whole, broken, flawed}
 use Rattle.format.specs.Rules.{Kind, mayEnd}
-use Rattle.format.specs.Frames.{Frame, behind, Allowed, Sound, encode, Legal, startFits, verdict}
+use Rattle.format.specs.Frames.{Frame, earlierThen, Allowed, Sound, encode, Legal, startFits, verdict}
 use Rattle.format.specs.Faults.{First, FirstFaulty, NewBroken, EmptyBroken}
 use Rattle.format.specs.Writing.{Partial, partialWords, partialVerdict}
 
@@ -23,7 +23,7 @@ pub record Begun (buf : List ℕ) (n : ℕ) (f : Partial) (xs : List Item) : Typ
   pub card : f .card ≤ 31
   pub sequence : f .sequence ≤ 0x0100
   pub sound : Sound (f .kind) (f .card) [] xs
-  pub earlier : f .earlier ≡ behind [] xs
+  pub earlier : f .earlier ≡ earlierThen [] xs
   pub most : n ≤ 8190
   pub inside : n ≤ length buf
   pub written : take n buf ≡ bytes (partialWords (f .kind) (f .card) (f .sequence) xs)
@@ -50,7 +50,7 @@ pub data PartialAnswer (buf : List ℕ) (n : ℕ) : Outcome Partial → Type 0 w
 
 -- the content of a partial frame with the items xs, and a content with one item more
 abbrev pub content : Kind → ℕ → ℕ → List Item → Partial
-content kind card sequence xs = record { kind = kind; card = card; sequence = sequence; earlier = behind [] xs }
+content kind card sequence xs = record { kind = kind; card = card; sequence = sequence; earlier = earlierThen [] xs }
 
 abbrev pub withItem : Partial → Item → Partial
 withItem f x = record { kind = f .kind; card = f .card; sequence = f .sequence; earlier = x ∷ f .earlier }
@@ -63,7 +63,7 @@ framed f xs = record { kind = f .kind; card = f .card; sequence = f .sequence; i
 pub record Ends (kind : Kind) (card : ℕ) (xs : List Item) : Type 0 where
   pub more : List Item
   pub sound : Sound kind card [] (xs ++ more)
-  pub ended : mayEnd (behind [] (xs ++ more)) ≡ true
+  pub ended : mayEnd (earlierThen [] (xs ++ more)) ≡ true
 
 -- ---- numbers
 
@@ -142,7 +142,7 @@ pub record Holds (buf left : List ℕ) (f : Frame) (m : ℕ) : Type 0 where
   pub written : left ≡ encode f ++ drop m buf
 
 -- an accepted run of begin, adds of the tokens ts, and close
-pub record RunWrote (buf : List ℕ) (kind : Kind) (card sequence : ℕ) (ts : List Token) (m : ℕ) (left : List ℕ) : Type 0 where
+pub record WritingDone (buf : List ℕ) (kind : Kind) (card sequence : ℕ) (ts : List Token) (m : ℕ) (left : List ℕ) : Type 0 where
   pub items : List Item
   pub added : ts ≡ map whole items
   pub holds : Holds buf left (record { kind = kind; card = card; sequence = sequence; items = items }) m

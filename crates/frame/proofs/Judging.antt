@@ -11,7 +11,7 @@ use Rattle.format.specs.Answers.{Outcome, accepted, refused}
 use Rattle.format.specs.Rules.{Kind}
 use Rattle.format.specs.Frames.{lastOf, headFault, kindIn, cardIn}
 use Rattle.format.specs.Steps.{endedBy, Summary, summed, readOf, Indexed, indexOf}
-use Rattle.format.proofs.reader.JudgeLaws.{walk-refused, Told, told, still-open, all-read, read-index}
+use Rattle.format.proofs.reader.JudgeLaws.{walk-refused, WalkedThrough, walked-through, still-open, all-read, read-index}
 use Rattle.frame.specs.Views.{endingOf}
 
 module _ (s : List ℕ) (n : ℕ) (e : 0 ≡ headFault s) (kind : Kind) (card last : ℕ) (k : kind ≡ kindIn s) (c : card ≡ cardIn s) (l : last ≡ lastOf s)
@@ -26,8 +26,8 @@ module _ (s : List ℕ) (n : ℕ) (e : 0 ≡ headFault s) (kind : Kind) (card la
   unfolding endingOf
   ended x g = rw (k, c, l) (go (endedBy (x .state .mode)) refl)
     where
-      t : Told s n e x
-      t = told s n e x (sym g ∙ here)
+      t : WalkedThrough s n e x
+      t = walked-through s n e x (sym g ∙ here)
 
       go : (b : Bool) → endedBy (x .state .mode) ≡ b
           → pick (endedBy (x .state .mode)) (accepted (record { frame = record { kind = kindIn s; card = cardIn s; sequence = wordAt s 2; items = x .count; state = x .state }; index = x .index })) (refused 11 (lastOf s)) ≡ indexOf s n

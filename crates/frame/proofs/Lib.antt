@@ -1,7 +1,7 @@
 pub mod Turns
 pub mod Steps
 pub mod TextLoops
-pub mod Running
+pub mod Repeating
 pub mod Loop
 pub mod Judging
 pub mod Shows

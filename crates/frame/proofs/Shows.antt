@@ -17,7 +17,7 @@ use Rattle.format.specs.Cursor.{standingBy, standingAt, shownBy}
 use Rattle.format.proofs.reader.TurnLaws.{Stands, alone, not-there, no-class, bin-there, start-there, end-there, end-broken, text-there, text-broken}
 use Rattle.format.proofs.reader.TextPlaced.{texted}
 use Rattle.format.proofs.items.PartLaws.{payload-bytes}
-use Rattle.format.proofs.CursorLaws.{within-bytes, standing-in, standing-flawed}
+use Rattle.format.proofs.reader.CursorLaws.{within-bytes, standing-in, standing-flawed}
 use Rattle.book.specs.Fields.{channelOf, histogramOf, hitsOf, cellOf, channelItem, histogramItem, hitsItem, cellItem}
 use Rattle.book.specs.declared.items.Channel as ch
 use Rattle.book.specs.declared.items.Histogram as hi

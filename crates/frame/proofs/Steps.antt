@@ -15,8 +15,8 @@ use Rattle.format.proofs.items.PartLaws.{payload-bytes}
 use Rattle.format.specs.Words.{Bytes, words, bytes, wordAt, longAt, timeAt, nonZero, allZero}
 use Rattle.format.specs.Book.{Class, channel, histogram, hitCount, sample, bin, lastCell, timeBin, dataFrame, monitorFrame, commandFrame, text, startEvent, endEvent, frameEnd, unassigned, classOf, after, assigned, textWords}
 use Rattle.format.specs.Items.{Item, Channel, Histogram, HitCount, Sample, Bin, LastCell, TimeBin, Text, StartEvent, EndEvent, inRange, closed, decode, Token, whole, broken, flawed, tokenFor}
-use Rattle.format.specs.Rules.{Where, outside, inside, afterChannel, afterTime, afterSample, unheaded, headed, commands, allowed, among, bad}
-use Rattle.format.specs.Steps.{St, placeBy, checkBy, Stepped, stopped, marked, stepOf}
+use Rattle.format.specs.Rules.{ReaderMode, outside, inside, afterChannel, afterTime, afterSample, unheaded, headed, commands, allowed, among, bad}
+use Rattle.format.specs.Steps.{ReaderState, placeBy, checkBy, Stepped, stopped, marked, stepOf}
 use Rattle.format.proofs.reader.TurnLaws.{Stands, step-at, stop-at, alone, no-class, not-there, bin-there, start-there, end-there, end-broken, text-there, text-broken}
 use Rattle.frame.specs.Views.{tested, endTested, textTested}
 use Rattle.book.specs.Fields.{channelOf, histogramOf, hitsOf, cellOf, channelItem, histogramItem, hitsItem, sampleItem, cellItem, timeItem}
@@ -25,7 +25,7 @@ use Rattle.book.specs.declared.items.Histogram as hi
 use Rattle.book.specs.declared.items.HitCount as hc
 use Rattle.book.specs.declared.items.LastCell as lc
 
-module _ (card : ℕ) (s : List ℕ) (last at w : ℕ) (st : St) (e : w ≡ wordAt s at) where
+module _ (card : ℕ) (s : List ℕ) (last at w : ℕ) (st : ReaderState) (e : w ≡ wordAt s at) where
   -- ---- a class with no words after it
   one : (c : Class) (r : Stepped) (x : Item) → c ≡ classOf w → assigned c ≡ true → after c (wordAt s at) ≡ 0
       → tokenFor c (decode c w []) ≡ whole x → r ≡ marked (at + 1) (checkBy card at st (whole x)) → r ≡ stepOf card s last at st
@@ -65,7 +65,7 @@ module _ (card : ℕ) (s : List ℕ) (last at w : ℕ) (st : St) (e : w ≡ word
 
   -- ---- a class that is no item's: it may stand nowhere
   nowhere : (c : Class) → c ≡ classOf w → assigned c ≡ true → after c (wordAt s at) ≡ 0 → tokenFor c (decode c w []) ≡ broken c
-      → ((m : Where) → among c (allowed m) ≡ false) → stopped 8 ≡ stepOf card s last at st
+      → ((m : ReaderMode) → among c (allowed m) ≡ false) → stopped 8 ≡ stepOf card s last at st
   unfolding checkBy
   nowhere c k a z d n =
       stop-at card s last at st (broken c) 8
@@ -75,7 +75,7 @@ module _ (card : ℕ) (s : List ℕ) (last at w : ℕ) (st : St) (e : w ≡ word
   unfolding decode
   data-step k = nowhere dataFrame k refl refl refl no
     where
-      no : (m : Where) → among dataFrame (allowed m) ≡ false
+      no : (m : ReaderMode) → among dataFrame (allowed m) ≡ false
       no outside = refl
       no inside = refl
       no afterChannel = refl
@@ -89,7 +89,7 @@ module _ (card : ℕ) (s : List ℕ) (last at w : ℕ) (st : St) (e : w ≡ word
   unfolding decode
   monitor-step k = nowhere monitorFrame k refl refl refl no
     where
-      no : (m : Where) → among monitorFrame (allowed m) ≡ false
+      no : (m : ReaderMode) → among monitorFrame (allowed m) ≡ false
       no outside = refl
       no inside = refl
       no afterChannel = refl
@@ -103,7 +103,7 @@ module _ (card : ℕ) (s : List ℕ) (last at w : ℕ) (st : St) (e : w ≡ word
   unfolding decode
   command-step k = nowhere commandFrame k refl refl refl no
     where
-      no : (m : Where) → among commandFrame (allowed m) ≡ false
+      no : (m : ReaderMode) → among commandFrame (allowed m) ≡ false
       no outside = refl
       no inside = refl
       no afterChannel = refl
@@ -117,7 +117,7 @@ module _ (card : ℕ) (s : List ℕ) (last at w : ℕ) (st : St) (e : w ≡ word
   unfolding decode
   end-step k = nowhere frameEnd k refl refl refl no
     where
-      no : (m : Where) → among frameEnd (allowed m) ≡ false
+      no : (m : ReaderMode) → among frameEnd (allowed m) ≡ false
       no outside = refl
       no inside = refl
       no afterChannel = refl

@@ -10,12 +10,12 @@ use borrow.Author.Tests.{leb-true, eqb-true, eqb-false, eq-eqb, ne-eqb}
 use Rattle.format.specs.Words.{pick}
 use Rattle.format.specs.Book.{Class, channel, histogram, hitCount, sample, bin, lastCell, timeBin, dataFrame, monitorFrame, commandFrame, text, startEvent, endEvent, frameEnd}
 use Rattle.format.specs.Items.{Item, Channel, Histogram, HitCount, Sample, Bin, LastCell, TimeBin, StartEvent, classFor, inRange, key, whole}
-use Rattle.format.specs.Rules.{Where, outside, inside, afterChannel, afterTime, afterSample, unheaded, headed, commands, allowed, among, Checked, good, bad}
-use Rattle.format.specs.Steps.{St, placeBy, sizedBy, paused, orderBy, stateAfter, checkBy, Stepped, marked}
+use Rattle.format.specs.Rules.{ReaderMode, outside, inside, afterChannel, afterTime, afterSample, unheaded, headed, commands, allowed, among, Checked, good, bad}
+use Rattle.format.specs.Steps.{ReaderState, placeBy, sizedBy, paused, orderBy, stateAfter, checkBy, Stepped, marked}
 use Rattle.frame.specs.Views.{tested, endTested, textTested}
 
 -- equal tests give equal answers; the state counts only where the order rule holds
-same-tested : (next : ℕ) {p p′ v v′ o o′ : Bool} {s s′ : St} → p ≡ p′ → v ≡ v′ → o ≡ o′ → (o′ ≡ true → s ≡ s′)
+same-tested : (next : ℕ) {p p′ v v′ o o′ : Bool} {s s′ : ReaderState} → p ≡ p′ → v ≡ v′ → o ≡ o′ → (o′ ≡ true → s ≡ s′)
     → marked next (tested p v o s) ≡ marked next (tested p′ v′ o′ s′)
 same-tested next {p} {p′} {v} {v′} {o} {o′} {s} {s′} a b c d = rw (a, b, c) (go p′ v′ o′ d)
   where
@@ -25,18 +25,18 @@ same-tested next {p} {p′} {v} {v′} {o} {o′} {s} {s′} a b c d = rw (a, b,
     go true true false e = refl
     go true true true e = rw (e refl)
 
-same-front : (next : ℕ) (o : Bool) (s : St) {p p′ v v′ : Bool} → p ≡ p′ → v ≡ v′ → marked next (tested p v o s) ≡ marked next (tested p′ v′ o s)
+same-front : (next : ℕ) (o : Bool) (s : ReaderState) {p p′ v v′ : Bool} → p ≡ p′ → v ≡ v′ → marked next (tested p v o s) ≡ marked next (tested p′ v′ o s)
 same-front next o s a b = rw (a, b)
 
 -- the answer to an item that is whole, from the answers to its tests
-pub whole-turn : (card at next : ℕ) (st : St) (x : Item) (r : Stepped) {p v o : Bool} {s : St} → r ≡ marked next (tested p v o s)
+pub whole-turn : (card at next : ℕ) (st : ReaderState) (x : Item) (r : Stepped) {p v o : Bool} {s : ReaderState} → r ≡ marked next (tested p v o s)
     → p ≡ placeBy st (classFor x) → v ≡ inRange card x && sizedBy at st x → o ≡ orderBy st x → (orderBy st x ≡ true → s ≡ stateAfter at st x)
     → r ≡ marked next (checkBy card at st (whole x))
 unfolding checkBy
 whole-turn card at next st x r e p v o s = e ∙ same-tested next p v o s
 
 -- Hit count, Last cell and End event stand where a Channel may
-pub hit-inside : (m : Where) → among channel (allowed m) ≡ among hitCount (allowed m)
+pub hit-inside : (m : ReaderMode) → among channel (allowed m) ≡ among hitCount (allowed m)
 hit-inside outside = refl
 hit-inside inside = refl
 hit-inside afterChannel = refl
@@ -46,7 +46,7 @@ hit-inside unheaded = refl
 hit-inside headed = refl
 hit-inside commands = refl
 
-pub cell-inside : (m : Where) → among channel (allowed m) ≡ among lastCell (allowed m)
+pub cell-inside : (m : ReaderMode) → among channel (allowed m) ≡ among lastCell (allowed m)
 cell-inside outside = refl
 cell-inside inside = refl
 cell-inside afterChannel = refl
@@ -56,7 +56,7 @@ cell-inside unheaded = refl
 cell-inside headed = refl
 cell-inside commands = refl
 
-pub end-inside : (m : Where) → among channel (allowed m) ≡ among endEvent (allowed m)
+pub end-inside : (m : ReaderMode) → among channel (allowed m) ≡ among endEvent (allowed m)
 end-inside outside = refl
 end-inside inside = refl
 end-inside afterChannel = refl
@@ -67,7 +67,7 @@ end-inside headed = refl
 end-inside commands = refl
 
 -- the ten items, each from the answers to its tests
-module _ (next : ℕ) (st : St) (r : Stepped) where
+module _ (next : ℕ) (st : ReaderState) (r : Stepped) where
   pub channel-turn : (card a b c k : ℕ) {p v : Bool} → k ≡ key a b c
       → r ≡ marked next (tested p v (leb (st .key) k) (record { mode = afterChannel; key = k + 1; next = st .next; opener = st .opener }))
       → p ≡ placeBy st channel → v ≡ inRange card (Channel a b c) → r ≡ marked next (checkBy card 0 st (whole (Channel a b c)))

@@ -7,7 +7,7 @@ use native.Mathlib.Omega.{arith}
 use Rattle.format.specs.Answers.{accepted, refused}
 use Rattle.format.specs.Rules as rules
 use Rattle.format.specs.Steps as steps
-use Rattle.format.specs.Steps.{St, Stepped, moved, stopped, Summary, Overview}
+use Rattle.format.specs.Steps.{ReaderState, Stepped, moved, stopped, Summary, Overview}
 use Rattle.format.specs.Questions.{Shown}
 use Rattle.book.proofs.Unique.{undone, same-item, same-refusal}
 use Rattle.frame.specs.declared.state.Kind.{Kind}
@@ -45,7 +45,7 @@ kind-back kind.Command = refl
 pub same-kind : (r q : Kind) → viewKind r ≡ viewKind q → r ≡ q
 same-kind = undone viewKind kindBack kind-back
 
-abbrev modeBack : rules.Where → Mode
+abbrev modeBack : rules.ReaderMode → Mode
 modeBack rules.outside = mode.Outside
 modeBack rules.inside = mode.Inside
 modeBack rules.afterChannel = mode.AfterChannel
@@ -68,7 +68,7 @@ mode-back mode.Commands = refl
 pub same-mode : (r q : Mode) → viewMode r ≡ viewMode q → r ≡ q
 same-mode = undone viewMode modeBack mode-back
 
-abbrev stateBack : St → State
+abbrev stateBack : ReaderState → State
 stateBack st = record { mode = modeBack (st .mode); key = st .key; next = st .next; opener = st .opener }
 
 state-back : (r : State) → stateBack (viewState r) ≡ r

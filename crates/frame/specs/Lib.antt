@@ -1,5 +1,5 @@
 pub mod Views
 pub mod Parts
 pub mod PartialViews
-pub mod Runs
+pub mod Repeats
 pub mod Promises

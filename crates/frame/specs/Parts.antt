@@ -42,5 +42,5 @@ unfoldable pub textFrom : List ℕ → ℕ → ℕ
 textFrom s n = fromFound (itemAt s n)
 
 -- the place so many bytes into a slice, where a place is a block of memory and an offset in it
-abbrev pub within : ℕ × ℕ → ℕ → ℕ × ℕ
-within p n = (p .0, n + p .1)
+abbrev pub partFrom : ℕ × ℕ → ℕ → ℕ × ℕ
+partFrom p n = (p .0, n + p .1)

@@ -34,7 +34,7 @@ use Rattle.frame.specs.declared.cursor.Standing.{Standing}
 use Rattle.frame.specs.declared.begun.Partial.{Partial}
 use Rattle.frame.specs.Views.{viewKind, viewMode, viewState, viewStep, endTested, textTested, viewReading, viewFound, viewStanding}
 use Rattle.frame.specs.PartialViews.{viewPartial}
-use Rattle.frame.specs.Parts.{textFrom, within}
+use Rattle.frame.specs.Parts.{textFrom, partFrom}
 
 -- ---- the questions
 
@@ -52,7 +52,7 @@ StandingAnswered s at r = viewStanding r ≡ shownBy (standingAt s at)
 
 -- the bytes of the text that is item n, and where they lie: in the frame itself
 abbrev pub TextAnswered : RefT (List ℕ) → ℕ → RefT (List ℕ) → Type 0
-TextAnswered s n r = (now r ≡ textAt (now s) n) × (ptr r ≡ within (ptr s) (textFrom (now s) n))
+TextAnswered s n r = (now r ≡ textAt (now s) n) × (ptr r ≡ partFrom (ptr s) (textFrom (now s) n))
 
 -- whether the first n bytes are a partial frame
 abbrev pub PartialRead : List ℕ → ℕ → Partial → Type 0

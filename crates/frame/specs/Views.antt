@@ -12,7 +12,7 @@ use Rattle.format.specs.Book.{endEvent, text}
 use Rattle.format.specs.Answers.{Outcome, accepted, refused}
 use Rattle.format.specs.Words.{wordAt}
 use Rattle.format.specs.Steps as steps
-use Rattle.format.specs.Steps.{St, Stepped, moved, stopped, placeBy, endedBy, Summary, Overview}
+use Rattle.format.specs.Steps.{ReaderState, Stepped, moved, stopped, placeBy, endedBy, Summary, Overview}
 use Rattle.format.specs.Questions.{Shown}
 use Rattle.book.specs.Views.{viewItem, refusal}
 use Rattle.frame.specs.declared.state.Kind.{Kind}
@@ -41,7 +41,7 @@ viewKind kind.Data = rules.dataKind
 viewKind kind.Monitor = rules.monitorKind
 viewKind kind.Command = rules.commandKind
 
-abbrev pub viewMode : Mode → rules.Where
+abbrev pub viewMode : Mode → rules.ReaderMode
 viewMode mode.Outside = rules.outside
 viewMode mode.Inside = rules.inside
 viewMode mode.AfterChannel = rules.afterChannel
@@ -51,7 +51,7 @@ viewMode mode.Unheaded = rules.unheaded
 viewMode mode.Headed = rules.headed
 viewMode mode.Commands = rules.commands
 
-abbrev pub viewState : State → St
+abbrev pub viewState : State → ReaderState
 viewState st = record { mode = viewMode (st .mode); key = st .key; next = st .next; opener = st .opener }
 
 abbrev pub viewStep : Step → Stepped
@@ -95,15 +95,15 @@ endingOf s last k card x =
     (refused 11 last)
 
 -- place before value before order
-abbrev pub tested : Bool → Bool → Bool → St → Checked St
+abbrev pub tested : Bool → Bool → Bool → ReaderState → Checked ReaderState
 tested place value order st = pick place (pick value (pick order (good st) (bad 10)) (bad 9)) (bad 8)
 
 -- the words of an End event, whose first one has these low bits
-unfoldable pub endTested : ℕ → St → ℕ → ℕ → Checked St
+unfoldable pub endTested : ℕ → ReaderState → ℕ → ℕ → Checked ReaderState
 endTested at st size low =
     tested (placeBy st endEvent) (eqb low 0 && eqb size (2 * (at - st .opener) + 6)) true
     (record { mode = rules.outside; key = st .key; next = st .next; opener = st .opener })
 
 -- the words of a text, whose bytes passed their test or did not
-unfoldable pub textTested : St → Bool → Checked St
+unfoldable pub textTested : ReaderState → Bool → Checked ReaderState
 textTested st closed = tested (placeBy st text) closed true (record { mode = rules.commands; key = 0; next = 0; opener = st .opener })

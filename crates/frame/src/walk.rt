@@ -10,6 +10,8 @@ ghost use Rattle.frame.specs.Views.{viewKind, viewState, viewStep, viewW
 use crate::inside::long;
 use crate::inside::time;
 use crate::inside::word;
+use crate::repeats::ahead;
+use crate::repeats::repeats_at;
 use crate::rules::Step;
 use crate::rules::bin;
 use crate::rules::channel;
@@ -21,8 +23,6 @@ use crate::rules::sample;
 use crate::rules::start_event;
 use crate::rules::text;
 use crate::rules::time_bin;
-use crate::runs::ahead;
-use crate::runs::run_at;
 use crate::state::Kind;
 use crate::state::State;
 use crate::texts::is_closed;
@@ -168,7 +168,7 @@ pub(crate) fn walk(s: &[u8], last: usize, kind: Kind, card: u16, n: usize) -> Wa
         match turn {
             Step::Moved(after, next) => {
                 count += 1;
-                let run = run_at(s, last, card, next, after, ahead(count, n));
+                let run = repeats_at(s, last, card, next, after, ahead(count, n));
                 let mode = after.mode;
                 st = State {
                     mode,

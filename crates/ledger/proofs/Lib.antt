@@ -3,4 +3,4 @@ pub mod answers
 pub mod records
 pub mod histories
 pub mod calls
-pub mod house
+pub mod plane

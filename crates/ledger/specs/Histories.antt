@@ -63,17 +63,17 @@ module _ (B : FrameBook) where
 
 module _ (B : FrameBook) (F : Format) where
   -- the buffer after some edit calls, in order, each of them accepted or refused
-  unfoldable pub run : List ℕ → List Correction → List ℕ
-  run b [] = b
-  run b (c ∷ cs) = run (editExit B F b c) cs
+  unfoldable pub editAll : List ℕ → List Correction → List ℕ
+  editAll b [] = b
+  editAll b (c ∷ cs) = editAll (editExit B F b c) cs
 
-  pub run-none : (b : List ℕ) → run b [] ≡ b
-  unfolding run
-  run-none b = refl
+  pub edit-all-none : (b : List ℕ) → editAll b [] ≡ b
+  unfolding editAll
+  edit-all-none b = refl
 
-  pub run-more : (b : List ℕ) (c : Correction) (cs : List Correction) → run b (c ∷ cs) ≡ run (editExit B F b c) cs
-  unfolding run
-  run-more b c cs = refl
+  pub edit-all-more : (b : List ℕ) (c : Correction) (cs : List Correction) → editAll b (c ∷ cs) ≡ editAll (editExit B F b c) cs
+  unfolding editAll
+  edit-all-more b c cs = refl
 
   -- the calls among them that are accepted
   unfoldable pub made : List ℕ → List Correction → List Correction
@@ -94,7 +94,7 @@ module _ (B : FrameBook) (F : Format) where
 
   -- a frame put into a record in a buffer, and then some calls: the buffer after them, and the edits that were accepted, in order
   abbrev pub recordAfter : List ℕ → List ℕ → List Correction → List ℕ
-  recordAfter f buf cs = run (openExit B F f buf) cs
+  recordAfter f buf cs = editAll (openExit B F f buf) cs
 
   abbrev pub acceptedEdits : List ℕ → List ℕ → List Correction → List Correction
   acceptedEdits f buf cs = made (openExit B F f buf) cs

@@ -5,9 +5,9 @@ pub mod Records
 pub mod Calls
 pub mod Chains
 pub mod Histories
-pub mod First
-pub mod House
+pub mod VersionOne
+pub mod PlaneFrames
 pub mod Judged
 pub mod Layout
 pub mod Reasons
-pub mod HouseTable
+pub mod PlaneTable

@@ -1,6 +1,6 @@
 // Reads a record buffer from standard input and prints its listing (document 01, "Figures to agree with"). What is printed are the bytes that
-// `lines::listing` leaves, written out once.
-use lines::answers::Listing;
+// `listing::listing` leaves, written out once.
+use listing::answers::Listing;
 
 // Says that the listing could not be written. A program of this language has no exit status of its own: bin/list makes one of these words.
 fn failed() {
@@ -21,7 +21,7 @@ fn print(out: &[u8], n: usize) {
 
 // Lists a buffer by way of lent memory that holds any listing, so that it is never refused (lines/proofs/Room.antt, `always-listed`).
 fn list(buf: &[u8], out: &mut [u8]) {
-    let answer = lines::listing(buf, out);
+    let answer = listing::listing(buf, out);
     match answer {
         Listing::Length(n) => print(out, n),
         Listing::Refused(_r) => failed(),

@@ -12,13 +12,13 @@ use Rattle.format.specs.Words.{wordAt}
 use Rattle.format.specs.Book.{channel, endEvent}
 use Rattle.format.specs.Items.{ItemOf, Item, Channel, Histogram, HitCount, Sample, Bin, LastCell, TimeBin, Text, StartEvent, EndEvent, classFor}
 use Rattle.format.specs.Rules.{dataKind, same}
-use Rattle.format.specs.Frames.{behind, lastOf}
+use Rattle.format.specs.Frames.{earlierThen, lastOf}
 use Rattle.format.specs.Cursor.{standingAt, shownBy, unshown, itemsFrom, On}
 use Rattle.format.specs.Questions.{shown, until, past, isChannel}
 use Rattle.format.proofs.book.PrefixLaws.{and-left, and-right}
 use Rattle.format.proofs.items.WordLaws.{word-below}
 use Rattle.format.proofs.book.BookLaws.{ranged, in-range}
-use Rattle.format.proofs.CursorLaws.{Turn, channel-turn, answered, run-out}
+use Rattle.format.proofs.reader.CursorLaws.{Turn, channel-turn, answered, run-out}
 use Rattle.book.specs.Fields.{channelOf}
 use Rattle.book.specs.declared.items.Channel as ch
 use Rattle.questions.specs.Sought.{Amid, endsEvent, ChannelAt}
@@ -102,8 +102,8 @@ module _ (s : List ℕ) (from chip c at : ℕ) (k : Seeking s from chip c at) wh
           card = h .card;
           chip = h .chip-is;
           channel = h .channel-is;
-          before = behind [] (g .before);
-          header = t .latest ∙ ap (λ (y : Item). y ∷ behind [] (g .before)) (h .is);
+          before = earlierThen [] (g .before);
+          header = t .latest ∙ ap (λ (y : Item). y ∷ earlierThen [] (g .before)) (h .is);
         };
       }
 

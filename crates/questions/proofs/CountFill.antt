@@ -13,7 +13,7 @@ use Rattle.format.specs.Frames.{lastOf}
 use Rattle.format.specs.Cursor.{itemsFrom, On}
 use Rattle.format.specs.Questions.{fillCounts}
 use Rattle.format.proofs.book.BookLaws.{ranged, in-range}
-use Rattle.format.proofs.CursorLaws.{Turn, turn, bin-turn, run-out}
+use Rattle.format.proofs.reader.CursorLaws.{Turn, turn, bin-turn, run-out}
 
 pub record Counting (s : List ℕ) (from : ℕ) (l₀ : List ℕ) (at : ℕ) (l : List ℕ) : Type 0 where
   pub on : On s at

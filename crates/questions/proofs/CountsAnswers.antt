@@ -10,11 +10,11 @@ use Rattle.format.specs.Words.{Bytes}
 use Rattle.format.specs.Answers.{Outcome, accepted, refused, Done}
 use Rattle.format.specs.Items.{Item}
 use Rattle.format.specs.Rules.{Kind, dataKind, monitorKind, commandKind}
-use Rattle.format.specs.Frames.{behind, verdict}
+use Rattle.format.specs.Frames.{earlierThen, verdict}
 use Rattle.format.specs.Questions.{present, past, isHistogram, done, cleared, fillCounts, countsAt, countsLeft, Counted}
 use Rattle.format.proofs.questions.FillQuestions.{counts-of, counts-room, counts-refused}
 use Rattle.format.specs.Cursor.{itemsFrom}
-use Rattle.format.proofs.CursorLaws.{on-sound}
+use Rattle.format.proofs.reader.CursorLaws.{on-sound}
 use Rattle.questions.specs.Sought.{Amid, HistogramAt, Filling}
 use Rattle.questions.proofs.Reading.{Accepted, items-first}
 use Rattle.questions.proofs.PastLaws.{none-past, no-histogram}
@@ -32,7 +32,7 @@ module _ (s : List ℕ) (kind : Kind) (chip c : ℕ) (a : Amid s kind 3) where
   of-other d =
       let g = a .on in
       none-past (isHistogram chip c) (g .frame .kind) (g .frame .card) (no-histogram (g .frame .kind) (λ k. d (sym (a .kind-is) ∙ k)) (g .frame .card) chip c)
-      (behind [] (g .before)) (itemsFrom s 3) (on-sound s 3 g)
+      (earlierThen [] (g .before)) (itemsFrom s 3) (on-sound s 3 g)
 
   pub in-data : kind ≡ dataKind → past (isHistogram chip c) (itemsFrom s 3) ≡ none
   in-data e = of-other (data-other kind e)

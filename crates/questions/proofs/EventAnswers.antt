@@ -8,18 +8,18 @@ use native.Mathlib.Omega.{arith}
 use Rattle.format.specs.Words.{Bytes, wordAt, longAt, timeAt}
 use Rattle.format.specs.Answers.{Outcome, accepted, refused, andThen}
 use Rattle.format.specs.Items.{Item}
-use Rattle.format.specs.Rules.{Kind, dataKind, monitorKind, commandKind, first, gather}
-use Rattle.format.specs.Frames.{behind, verdict}
+use Rattle.format.specs.Rules.{Kind, dataKind, monitorKind, commandKind, headOrZero, gather}
+use Rattle.format.specs.Frames.{earlierThen, verdict}
 use Rattle.format.specs.Cursor.{itemsFrom}
 use Rattle.format.specs.Questions.{Event, Opened, endSize, events, pickNth, present, eventAt}
 use Rattle.format.proofs.rules.SoundLaws.{no-starts}
 use Rattle.format.proofs.questions.EventQuestions.{event-absent, event-of, event-refused}
-use Rattle.format.proofs.CursorLaws.{on-sound}
+use Rattle.format.proofs.reader.CursorLaws.{on-sound}
 use Rattle.questions.specs.Sought.{Amid, openedAt, EventAt, eventIn}
 use Rattle.questions.proofs.Reading.{Accepted, items-first}
 
 -- what was read at a Start event is the event
-pub event-read : (s : List ℕ) (at k w ts n z : ℕ) → w ≡ wordAt s at → k ≡ w % 16 → ts ≡ timeAt s (at + 1) → n ≡ longAt s (at + 4) → z ≡ first (gather endSize (itemsFrom s (at + 6)))
+pub event-read : (s : List ℕ) (at k w ts n z : ℕ) → w ≡ wordAt s at → k ≡ w % 16 → ts ≡ timeAt s (at + 1) → n ≡ longAt s (at + 4) → z ≡ headOrZero (gather endSize (itemsFrom s (at + 6)))
     → record { kind = k; timestamp = ts; number = n; size = z; index = at } ≡ openedAt s at .event
 event-read s at k w ts n z a b c d e =
     let f : k ≡ wordAt s at % 16 = b ∙ ap (λ (w : ℕ). w % 16) a in
@@ -35,7 +35,7 @@ command-other k e f = let z : _≡_ {A = ℕ} 0 1 = cc in omega arith
 pub no-events : (s : List ℕ) (kind : Kind) (e : ℕ) → (kind ≡ dataKind → ⊥) → Amid s kind 3 → pickNth e (events 3 (itemsFrom s 3)) ≡ none
 no-events s kind e d a =
     let g = a .on in
-    let n = no-starts (g .frame .kind) (g .frame .card) (λ k. d (sym (a .kind-is) ∙ k)) (behind [] (g .before)) (itemsFrom s 3) (on-sound s 3 g) in
+    let n = no-starts (g .frame .kind) (g .frame .card) (λ k. d (sym (a .kind-is) ∙ k)) (earlierThen [] (g .before)) (itemsFrom s 3) (on-sound s 3 g) in
     go (pickNth e (events 3 (itemsFrom s 3))) (event-absent (itemsFrom s 3) e .1 (omega arith))
   where
     go : (o : Option Opened) → andThen (present o) (λ o. accepted (o .event)) ≡ refused 13 0 → o ≡ none

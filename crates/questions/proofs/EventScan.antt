@@ -10,13 +10,13 @@ use lib.ListN.{length}
 use Rattle.format.specs.Words.{wordAt, longAt, timeAt}
 use Rattle.format.specs.Book.{startEvent, endEvent, classOf}
 use Rattle.format.specs.Items.{ItemOf, Item, StartEvent, EndEvent, classFor, wordsOf}
-use Rattle.format.specs.Rules.{dataKind, same, first, gather}
+use Rattle.format.specs.Rules.{dataKind, same, headOrZero, gather}
 use Rattle.format.specs.Frames.{lastOf}
 use Rattle.format.specs.Cursor.{standingAt, shownBy, itemsFrom, On}
 use Rattle.format.specs.Questions.{Opened, opens, endSize, events, pickNth}
 use Rattle.format.proofs.tree.ClassLaws.{same-class}
 use Rattle.format.proofs.rules.SoundLaws.{Seen, starts, ends, other, seen}
-use Rattle.format.proofs.CursorLaws.{Turn, start-turn, end-turn, answered, run-out}
+use Rattle.format.proofs.reader.CursorLaws.{Turn, start-turn, end-turn, answered, run-out}
 use Rattle.questions.specs.Sought.{Amid, startsEvent, endsEvent, openedAt, EventAt}
 use Rattle.questions.proofs.Turns.{starts-shown, ends-shown, amid-next, one-turn}
 
@@ -106,16 +106,16 @@ module _ (s : List ℕ) (e left at : ℕ) (k : Seeking s e left at) where
 
 pub record Sizing (s : List ℕ) (from at : ℕ) : Type 0 where
   pub amid : Amid s dataKind at
-  pub still : first (gather endSize (itemsFrom s at)) ≡ first (gather endSize (itemsFrom s from))
+  pub still : headOrZero (gather endSize (itemsFrom s at)) ≡ headOrZero (gather endSize (itemsFrom s from))
 
 pub sizing-start : (s : List ℕ) (from : ℕ) → Amid s dataKind from → Sizing s from from
 sizing-start s from a = record { amid = a; still = refl }
 
-no-size : (x : Item) (xs : List Item) → endSize x ≡ [] → first (gather endSize (x ∷ xs)) ≡ first (gather endSize xs)
+no-size : (x : Item) (xs : List Item) → endSize x ≡ [] → headOrZero (gather endSize (x ∷ xs)) ≡ headOrZero (gather endSize xs)
 unfolding gather
-no-size x xs e = ap (λ (l : List ℕ). first (l ++ gather endSize xs)) e
+no-size x xs e = ap (λ (l : List ℕ). headOrZero (l ++ gather endSize xs)) e
 
-its-size : (n : ℕ) (xs : List Item) → first (gather endSize (EndEvent n ∷ xs)) ≡ n
+its-size : (n : ℕ) (xs : List Item) → headOrZero (gather endSize (EndEvent n ∷ xs)) ≡ n
 unfolding gather
 its-size n xs = refl
 
@@ -131,7 +131,7 @@ module _ (s : List ℕ) (from at : ℕ) (k : Sizing s from at) where
   past-size : (x : Item) (n : ℕ) → Turn s at (k .amid .on) x n → endSize x ≡ [] → Sizing s from n
   past-size x n t z = record {
     amid = amid-next s dataKind at (k .amid) x n t;
-    still = sym (ap (λ (xs : List Item). first (gather endSize xs)) (t .split) ∙ no-size x _ z) ∙ k .still;
+    still = sym (ap (λ (xs : List Item). headOrZero (gather endSize xs)) (t .split) ∙ no-size x _ z) ∙ k .still;
   }
 
   pub sizing-one : at < lastOf s → (w : ℕ) → w ≡ wordAt s at → 0x0100 ≤ w → Sizing s from (at + 1)
@@ -143,13 +143,13 @@ module _ (s : List ℕ) (from at : ℕ) (k : Sizing s from at) where
         let (x, i, t) = answered s at (k .amid .on) z n (sym r) in
         past-size x n t (no-end x (ends-shown x z i ∙ f))
 
-    pub sizing-found : endsEvent z ≡ true → (m : ℕ) → m ≡ longAt s (at + 1) → m ≡ first (gather endSize (itemsFrom s from))
+    pub sizing-found : endsEvent z ≡ true → (m : ℕ) → m ≡ longAt s (at + 1) → m ≡ headOrZero (gather endSize (itemsFrom s from))
     sizing-found f m e =
         let (x, i, t) = answered s at (k .amid .on) z n (sym r) in
         let c : endEvent ≡ classOf (wordAt s at) = same-class endEvent (classFor x) (ends-shown x z i ∙ f) ∙ t .class in
         let u = end-turn s at (k .amid .on) (let a = t .further in let b = t .within in omega arith) c in
-        e ∙ sym (ap (λ (xs : List Item). first (gather endSize xs)) (u .split) ∙ its-size _ _) ∙ k .still
+        e ∙ sym (ap (λ (xs : List Item). headOrZero (gather endSize xs)) (u .split) ∙ its-size _ _) ∙ k .still
 
-  pub sizing-none : lastOf s ≤ at → 0 ≡ first (gather endSize (itemsFrom s from))
+  pub sizing-none : lastOf s ≤ at → 0 ≡ headOrZero (gather endSize (itemsFrom s from))
   unfolding gather
-  sizing-none l = sym (ap (λ (xs : List Item). first (gather endSize xs)) (run-out s at (k .amid .on) l .0)) ∙ k .still
+  sizing-none l = sym (ap (λ (xs : List Item). headOrZero (gather endSize xs)) (run-out s at (k .amid .on) l .0)) ∙ k .still

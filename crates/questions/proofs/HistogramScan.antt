@@ -14,7 +14,7 @@ use Rattle.format.specs.Frames.{lastOf}
 use Rattle.format.specs.Cursor.{standingAt, shownBy, unshown, itemsFrom, On}
 use Rattle.format.specs.Questions.{shown, past, isHistogram}
 use Rattle.format.proofs.book.PrefixLaws.{and-right}
-use Rattle.format.proofs.CursorLaws.{Turn, histogram-turn, bin-turn, answered, run-out}
+use Rattle.format.proofs.reader.CursorLaws.{Turn, histogram-turn, bin-turn, answered, run-out}
 use Rattle.book.specs.Fields.{histogramOf}
 use Rattle.book.specs.declared.items.Histogram as hi
 use Rattle.questions.specs.Sought.{Amid, HistogramAt}

@@ -10,7 +10,7 @@ use Rattle.format.specs.Rules.{Kind}
 use Rattle.format.specs.Frames.{Frame, verdict}
 use Rattle.format.specs.Steps.{Overview, overview, readOf}
 use Rattle.format.specs.Cursor.{itemsFrom}
-use Rattle.format.proofs.CursorLaws.{from-first, on-start}
+use Rattle.format.proofs.reader.CursorLaws.{from-first, on-start}
 use Rattle.questions.specs.Sought.{Amid}
 
 -- an accepted frame of the kind

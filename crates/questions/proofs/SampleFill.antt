@@ -16,7 +16,7 @@ use Rattle.format.specs.Questions.{fillSamples}
 use Rattle.format.proofs.book.BookLaws.{ranged, in-range}
 use Rattle.format.proofs.questions.MarkLaws.{Rise}
 use Rattle.format.proofs.questions.FillLaws.{sampleMarks, samples-rise}
-use Rattle.format.proofs.CursorLaws.{Turn, turn, sample-turn, time-turn, run-out, on-sound}
+use Rattle.format.proofs.reader.CursorLaws.{Turn, turn, sample-turn, time-turn, run-out, on-sound}
 use Rattle.questions.specs.Sought.{Headed}
 
 pub record Sampling (s : List ℕ) (from : ℕ) (l₀ : List ℕ) (at t : ℕ) (l : List ℕ) : Type 0 where

@@ -11,15 +11,15 @@ use lib.ListN.{length}
 use Rattle.format.specs.Words.{pick, wordAt}
 use Rattle.format.specs.Book.{Class, channel, histogram, hitCount, sample, bin, lastCell, timeBin, dataFrame, monitorFrame, commandFrame, text, startEvent, endEvent, frameEnd, unassigned, classOf}
 use Rattle.format.specs.Items.{ItemOf, Item, Channel, Histogram, HitCount, Sample, Bin, LastCell, TimeBin, Text, StartEvent, EndEvent, classFor, wordsOf}
-use Rattle.format.specs.Rules.{Kind, dataKind, monitorKind, same, latest, inEvent, within, outside, inside, afterChannel, afterTime, afterSample, allowed, among, place}
-use Rattle.format.specs.Frames.{Frame, behind, lastOf}
+use Rattle.format.specs.Rules.{Kind, dataKind, monitorKind, same, latest, inEvent, insideAfter, outside, inside, afterChannel, afterTime, afterSample, allowed, among, place}
+use Rattle.format.specs.Frames.{Frame, earlierThen, lastOf}
 use Rattle.format.specs.Steps.{nextAt}
 use Rattle.format.specs.Cursor.{standingAt, shownBy, On}
 use Rattle.format.specs.Questions.{shown}
 use Rattle.format.proofs.book.BookLaws.{ranged}
 use Rattle.format.proofs.tree.ClassLaws.{same-class}
 use Rattle.format.proofs.rules.SoundLaws.{Plain, Seen, starts, ends, other, seen, monitor-place}
-use Rattle.format.proofs.CursorLaws.{Turn, turn, on-range, shown-class, answered, nothing-answered}
+use Rattle.format.proofs.reader.CursorLaws.{Turn, turn, on-range, shown-class, answered, nothing-answered}
 use Rattle.questions.specs.Sought.{Amid, startsEvent, endsEvent}
 
 -- ---- what an answer tells of events
@@ -59,7 +59,7 @@ ends-shown x z i = ap (same endEvent) (sym (shown-class x) ∙ ap (λ (y : ItemO
 
 module _ (d : Class) (i : among d (allowed inside) ≡ false) (c : among d (allowed afterChannel) ≡ false) (t : among d (allowed afterTime) ≡ false)
     (m : among d (allowed afterSample) ≡ false) where
-  never-within : (k : Class) → among d (allowed (within k)) ≡ false
+  never-within : (k : Class) → among d (allowed (insideAfter k)) ≡ false
   never-within channel = c
   never-within histogram = i
   never-within hitCount = i
@@ -79,7 +79,7 @@ module _ (d : Class) (i : among d (allowed inside) ≡ false) (c : among d (allo
   pub never-in-data : among d (allowed outside) ≡ false → (p : List Item) → place dataKind p d ≡ true → ⊥
   never-in-data o p e = go (inEvent p) e
     where
-      go : (b : Bool) → among d (allowed (pick b (within (latest p)) outside)) ≡ true → ⊥
+      go : (b : Bool) → among d (allowed (pick b (insideAfter (latest p)) outside)) ≡ true → ⊥
       go true f = true≢false (sym f ∙ never-within (latest p))
       go false f = true≢false (sym f ∙ o)
 
@@ -99,8 +99,8 @@ module _ (s : List ℕ) (kind : Kind) (at : ℕ) (a : Amid s kind at) where
   pub amid-next : (x : Item) (n : ℕ) → Turn s at (a .on) x n → Amid s kind n
   amid-next x n t = record { on = t .next; kind-is = ap (λ (f : Frame). f .kind) (t .same-frame) ∙ a .kind-is }
 
-  placed : (x : Item) (n : ℕ) → Turn s at (a .on) x n → place kind (behind [] (a .on .before)) (classFor x) ≡ true
-  placed x n t = ap (λ (k : Kind). place k (behind [] (a .on .before)) (classFor x)) (sym (a .kind-is)) ∙ t .allowed .placed
+  placed : (x : Item) (n : ℕ) → Turn s at (a .on) x n → place kind (earlierThen [] (a .on .before)) (classFor x) ≡ true
+  placed x n t = ap (λ (k : Kind). place k (earlierThen [] (a .on .before)) (classFor x)) (sym (a .kind-is)) ∙ t .allowed .placed
 
 -- ---- a word of a data frame
 
@@ -124,7 +124,7 @@ module _ (s : List ℕ) (at : ℕ) (a : Amid s dataKind at) (h : at < lastOf s) 
 
       no : (x : Item) (c : Class) → classFor x ≡ c → Turn s at (a .on) x (nextAt s at)
           → ((p : List Item) → place dataKind p c ≡ true → ⊥) → One s at (a .on)
-      no x c k t f = absurd (f (behind [] (a .on .before)) (ap (place dataKind (behind [] (a .on .before))) (sym k) ∙ placed s dataKind at a x (nextAt s at) t))
+      no x c k t f = absurd (f (earlierThen [] (a .on .before)) (ap (place dataKind (earlierThen [] (a .on .before))) (sym k) ∙ placed s dataKind at a x (nextAt s at) t))
 
       go : (x : Item) → Turn s at (a .on) x (nextAt s at) → One s at (a .on)
       go (Channel b c d) t = one (Channel b c d) refl refl refl t
@@ -155,7 +155,7 @@ module _ (s : List ℕ) (at : ℕ) (a : Amid s monitorKind at) (h : at < lastOf 
   kinds : Which (classOf (wordAt s at))
   kinds =
       let (x, t) = turn s at (a .on) h in
-      subst Which (t .class) (which (classFor x) (monitor-place (behind [] (a .on .before)) (classFor x) (placed s monitorKind at a x (nextAt s at) t)))
+      subst Which (t .class) (which (classFor x) (monitor-place (earlierThen [] (a .on .before)) (classFor x) (placed s monitorKind at a x (nextAt s at) t)))
 
   pub header-word : 0x8000 ≤ w → histogram ≡ classOf (wordAt s at)
   header-word l = go kinds

@@ -10,8 +10,8 @@ use Rattle.format.specs.Words.{wordAt, timeAt, longAt}
 use Rattle.format.specs.Answers.{Outcome, accepted, refused, andThen, Done}
 use Rattle.format.specs.Book.{endEvent}
 use Rattle.format.specs.Items.{ItemOf, Item, Channel, Histogram, HitCount, Sample, Bin, LastCell, TimeBin, Text, StartEvent, EndEvent}
-use Rattle.format.specs.Rules.{Kind, dataKind, gather, first}
-use Rattle.format.specs.Frames.{behind}
+use Rattle.format.specs.Rules.{Kind, dataKind, gather, headOrZero}
+use Rattle.format.specs.Frames.{earlierThen}
 use Rattle.format.specs.Cursor.{itemsFrom, On}
 use Rattle.format.specs.Questions.{Event, Opened, endSize, events, pickNth, present, done, until, past, isChannel, isHistogram, channelIn}
 use Rattle.questions.specs.declared.answers.Place.{Place}
@@ -54,7 +54,7 @@ openedAt s q = record {
     kind = wordAt s q % 16;
     timestamp = timeAt s (q + 1);
     number = longAt s (q + 4);
-    size = first (gather endSize (itemsFrom s (q + 6)));
+    size = headOrZero (gather endSize (itemsFrom s (q + 6)));
     index = q;
   };
   items = itemsFrom s (q + 6);
@@ -86,7 +86,7 @@ pub record Headed (s : List ℕ) (q : ℕ) : Type 0 where
   pub chip : ℕ
   pub channel : ℕ
   pub before : List Item
-  pub header : behind [] (on .before) ≡ Channel card chip channel ∷ before
+  pub header : earlierThen [] (on .before) ≡ Channel card chip channel ∷ before
 
 pub record ChannelAt (s : List ℕ) (from chip c q : ℕ) : Type 0 where
   pub passed : past (isChannel chip c) (until endEvent (itemsFrom s from)) ≡ some (until endEvent (itemsFrom s q))

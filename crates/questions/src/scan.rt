@@ -4,7 +4,7 @@ ghost use mathlib.Core.Path.{_≡_};
 ghost use Prim.Native.Nat.{_+_, _*_, _<_};
 ghost use lib.ListN.{length};
 ghost use Rattle.format.specs.Words.{wordAt, longAt};
-ghost use Rattle.format.specs.Rules.{dataKind, monitorKind, first, gather};
+ghost use Rattle.format.specs.Rules.{dataKind, monitorKind, headOrZero, gather};
 ghost use Rattle.format.specs.Cursor.{itemsFrom, unshown};
 ghost use Rattle.format.specs.Questions.{endSize, isChannel, isHistogram};
 ghost use Rattle.book.specs.Views.{viewItem};
@@ -156,7 +156,7 @@ pub(crate) fn seek_event(s: &[u8], e: usize) -> Place
 // The size that the first End event from here on gives, or 0.
 pub(crate) fn end_size(s: &[u8], from: usize) -> u32
     requires { ⌜ Amid (now s) dataKind from ⌝ }
-    ensures { λ r. ⌜ r ≡ first (gather endSize (itemsFrom (now (s .entry)) from)) ⌝ }
+    ensures { λ r. ⌜ r ≡ headOrZero (gather endSize (itemsFrom (now (s .entry)) from)) ⌝ }
 {
     let last = s.len() / 2 - 1;
     let mut at = from;

@@ -23,7 +23,7 @@ use Rattle.format.specs.Faults.{Refused}
 use Rattle.format.specs.Questions.{Shown}
 use Rattle.format.specs.Stands.{indexOf}
 use Rattle.format.specs.Steps.{Overview, overview, readOf}
-use Rattle.format.specs.Runs.{Ran, ran}
+use Rattle.format.specs.WriterCalls.{CallsDone, callsDone}
 use Rattle.format.specs.Handing.{StandsFor, Answers, Call, handOver, callOf, writeCalls, CallsWrote}
 use Rattle.format.proofs.book.PrefixLaws.{and-left, and-right, and-both}
 use Rattle.format.proofs.verdict.WalkLaws.{allowed-fits}
@@ -48,9 +48,9 @@ use Rattle.frame.specs.Promises.{ReadAs, ItemAnswered, TextAnswered}
 use Rattle.writer.specs.declared.answers.Written.{Written}
 use Rattle.writer.specs.declared.answers.Written.the-variants as written
 use Rattle.writer.specs.Views.{viewWritten}
-use Rattle.writer.specs.Runs.{Argument, anItem, aText, callIn, Run, isText, Copies, no-more, with-item, with-text, argumentFor, typed, allTyped, ReadsBack}
+use Rattle.writer.specs.FrameCalls.{Argument, anItem, aText, callIn, FrameCalls, isText, Copies, no-more, with-item, with-text, argumentFor, typed, allTyped, ReadsBack}
 use Rattle.writer.proofs.Unique.{same-written}
-use Rattle.writer.proofs.RunLaws.{run-ran, asked}
+use Rattle.writer.proofs.FrameCallLaws.{run-ran, asked}
 
 -- ---- answers
 
@@ -61,8 +61,8 @@ same-accepted : {A : Type 0} (a b : A) → accepted a ≡ accepted b → a ≡ b
 same-accepted a b e = cc
 
 -- a run ends in one way
-settled : (r q : Written) (left after : List ℕ) → ran (viewWritten r) left ≡ ran (viewWritten q) after → (r ≡ q) × (left ≡ after)
-settled r q left after e = (same-written r q (ap (λ (o : Ran). o .answer) e), ap (λ (o : Ran). o .left) e)
+settled : (r q : Written) (left after : List ℕ) → callsDone (viewWritten r) left ≡ callsDone (viewWritten q) after → (r ≡ q) × (left ≡ after)
+settled r q left after e = (same-written r q (ap (λ (o : CallsDone). o .answer) e), ap (λ (o : CallsDone). o .left) e)
 
 -- ---- arguments
 
@@ -100,7 +100,7 @@ all-arguments (x ∷ xs) = ap₂ _∷_ (its-call x) (all-arguments xs)
 
 module _ (s : RefT (List ℕ)) (g : Frame) (read : ReadAs (now s) (reading.Accepted g)) where
   pub copied : Bytes (now s) → (gs : List Argument) → Copies s 0 gs → length gs ≡ g .items → (buf : List ℕ) → length (now s) ≤ length buf
-      → (r : Written) (left : List ℕ) → Run buf (g .kind) (g .card) (g .sequence) gs r left
+      → (r : Written) (left : List ℕ) → FrameCalls buf (g .kind) (g .card) (g .sequence) gs r left
       → (r ≡ written.Length (length (now s))) × (left ≡ now s ++ drop (length (now s)) buf)
   copied bs gs c h buf room r left run =
       let a = asked c in
@@ -199,8 +199,8 @@ some-kind rules.monitorKind = (kind.Monitor, refl)
 some-kind rules.commandKind = (kind.Command, refl)
 
 module _ (f : frames.Frame) (k : Kind) (e : viewKind k ≡ f .kind) (buf : List ℕ) (r : Written) (left : List ℕ)
-    (run : Run buf k (f .card) (f .sequence) (map argumentFor (f .items)) r left) where
-  its-run : ran (viewWritten r) left ≡ writeCalls buf (f .kind) (f .card) (f .sequence) (map handOver (f .items))
+    (run : FrameCalls buf k (f .card) (f .sequence) (map argumentFor (f .items)) r left) where
+  its-run : callsDone (viewWritten r) left ≡ writeCalls buf (f .kind) (f .card) (f .sequence) (map handOver (f .items))
   its-run = sym (run-ran run) ∙ ap₂ (λ (k : rules.Kind) (cs : List Call). writeCalls buf k (f .card) (f .sequence) cs) e (all-arguments (f .items))
 
   pub list-written : Legal f → length (encode f) ≤ length buf → (r ≡ written.Length (length (encode f))) × (left ≡ encode f ++ drop (length (encode f)) buf)
@@ -209,7 +209,7 @@ module _ (f : frames.Frame) (k : Kind) (e : viewKind k ≡ f .kind) (buf : List 
   pub list-too-long : f .card ≤ 31 → f .sequence ≤ 0x0100 → Sound (f .kind) (f .card) [] (f .items) → (length buf < length (encode f)) ⊎ (8192 < length (encode f))
       → r ≡ written.Refused (record { number = 12; place = 0 })
   list-too-long c q l h =
-      same-written r (written.Refused (record { number = 12; place = 0 })) (ap (λ (o : Ran). o .answer) its-run ∙ format2.only-room-by-calls f c q l buf h)
+      same-written r (written.Refused (record { number = 12; place = 0 })) (ap (λ (o : CallsDone). o .answer) its-run ∙ format2.only-room-by-calls f c q l buf h)
 
 -- what is allowed fits the code's types
 below : (n m k : ℕ) → leb n m ≡ true → m < k → ltb n k ≡ true
@@ -247,23 +247,23 @@ sound-typed kind card p (x ∷ xs) l = and-both _ _ (fits-typed x (allowed-fits 
 
 -- ---- T19
 
-module _ (buf : List ℕ) (k : Kind) (card sequence : ℕ) (gs : List Argument) (m : ℕ) (left : List ℕ) (run : Run buf k card sequence gs (written.Length m) left) where
-  pub run-wrote : CallsWrote buf (viewKind k) card sequence (map callIn gs) m left
-  run-wrote = format2.calls-read-back buf (viewKind k) card sequence (map callIn gs) m left (run-ran run)
+module _ (buf : List ℕ) (k : Kind) (card sequence : ℕ) (gs : List Argument) (m : ℕ) (left : List ℕ) (run : FrameCalls buf k card sequence gs (written.Length m) left) where
+  pub writing-done : CallsWrote buf (viewKind k) card sequence (map callIn gs) m left
+  writing-done = format2.calls-read-back buf (viewKind k) card sequence (map callIn gs) m left (run-ran run)
 
-  count : length (run-wrote .items) ≡ length gs
-  count = sym (length-map (run-wrote .items) handOver) ∙ ap length (sym (run-wrote .handed)) ∙ length-map gs callIn
+  count : length (writing-done .items) ≡ length gs
+  count = sym (length-map (writing-done .items) handOver) ∙ ap length (sym (writing-done .handed)) ∙ length-map gs callIn
 
   module _ (s : RefT (List ℕ)) (its-bytes : now s ≡ take m left) where
     seen : (r : Reading) → ReadAs (now s) r
-        → (g : Frame) × (r ≡ reading.Accepted g) × (viewFrame g ≡ overview (record { kind = viewKind k; card = card; sequence = sequence; items = run-wrote .items }))
-    seen (reading.Accepted g) e = (g, refl, same-accepted _ _ (e ∙ ap readOf its-bytes ∙ run-wrote .read))
-    seen (reading.Refused q) e = no-refusal _ (q .number) (q .place) (sym (run-wrote .read) ∙ sym (e ∙ ap readOf its-bytes))
+        → (g : Frame) × (r ≡ reading.Accepted g) × (viewFrame g ≡ overview (record { kind = viewKind k; card = card; sequence = sequence; items = writing-done .items }))
+    seen (reading.Accepted g) e = (g, refl, same-accepted _ _ (e ∙ ap readOf its-bytes ∙ writing-done .read))
+    seen (reading.Refused q) e = no-refusal _ (q .number) (q .place) (sym (writing-done .read) ∙ sym (e ∙ ap readOf its-bytes))
 
     handed-again : (hs : List Argument) → Copies s 0 hs → length hs ≡ length gs → hs ≡ gs
     handed-again hs c h =
         let a = asked c in
-        let w = run-wrote in
+        let w = writing-done in
         let n : length (a .told) ≡ length (w .answers) = a .count ∙ h ∙ sym (w .counted ∙ length-map gs callIn) in
         let t : a .told ≡ w .answers =
         format2.one-list-of-answers (take m left) 0 (a .told) (w .answers) (subst (λ (s : List ℕ). Answers s 0 (a .told)) its-bytes (a .answers)) (w .answered) n in

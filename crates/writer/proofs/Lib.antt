@@ -5,5 +5,5 @@ pub mod PutLaws
 pub mod AddLaws
 pub mod Unique
 pub mod Promises
-pub mod RunLaws
+pub mod FrameCallLaws
 pub mod CopyLaws

@@ -11,7 +11,7 @@ use Rattle.format.specs.Words.{Bytes}
 use Rattle.format.specs.Answers.{Outcome, accepted, refused}
 use Rattle.format.specs.Items.{Token}
 use Rattle.format.specs.Rules.{Kind}
-use Rattle.format.specs.Steps.{St}
+use Rattle.format.specs.Steps.{ReaderState}
 use Rattle.format.specs.Writing.{beginAnswer, beginLeft, addAnswer, addLeft, closeAnswer, closeLeft, Wrote}
 use Rattle.format.specs.WriterCases.{oneOf, handed}
 use Rattle.format.specs.PartialSteps as steps
@@ -52,7 +52,7 @@ module _ (buf : List ℕ) (n : ℕ) (answer : Outcome ℕ) (left : List ℕ) (w 
   pub close-numbers : Bytes buf → (k p : ℕ) → answer ≡ refused k p → oneOf k (1 ∷ 2 ∷ 3 ∷ 4 ∷ 6 ∷ 7 ∷ 8 ∷ 9 ∷ 10 ∷ 11 ∷ 12 ∷ []) ≡ true
   close-numbers bs k p e = front.close-list buf bs n k p (sym (w .answered) ∙ e)
 
-module _ (buf : List ℕ) (n card : ℕ) (st : St) (t : Token) (answer : Outcome steps.Put) (left : List ℕ)
+module _ (buf : List ℕ) (n card : ℕ) (st : ReaderState) (t : Token) (answer : Outcome steps.Put) (left : List ℕ)
     (w : PutWrote (putAnswer buf n card st t) (putLeft buf n card st t) answer left) where
   pub put-refused : (k p : ℕ) → answer ≡ refused k p → left ≡ buf
   put-refused k p e = w .written ∙ put.put-found buf n card st t k p (sym (w .answered) ∙ e)

@@ -14,7 +14,7 @@ use Rattle.format.specs.Answers.{Outcome, accepted, refused, leaves}
 use Rattle.format.specs.Book.{text, endEvent}
 use Rattle.format.specs.Items.{Item, Text, StartEvent, EndEvent, classFor, wordsOf, fits, inRange, Token, whole, broken}
 use Rattle.format.specs.Rules.{Checked, good, bad}
-use Rattle.format.specs.Steps.{St, Stepped, moved, stopped, marked, placeBy, valueBy, sizedBy, orderBy, stateAfter, checkBy}
+use Rattle.format.specs.Steps.{ReaderState, Stepped, moved, stopped, marked, placeBy, valueBy, sizedBy, orderBy, stateAfter, checkBy}
 use Rattle.format.specs.Writing.{given, tokenBytes}
 use Rattle.format.specs.PartialSteps.{Put, putChecked, putAnswer, putLeft, PutWrote}
 use Rattle.format.proofs.book.PrefixLaws.{and-left, and-right}
@@ -45,12 +45,12 @@ module _ (room n size : ℕ) where
     unfolding answeredBy
     turned-away k e = rw e
 
-    pub comes-in : (st : St) (next : ℕ) (b : Bool) → o ≡ moved st next → b ≡ roomIn room n size → b ≡ true
+    pub comes-in : (st : ReaderState) (next : ℕ) (b : Bool) → o ≡ moved st next → b ≡ roomIn room n size → b ≡ true
         → accepted (record { reached = n + size; state = st }) ≡ answeredBy room n size o
     unfolding answeredBy
     comes-in st next b e f t = rw (e, ← f, t)
 
-    pub no-room : (st : St) (next : ℕ) (b : Bool) → o ≡ moved st next → b ≡ roomIn room n size → b ≡ false → refused 12 0 ≡ answeredBy room n size o
+    pub no-room : (st : ReaderState) (next : ℕ) (b : Bool) → o ≡ moved st next → b ≡ roomIn room n size → b ≡ false → refused 12 0 ≡ answeredBy room n size o
     unfolding answeredBy
     no-room st next b e f t = rw (e, ← f, t)
 
@@ -86,19 +86,19 @@ module _ (buf : List ℕ) (n : ℕ) (bs : List ℕ) (o : Stepped) (size : ℕ) (
 
 -- ---- an item that passes the rules fits its fields
 
-passed : (a b c : Bool) (r st : St) → pick a (pick b (pick c (good r) (bad 10)) (bad 9)) (bad 8) ≡ good st → b ≡ true
+passed : (a b c : Bool) (r st : ReaderState) → pick a (pick b (pick c (good r) (bad 10)) (bad 9)) (bad 8) ≡ good st → b ≡ true
 passed true true c r st e = refl
 passed true false c r st e = let z : _≡_ {A = ℕ} 0 1 = cc in absurd (omega arith)
 passed false b c r st e = let z : _≡_ {A = ℕ} 0 1 = cc in absurd (omega arith)
 
-good-fits : (card at : ℕ) (st : St) (x : Item) (st′ : St) → checkBy card at st (whole x) ≡ good st′ → fits x ≡ true
+good-fits : (card at : ℕ) (st : ReaderState) (x : Item) (st′ : ReaderState) → checkBy card at st (whole x) ≡ good st′ → fits x ≡ true
 unfolding checkBy
 good-fits card at st x st′ e =
     item-in-range card x (and-left (inRange card x) (sizedBy at st x) (passed (placeBy st (classFor x)) (valueBy card at st x) (orderBy st x) (stateAfter at st x) st′ e))
 
 -- ---- class by class
 
-module _ (buf : List ℕ) (n card : ℕ) (st : St) (o : Stepped) (answer : Outcome Put) (left : List ℕ) where
+module _ (buf : List ℕ) (n card : ℕ) (st : ReaderState) (o : Stepped) (answer : Outcome Put) (left : List ℕ) where
   abbrev pub Stored : List ℕ → Type 0
   Stored bs = PutWrote (placed buf n bs o) (placedLeft buf n bs o) answer left
 
@@ -106,18 +106,18 @@ module _ (buf : List ℕ) (n card : ℕ) (st : St) (o : Stepped) (answer : Outco
   Promised t = PutWrote (putAnswer buf n card st t) (putLeft buf n card st t) answer left
 
   -- the bytes count only where the item passes
-  same-answer : (bs cs : List ℕ) (q : Checked St) → ((r : St) → q ≡ good r → bs ≡ cs) → placed buf n bs (marked 0 q) ≡ putChecked buf n cs q
+  same-answer : (bs cs : List ℕ) (q : Checked ReaderState) → ((r : ReaderState) → q ≡ good r → bs ≡ cs) → placed buf n bs (marked 0 q) ≡ putChecked buf n cs q
   unfolding answeredBy
   same-answer bs cs (good r) f = rw (f r refl)
   same-answer bs cs (bad k) f = refl
 
-  same-left : (bs cs : List ℕ) (q : Checked St) → ((r : St) → q ≡ good r → bs ≡ cs)
+  same-left : (bs cs : List ℕ) (q : Checked ReaderState) → ((r : ReaderState) → q ≡ good r → bs ≡ cs)
       → placedLeft buf n bs (marked 0 q) ≡ leaves (putChecked buf n cs q) buf (sets buf n cs)
   unfolding answeredBy
   same-left bs cs (good r) f = rw (f r refl)
   same-left bs cs (bad k) f = refl
 
-  turned : (t : Token) (bs : List ℕ) → ((r : St) → checkBy card (n / 2) st t ≡ good r → bs ≡ tokenBytes t) → o ≡ marked 0 (checkBy card (n / 2) st t) → Stored bs → Promised t
+  turned : (t : Token) (bs : List ℕ) → ((r : ReaderState) → checkBy card (n / 2) st t ≡ good r → bs ≡ tokenBytes t) → o ≡ marked 0 (checkBy card (n / 2) st t) → Stored bs → Promised t
   unfolding putAnswer putLeft
   turned t bs g e w =
       record {
@@ -173,7 +173,7 @@ module _ (buf : List ℕ) (n card : ℕ) (st : St) (o : Stepped) (answer : Outco
   text-put s b bs h e f = turned (whole (Text s)) (lettered s) (λ r q. text-is s bs h) (f ∙ ap (λ (c : Bool). marked 0 (textTested st c)) e ∙ ap (marked 0) (text-tested s bs h))
 
 -- the rules at an End event, with its low bits zero
-pub end-handed : (at next : ℕ) (st : St) (size : ℕ) (r : Stepped) → size < 4294967296 → r ≡ marked next (endTested at st size 0)
+pub end-handed : (at next : ℕ) (st : ReaderState) (size : ℕ) (r : Stepped) → size < 4294967296 → r ≡ marked next (endTested at st size 0)
     → r ≡ marked next (checkBy 0 at st (whole (EndEvent size)))
 unfolding endTested checkBy
 end-handed at next st size r h e = rw (lt-ltb size 4294967296 h) e

@@ -11,7 +11,7 @@ use lib.Seq.{sets}
 use borrow.Author.Tests.{eqb-true, eqb-false}
 use Rattle.format.specs.Words.{pick, Bytes, words, bytes, longWords}
 use Rattle.format.proofs.items.WordLaws.{bytes-append}
-use Rattle.format.proofs.StoringLaws.{sets-next}
+use Rattle.format.proofs.items.StoringLaws.{sets-next}
 use Rattle.writer.specs.Views.{timeCut, finalZero, textBytes}
 
 -- six words are three and three

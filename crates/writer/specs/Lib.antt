@@ -1,3 +1,3 @@
 pub mod Views
-pub mod Runs
+pub mod FrameCalls
 pub mod Promises

@@ -16,22 +16,22 @@ use Rattle.format.specs.Spots.{Spot, spot, put, revalued, withValue, SpotIs, wi
 use Rattle.ledger.specs.Records.{entriesIn}
 use Rattle.ledger.specs.Calls.{entryFor}
 use Rattle.ledger.specs.Histories.{oldestFirst}
-use Rattle.ledger.specs.First.{first}
-use Rattle.ledger.specs.House.{house, Free}
+use Rattle.ledger.specs.VersionOne.{versionOne}
+use Rattle.ledger.specs.PlaneFrames.{planeFrames, Free}
 use Rattle.ledger.specs.Layout.{totalLength, frameOf, headerFor, entryWritten, historyWritten}
 use Rattle.ledger.specs.Reasons.{RecordRefused, OpenRefused, EditRefused, RestoreRefused, EntryRefused}
-use Rattle.plane.specs.declared.answers.Record.{Record}
-use Rattle.plane.specs.declared.answers.RecordFound.{RecordFound}
-use Rattle.plane.specs.declared.answers.RecordFound.the-variants as records
-use Rattle.plane.specs.declared.answers.EntryFound.{EntryFound}
-use Rattle.plane.specs.declared.answers.EntryFound.the-variants as entries
+use Rattle.records.specs.declared.answers.Record.{Record}
+use Rattle.records.specs.declared.answers.RecordFound.{RecordFound}
+use Rattle.records.specs.declared.answers.RecordFound.the-variants as records
+use Rattle.records.specs.declared.answers.EntryFound.{EntryFound}
+use Rattle.records.specs.declared.answers.EntryFound.the-variants as entries
 use Rattle.editor.specs.declared.answers.Done.{Done}
 use Rattle.editor.specs.declared.answers.Done.the-variants as answer
 use Rattle.editor.specs.declared.editing.Correction.{Correction}
 use Rattle.editor.specs.Views.{viewDone, asked}
 use Rattle.editor.specs.Promises.{Opened, Edited, Restored}
-use Rattle.plane.specs.Promises.{Recorded, EntryTold}
-use Rattle.editor.specs.Sequences.{Calls, madeBy, corrected, entriesFor, toldOf, correctionFor, Moment, AllGiven, Sequence}
+use Rattle.records.specs.Promises.{Recorded, EntryTold}
+use Rattle.editor.specs.Sequences.{Calls, madeBy, corrected, entriesFor, entryMade, correctionFor, Moment, AllGiven, Sequence}
 use Rattle.editor.proofs.CallLaws.{moment}
 use Rattle.editor.proofs.SequenceLaws as sequences
 use Rattle.editor.proofs.Effects as effects
@@ -92,7 +92,7 @@ module _ (b : List ℕ) (y : Bytes b) (c : Correction) (e : List ℕ) (o : Edite
   pub edited-bytes : e
       ≡ headerFor (wordAt b 3) (suc (wordAt b 5))
       ++ (put (frameOf b) (c .word) (c .value)
-      ++ (take (16 * wordAt b 5) (drop (16 + wordAt b 3) b) ++ (entryWritten (entryFor house (frameOf b) (asked c)) ++ drop (totalLength b + 16) b)))
+      ++ (take (16 * wordAt b 5) (drop (16 + wordAt b 3) b) ++ (entryWritten (entryFor planeFrames (frameOf b) (asked c)) ++ drop (totalLength b + 16) b)))
   edited-bytes = law.edited-bytes b y c e o
 
 -- > "Put an accepted frame into a record with no history, then make any sequence of edit calls on it, some refused, with nothing else writing to it."
@@ -141,13 +141,13 @@ module _ (f buf : List ℕ) (y : Bytes f) (b : List ℕ) (o : Opened f buf (view
   -- > "The history holds those edits in order and nothing more."
   -- the entries, oldest first, are those of the accepted corrections; `record` tells their count (above), `entry` the j-th, from 1, as it was asked,
   -- with the kind and the value that stood there before it; and there is no other
-  pub history-in-order : oldestFirst (entriesIn first e) ≡ entriesFor f (madeBy cs rs)
+  pub history-in-order : oldestFirst (entriesIn versionOne e) ≡ entriesFor f (madeBy cs rs)
   history-in-order = law.history-in-order f buf y b o cs rs e k
 
   pub entry-asked : (j : ℕ) → j < length (madeBy cs rs) → (d : Correction) (r : EntryFound) → EntryTold e (suc j) r
       → (p : Spot)
       × (spot (corrected f (take j (madeBy cs rs))) (getD (madeBy cs rs) j d .word) ≡ some p)
-      × (r ≡ entries.Entry (toldOf (getD (madeBy cs rs) j d) p))
+      × (r ≡ entries.Entry (entryMade (getD (madeBy cs rs) j d) p))
   entry-asked = law.entry-asked f buf y b o cs rs e k
 
   pub no-other-entry : (j : ℕ) → length (madeBy cs rs) < j → (r : EntryFound) → EntryTold e j r → r ≡ entries.Refused (record { number = 26; place = 0 })
@@ -180,7 +180,7 @@ pub the-only-ones : (b : List ℕ) (S T : Sequence b)
     → (S .frame ≡ T .frame) × (madeBy (S .corrections) (S .answers) ≡ madeBy (T .corrections) (T .answers))
 the-only-ones = law.the-only-ones
 
-pub told-by-entries : (b : List ℕ) (S : Sequence b) → madeBy (S .corrections) (S .answers) ≡ map correctionFor (oldestFirst (entriesIn first b))
+pub told-by-entries : (b : List ℕ) (S : Sequence b) → madeBy (S .corrections) (S .answers) ≡ map correctionFor (oldestFirst (entriesIn versionOne b))
 told-by-entries = sequences.only-corrections
 
 -- else `record` refuses by n at p exactly where n is due: 20, the frame's refusals, then 21 at the newest entry that does not fit; and `entry` as

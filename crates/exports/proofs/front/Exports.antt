@@ -19,8 +19,8 @@ use Rattle.format.proofs.front.Writing.{add-refused-leaves, close-refused-leave
 use Rattle.follower.specs.Follow as follow
 use Rattle.ledger.specs.Formats as formats
 use Rattle.ledger.specs.Calls.{Summary, recordAnswer, entryAnswer, openAnswer, editAnswer, restoreAnswer}
-use Rattle.ledger.specs.First.{first}
-use Rattle.ledger.specs.House.{house}
+use Rattle.ledger.specs.VersionOne.{versionOne}
+use Rattle.ledger.specs.PlaneFrames.{planeFrames}
 use Rattle.ledger.proofs.calls.Writes.{open-found, edit-found, restore-found}
 use Rattle.exports.specs.declared.answers.PlaneDone.{PlaneDone}
 use Rattle.exports.specs.declared.answers.PlaneFrame.{PlaneFrame}
@@ -108,30 +108,30 @@ follow-accepts = law.follow-accepts
 -- ---- records
 
 module _ (b : List ℕ) (bs : Bytes b) where
-  pub record-accepts : (r : PlaneRecord) → r ≡ flatRecord (recordAnswer house first b) → (r .refused ≡ 0) ↔ ((x : Summary) × (recordAnswer house first b ≡ accepted x))
+  pub record-accepts : (r : PlaneRecord) → r ≡ flatRecord (recordAnswer planeFrames versionOne b) → (r .refused ≡ 0) ↔ ((x : Summary) × (recordAnswer planeFrames versionOne b ≡ accepted x))
   record-accepts = exactly _ _ _ _ _ record-tells _ (numbers.record-numbered b bs)
 
-  pub entry-accepts : (j : ℕ) (r : PlaneEntry) → r ≡ flatEntry (entryAnswer house first b j) → (r .refused ≡ 0) ↔ ((x : formats.Entry) × (entryAnswer house first b j ≡ accepted x))
+  pub entry-accepts : (j : ℕ) (r : PlaneEntry) → r ≡ flatEntry (entryAnswer planeFrames versionOne b j) → (r .refused ≡ 0) ↔ ((x : formats.Entry) × (entryAnswer planeFrames versionOne b j ≡ accepted x))
   entry-accepts j = exactly _ _ _ _ _ entry-tells _ (numbers.entry-numbered b bs j)
 
   module _ (r : PlaneDone) (left : List ℕ) where
     -- of the frame b
-    pub open-accepts : (buf : List ℕ) → Opened b buf r left → (r .refused ≡ 0) ↔ ((u : Unit {0}) × (openAnswer house first b buf ≡ accepted u))
+    pub open-accepts : (buf : List ℕ) → Opened b buf r left → (r .refused ≡ 0) ↔ ((u : Unit {0}) × (openAnswer planeFrames versionOne b buf ≡ accepted u))
     open-accepts buf w = exactly _ _ _ _ _ done-tells _ (numbers.open-numbered b bs buf) r (w .answered)
 
-    pub edit-accepts : (c : PlaneCorrection) → Edited b (asked c) r left → (r .refused ≡ 0) ↔ ((u : Unit {0}) × (editAnswer house first b (asked c) ≡ accepted u))
+    pub edit-accepts : (c : PlaneCorrection) → Edited b (asked c) r left → (r .refused ≡ 0) ↔ ((u : Unit {0}) × (editAnswer planeFrames versionOne b (asked c) ≡ accepted u))
     edit-accepts c w = exactly _ _ _ _ _ done-tells _ (numbers.edit-numbered b bs c) r (w .answered)
 
-    pub restore-accepts : (k : ℕ) (out : List ℕ) → Restored b k out r left → (r .refused ≡ 0) ↔ ((u : Unit {0}) × (restoreAnswer house first b k out ≡ accepted u))
+    pub restore-accepts : (k : ℕ) (out : List ℕ) → Restored b k out r left → (r .refused ≡ 0) ↔ ((u : Unit {0}) × (restoreAnswer planeFrames versionOne b k out ≡ accepted u))
     restore-accepts k out w = exactly _ _ _ _ _ done-tells _ (numbers.restore-numbered b bs k out) r (w .answered)
 
 module _ (b : List ℕ) (r : PlaneDone) (left : List ℕ) (l : 1 ≤ r .refused) where
   -- of the frame f, in b
   pub open-leaves : (f : List ℕ) → Opened f b r left → left ≡ b
-  open-leaves f w = kept _ _ _ _ _ done-tells _ _ b (open-found house first f b) r left w l
+  open-leaves f w = kept _ _ _ _ _ done-tells _ _ b (open-found planeFrames versionOne f b) r left w l
 
   pub edit-leaves : (c : PlaneCorrection) → Edited b (asked c) r left → left ≡ b
-  edit-leaves c w = kept _ _ _ _ _ done-tells _ _ b (edit-found house first b (asked c)) r left w l
+  edit-leaves c w = kept _ _ _ _ _ done-tells _ _ b (edit-found planeFrames versionOne b (asked c)) r left w l
 
   pub restore-leaves : (k : ℕ) (out : List ℕ) → Restored b k out r left → left ≡ out
-  restore-leaves k out w = kept _ _ _ _ _ done-tells _ _ out (restore-found house first b k out) r left w l
+  restore-leaves k out w = kept _ _ _ _ _ done-tells _ _ out (restore-found planeFrames versionOne b k out) r left w l

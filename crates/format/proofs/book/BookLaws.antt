@@ -11,7 +11,7 @@ use lib.Pow.{split, high, pow-pos}
 use lib.ListN.{length}
 use borrow.Author.Tests.{eqb-true, eq-eqb}
 use Rattle.format.specs.Prefix.{Row, matches, prefixFree}
-use Rattle.format.specs.Book.{Class, unassigned, row, book, named, classOf, assigned, Range, range, printed, Within, nth}
+use Rattle.format.specs.Book.{Class, unassigned, row, book, orUnassigned, classOf, assigned, Range, range, pageRange, Within, nth}
 use Rattle.format.proofs.book.PrefixLaws.{Searched, hit, miss, searched, found, Misses, all-missed, nth-row}
 
 -- no prefix of the book begins another
@@ -23,7 +23,7 @@ abbrev pub span : Row Class → Range
 span r = range (r .prefix * 2 ^ (16 - r .bits)) (r .prefix * 2 ^ (16 - r .bits) + (2 ^ (16 - r .bits) - 1))
 
 -- the rows' classes, and their spans are the printed ranges
-pub as-printed : map (λ (r : Row Class). span r) book ≡ map (λ (r : Row Class). printed (r .class)) book
+pub as-printed : map (λ (r : Row Class). span r) book ≡ map (λ (r : Row Class). pageRange (r .class)) book
 as-printed = refl
 
 module _ (A : Row Class → Type 0) where
@@ -39,9 +39,9 @@ module _ (A : Row Class → Type 0) where
 
 -- a row's span is its class's range
 abbrev Spans : Row Class → Type 0
-Spans r = span r ≡ printed (r .class)
+Spans r = span r ≡ pageRange (r .class)
 
-spans : (r : Row Class) → List·Memᴰ r book → span r ≡ printed (r .class)
+spans : (r : Row Class) → List·Memᴰ r book → span r ≡ pageRange (r .class)
 spans = each Spans book (refl, (refl, (refl, (refl, (refl, (refl, (refl, (refl, (refl, (refl, (refl, (refl, (refl, (refl, tt))))))))))))))
 
 -- each row's class is an assigned one
@@ -73,45 +73,45 @@ from-span r w f =
 module _ (w : ℕ) where
   pub of-row : (r : Row Class) → List·Memᴰ r book → matches r w ≡ true → classOf w ≡ r .class
   unfolding classOf
-  of-row r m h = ap named (found book book-free w r m h)
+  of-row r m h = ap orUnassigned (found book book-free w r m h)
 
   pub entry : (k : ℕ) → k < length book → w / 2 ^ (16 - nth k .bits) ≡ nth k .prefix → nth k .class ≡ classOf w
   entry k h e = sym (of-row (nth k) (nth-row book k (row 0 0 unassigned) h) (eq-eqb _ _ e))
 
   pub no-entry : Misses book w → unassigned ≡ classOf w
   unfolding classOf
-  no-entry m = sym (ap named (all-missed book w m))
+  no-entry m = sym (ap orUnassigned (all-missed book w m))
 
   -- a word of the book's class lies in that class's range
-  pub ranged : (c : Class) → classOf w ≡ c → assigned c ≡ true → Within w (printed c)
+  pub ranged : (c : Class) → classOf w ≡ c → assigned c ≡ true → Within w (pageRange c)
   unfolding classOf
   ranged c e a = go (searched book w)
     where
-      go : Searched book w → Within w (printed c)
-      go (hit r m h i) = subst (Within w) (spans r m ∙ ap printed (sym (ap named i) ∙ e)) (from-span r w h)
-      go (miss n i) = absurd (true≢false (sym a ∙ ap assigned (sym e ∙ ap named i)))
+      go : Searched book w → Within w (pageRange c)
+      go (hit r m h i) = subst (Within w) (spans r m ∙ ap pageRange (sym (ap orUnassigned i) ∙ e)) (from-span r w h)
+      go (miss n i) = absurd (true≢false (sym a ∙ ap assigned (sym e ∙ ap orUnassigned i)))
 
   -- and a word of a row's range is of its class
-  pub in-range : (k : ℕ) → k < length book → Within w (printed (nth k .class)) → classOf w ≡ nth k .class
+  pub in-range : (k : ℕ) → k < length book → Within w (pageRange (nth k .class)) → classOf w ≡ nth k .class
   in-range k h i =
       let m = nth-row book k (row 0 0 unassigned) h in
       let j = subst (Within w) (sym (spans (nth k) m)) i in
       of-row (nth k) m (in-span (nth k) w (j .0) (j .1))
 
   -- T2: of each class exactly the words of its printed range
-  pub ranges : (k : ℕ) → k < length book → (classOf w ≡ nth k .class) ↔ Within w (printed (nth k .class))
+  pub ranges : (k : ℕ) → k < length book → (classOf w ≡ nth k .class) ↔ Within w (pageRange (nth k .class))
   ranges k h = (λ e. ranged (nth k .class) e (assigns (nth k) (nth-row book k (row 0 0 unassigned) h)), in-range k h)
 
   -- and unassigned are exactly the words of no range
-  pub unassigned-words : (classOf w ≡ unassigned) ↔ ((r : Row Class) → List·Memᴰ r book → Within w (printed (r .class)) → ⊥)
+  pub unassigned-words : (classOf w ≡ unassigned) ↔ ((r : Row Class) → List·Memᴰ r book → Within w (pageRange (r .class)) → ⊥)
   unfolding classOf
   unassigned-words = (λ e r m i. outside e r m i, λ n. go n (searched book w))
     where
-      outside : classOf w ≡ unassigned → (r : Row Class) → List·Memᴰ r book → Within w (printed (r .class)) → ⊥
+      outside : classOf w ≡ unassigned → (r : Row Class) → List·Memᴰ r book → Within w (pageRange (r .class)) → ⊥
       outside e r m i =
           let j = subst (Within w) (sym (spans r m)) i in
           true≢false (sym (assigns r m) ∙ ap assigned (sym (of-row r m (in-span r w (j .0) (j .1))) ∙ e))
 
-      go : ((r : Row Class) → List·Memᴰ r book → Within w (printed (r .class)) → ⊥) → Searched book w → classOf w ≡ unassigned
+      go : ((r : Row Class) → List·Memᴰ r book → Within w (pageRange (r .class)) → ⊥) → Searched book w → classOf w ≡ unassigned
       go n (hit r m h i) = absurd (n r m (subst (Within w) (spans r m) (from-span r w h)))
-      go n (miss k i) = ap named i
+      go n (miss k i) = ap orUnassigned i

@@ -9,7 +9,7 @@ use mathlib.Core.List.{List}
 use native.Mathlib.Omega.{arith}
 use lib.Dec.{lit<}
 use Rattle.format.specs.Prefix.{Row, find, prefixFree, Matched}
-use Rattle.format.specs.Book.{Class, channel, histogram, hitCount, sample, bin, lastCell, timeBin, dataFrame, monitorFrame, commandFrame, text, startEvent, endEvent, frameEnd, unassigned, classOf, assigned, printed, Within}
+use Rattle.format.specs.Book.{Class, channel, histogram, hitCount, sample, bin, lastCell, timeBin, dataFrame, monitorFrame, commandFrame, text, startEvent, endEvent, frameEnd, unassigned, classOf, assigned, pageRange, Within}
 use Rattle.format.proofs.book.PrefixLaws.{Searched, hit, miss, searched, found}
 use Rattle.format.proofs.book.BookLaws.{ranged, in-range}
 
@@ -32,7 +32,7 @@ module _ {A : Type 0} where
       back m = found t free w (m .row) (m .member) (m .fits) ∙ ap some (m .class)
 
 -- every word of a printed range is of its class
-in-printed : (w : ℕ) (c : Class) → assigned c ≡ true → Within w (printed c) → classOf w ≡ c
+in-printed : (w : ℕ) (c : Class) → assigned c ≡ true → Within w (pageRange c) → classOf w ≡ c
 in-printed w channel a h = in-range w 0 (lit< tt) h
 in-printed w histogram a h = in-range w 1 (lit< tt) h
 in-printed w hitCount a h = in-range w 2 (lit< tt) h
@@ -50,11 +50,11 @@ in-printed w frameEnd a h = in-range w 13 (lit< tt) h
 in-printed w unassigned a h = absurd (true≢false (sym a))
 
 -- of each class exactly the words of its printed range
-pub class-range : (w : ℕ) (c : Class) → assigned c ≡ true → (classOf w ≡ c) ↔ Within w (printed c)
+pub class-range : (w : ℕ) (c : Class) → assigned c ≡ true → (classOf w ≡ c) ↔ Within w (pageRange c)
 class-range w c a = (λ e. ranged w c e a, in-printed w c a)
 
 -- and a word is unassigned exactly where it is in none of them
-pub class-none : (w : ℕ) → (classOf w ≡ unassigned) ↔ ((c : Class) → assigned c ≡ true → Within w (printed c) → ⊥)
+pub class-none : (w : ℕ) → (classOf w ≡ unassigned) ↔ ((c : Class) → assigned c ≡ true → Within w (pageRange c) → ⊥)
 class-none w = (λ e c a h. true≢false (sym a ∙ ap assigned (sym (in-printed w c a h) ∙ e)), λ n. go n (assigned (classOf w)) refl)
   where
     only : (c : Class) → assigned c ≡ false → c ≡ unassigned
@@ -74,6 +74,6 @@ class-none w = (λ e c a h. true≢false (sym a ∙ ap assigned (sym (in-printed
     only frameEnd a = absurd (true≢false a)
     only unassigned a = refl
 
-    go : ((c : Class) → assigned c ≡ true → Within w (printed c) → ⊥) → (b : Bool) → assigned (classOf w) ≡ b → classOf w ≡ unassigned
+    go : ((c : Class) → assigned c ≡ true → Within w (pageRange c) → ⊥) → (b : Bool) → assigned (classOf w) ≡ b → classOf w ≡ unassigned
     go n true e = absurd (n (classOf w) e (ranged w (classOf w) refl e))
     go n false e = only (classOf w) e

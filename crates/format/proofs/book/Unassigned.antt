@@ -8,7 +8,7 @@ use native.Mathlib.Nat.{add-zero, add-suc, suc-add, zero-add, suc-mul, add-comm,
 use native.Mathlib.Omega.{arith}
 use Rattle.format.specs.Words.{pick}
 use Rattle.format.specs.Prefix.{find}
-use Rattle.format.specs.Book.{Class, book, named, classOf, assigned, sum, unread}
+use Rattle.format.specs.Book.{Class, book, orUnassigned, classOf, assigned, sum, unread}
 use Rattle.format.proofs.book.PageLaws.{paged, by-page}
 
 -- the book is such a table
@@ -35,7 +35,7 @@ page : (h : ℕ) → (h ≡ 0 → ⊥) → sum unread (h * 256) 256 ≡ 256 * un
 unfolding classOf
 page h n =
     sum-same unread (unread (h * 256)) 256 (h * 256)
-    (λ i k. ap (λ (o : Option Class). pick (assigned (named o)) 0 1) (by-page book book-paged (h * 256 + i) (h * 256) (omega arith) (λ e. n (omega arith))))
+    (λ i k. ap (λ (o : Option Class). pick (assigned (orUnassigned o)) 0 1) (by-page book book-paged (h * 256 + i) (h * 256) (omega arith) (λ e. n (omega arith))))
 
 pages : (n h : ℕ) → (h ≡ 0 → ⊥) → sum unread (h * 256) (n * 256) ≡ sum (λ (k : ℕ). 256 * unread (k * 256)) h n
 unfolding sum

@@ -9,8 +9,8 @@ use mathlib.Core.Option.{none, some}
 use mathlib.Core.List.{List, [], _∷_, _++_, map, flatten, List·Memᴰ}
 use lib.ListN.{length, getD, take, drop}
 use Rattle.format.specs.Prefix.{Row, matches, find, prefixFree, Matched}
-use Rattle.format.specs.Book.{Class, unassigned, book, classOf, rowOf, classAt, after, assigned, printed, Within, nth, sum, unread}
-use Rattle.format.specs.Items.{Item, classFor, three, wordsOf, fits, inRange, whole, tokenOf, tokens, key}
+use Rattle.format.specs.Book.{Class, unassigned, book, classOf, rowOf, classAt, after, assigned, pageRange, Within, nth, sum, unread}
+use Rattle.format.specs.Items.{Item, classFor, headerBits, wordsOf, fits, inRange, whole, tokenOf, tokens, key}
 use Rattle.format.specs.Tree.{Limits}
 use Rattle.format.specs.Fields.{cut, pack, Fit, widths, content, rowFor, firstWord, laterWords, Read, total}
 use Rattle.format.specs.Figures.{tabled, figures, figureWords}
@@ -52,11 +52,11 @@ pub book-prefix-free : prefixFree book ≡ true
 book-prefix-free = ranges.book-free
 
 -- Each class has exactly the words of its printed range (specs/Book, `printed`), for every word,
-pub book-ranges : (w : ℕ) (c : Class) → assigned c ≡ true → (classOf w ≡ c) ↔ Within w (printed c)
+pub book-ranges : (w : ℕ) (c : Class) → assigned c ≡ true → (classOf w ≡ c) ↔ Within w (pageRange c)
 book-ranges = table.class-range
 
 -- "All other words" are unassigned, and only they:
-pub book-unassigned : (w : ℕ) → (classOf w ≡ unassigned) ↔ ((c : Class) → assigned c ≡ true → Within w (printed c) → ⊥)
+pub book-unassigned : (w : ℕ) → (classOf w ≡ unassigned) ↔ ((c : Class) → assigned c ≡ true → Within w (pageRange c) → ⊥)
 book-unassigned = table.class-none
 
 -- "3,807 of them", of the 65,536 words from 0 on.
@@ -134,7 +134,7 @@ pub item-data : (k : ℕ) (ws : List ℕ) → tokens k ws ≡ tokens 0 (drop k w
 item-data = item.tokens-skip
 
 -- "Channel headers in one event rise by their 14-bit content, so do Histogram headers": the key by which they are compared rises with it.
-pub key-rises : (a b c a′ b′ c′ : ℕ) → b < 4 → c < 128 → b′ < 4 → c′ < 128 → (key a b c < key a′ b′ c′) ↔ (three a b c < three a′ b′ c′)
+pub key-rises : (a b c a′ b′ c′ : ℕ) → b < 4 → c < 128 → b′ < 4 → c′ < 128 → (key a b c < key a′ b′ c′) ↔ (headerBits a b c < headerBits a′ b′ c′)
 key-rises = keys.key-rises
 
 -- FIGURES: the words that document 01 prints for the items of its cases 3 and 7, and a few more (proofs/book/BookFigures has words that are no

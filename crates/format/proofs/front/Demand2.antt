@@ -13,18 +13,18 @@ use Rattle.format.specs.Words.{Bytes, bytes}
 use Rattle.format.specs.Answers.{accepted, refused}
 use Rattle.format.specs.Items.{Item, wordsOf, Token, whole}
 use Rattle.format.specs.Rules.{Kind, mayEnd}
-use Rattle.format.specs.Frames.{Frame, behind, Sound, encode, Legal, verdict}
+use Rattle.format.specs.Frames.{Frame, earlierThen, Sound, encode, Legal, verdict}
 use Rattle.format.specs.Faults.{Refused, Answered}
 use Rattle.format.specs.Tree.{Tree, leaves, TreeOf}
-use Rattle.format.specs.WriterCases.{RunWrote}
-use Rattle.format.specs.Runs.{ran, writeAll}
+use Rattle.format.specs.WriterCases.{WritingDone}
+use Rattle.format.specs.WriterCalls.{callsDone, writeAll}
 use Rattle.format.specs.Questions.{Shown, shownAt}
 use Rattle.format.specs.Steps.{Overview, readOf}
-use Rattle.format.specs.Handing.{StandsFor, Told, toldOf, Answers, toldWords, allTold, frameTold, Call, tokenOfCall, callOf, handOver, writeCalls, CallsWrote}
+use Rattle.format.specs.Handing.{StandsFor, ItemAnswer, itemAnswerOf, Answers, answerWords, allAnswerWords, frameTold, Call, tokenOfCall, callOf, handOver, writeCalls, CallsWrote}
 use Rattle.format.proofs.verdict.Acceptance.{exactly}
 use Rattle.format.proofs.verdict.RefusalLaws as refusals
 use Rattle.format.proofs.tree.TreeLaws as tree
-use Rattle.format.proofs.writer.Completeness.{written, too-short, run-wrote, rewritten}
+use Rattle.format.proofs.writer.Completeness.{written, too-short, writing-done, rewritten}
 use Rattle.format.proofs.writer.HandingLaws as handing
 
 -- "A frame is accepted exactly when it follows our word book and frame rules" (T5)
@@ -43,7 +43,7 @@ pub one-answer : (s : List ℕ) → Bytes s → Answered s
 one-answer = refusals.answered
 
 -- the rules are those of the grammar written as a tree with limits of its own, which is unique (T6b): a second writing guards the first
-pub rules-as-tree : (kind : Kind) (card : ℕ) (xs : List Item) → (Sound kind card [] xs × (mayEnd (behind [] xs) ≡ true)) ↔ TreeOf kind card xs
+pub rules-as-tree : (kind : Kind) (card : ℕ) (xs : List Item) → (Sound kind card [] xs × (mayEnd (earlierThen [] xs) ≡ true)) ↔ TreeOf kind card xs
 rules-as-tree = tree.as-tree
 
 pub one-tree : (kind : Kind) (t u : Tree kind) → leaves kind t ≡ leaves kind u → t ≡ u
@@ -51,7 +51,7 @@ one-tree = tree.one-tree
 
 -- "Every list that the rules allow can be written, if it fits" (T18): that it does not fit is the only reason against (T18b)
 pub every-list-is-written : (f : Frame) → Legal f → (buf : List ℕ) → length (encode f) ≤ length buf
-    → writeAll buf (f .kind) (f .card) (f .sequence) (map whole (f .items)) ≡ ran (accepted (length (encode f))) (encode f ++ drop (length (encode f)) buf)
+    → writeAll buf (f .kind) (f .card) (f .sequence) (map whole (f .items)) ≡ callsDone (accepted (length (encode f))) (encode f ++ drop (length (encode f)) buf)
 every-list-is-written = written
 
 pub only-room : (f : Frame) → f .card ≤ 31 → f .sequence ≤ 0x0100 → Sound (f .kind) (f .card) [] (f .items) → (buf : List ℕ)
@@ -60,12 +60,12 @@ only-room = too-short
 
 -- "and reads back as itself" (T19): whatever the calls accept is a legal frame of exactly the items added
 pub reads-back : (buf : List ℕ) (kind : Kind) (card sequence : ℕ) (ts : List Token) (m : ℕ) (left : List ℕ)
-    → writeAll buf kind card sequence ts ≡ ran (accepted m) left → RunWrote buf kind card sequence ts m left
-reads-back = run-wrote
+    → writeAll buf kind card sequence ts ≡ callsDone (accepted m) left → WritingDone buf kind card sequence ts m left
+reads-back = writing-done
 
 -- "an accepted frame written again has the same bytes" (T20)
 pub same-bytes : (s : List ℕ) → Bytes s → (f : Frame) → verdict s ≡ accepted f → (buf : List ℕ) → length s ≤ length buf
-    → writeAll buf (f .kind) (f .card) (f .sequence) (map whole (f .items)) ≡ ran (accepted (length s)) (s ++ drop (length s) buf)
+    → writeAll buf (f .kind) (f .card) (f .sequence) (map whole (f .items)) ≡ callsDone (accepted (length s)) (s ++ drop (length s) buf)
 same-bytes = rewritten
 
 -- and these speak of something: of every kind, card and sequence word the frame without items is legal
@@ -76,7 +76,7 @@ some-legal = refusals.empty-legal
 
 -- What is told of an item is its words: the first of its class's printed range with the fields of its column "Content, high bits first", and the
 -- words after it. So no content is answered in another's place.
-pub items-are-told : (x : Item) (next : ℕ) → toldWords (toldOf x next) ≡ wordsOf x
+pub items-are-told : (x : Item) (next : ℕ) → answerWords (itemAnswerOf x next) ≡ wordsOf x
 items-are-told = handing.told-words
 
 -- What `item` and `text` answer of an item, handed to `add` or `add_text`, is that item; and nothing else that is handed over is.
@@ -94,18 +94,18 @@ pub read-refused-exactly : (s : List ℕ) → Bytes s → (n p : ℕ) → (readO
 read-refused-exactly = handing.read-refused
 
 -- "and then read as the one kind, card, sequence word and list of items it stands for": the answers are those of its items,
-pub read-as-its-items : (s : List ℕ) → Bytes s → (o : Overview) (a : StandsFor s o) (xs : List Told) → Answers s 0 xs → length xs ≡ o .items
+pub read-as-its-items : (s : List ℕ) → Bytes s → (o : Overview) (a : StandsFor s o) (xs : List ItemAnswer) → Answers s 0 xs → length xs ≡ o .items
     → map callOf xs ≡ map handOver (a .frame .items)
 read-as-its-items = handing.its-items
 
 -- two callers are answered the same,
-pub one-list-of-answers : (s : List ℕ) (n : ℕ) (xs ys : List Told) → Answers s n xs → Answers s n ys → length xs ≡ length ys → xs ≡ ys
+pub one-list-of-answers : (s : List ℕ) (n : ℕ) (xs ys : List ItemAnswer) → Answers s n xs → Answers s n ys → length xs ≡ length ys → xs ≡ ys
 one-list-of-answers s n xs ys = handing.told-once
 
 -- and where `read` accepts,
 module _ (s : List ℕ) (o : Overview) (read : readOf s ≡ accepted o) where
   -- "The item at ordinal n (from 0) answers with its class and content" (T10), for each of the items that `read` counts, and for no further one;
-  pub all-items-are-answered : (xs : List Told) × Answers s 0 xs × (length xs ≡ o .items)
+  pub all-items-are-answered : (xs : List ItemAnswer) × Answers s 0 xs × (length xs ≡ o .items)
   all-items-are-answered = handing.all-answered s o read
 
   pub each-item-is-answered : (n : ℕ) → n < o .items → (x : Shown) × (shownAt s n ≡ accepted x)
@@ -114,9 +114,9 @@ module _ (s : List ℕ) (o : Overview) (read : readOf s ≡ accepted o) where
   pub no-further-item : (n : ℕ) → o .items ≤ n → shownAt s n ≡ refused 13 0
   no-further-item = handing.no-further s o read
 
-  module _ (xs : List Told) (answers : Answers s 0 xs) (count : length xs ≡ o .items) where
+  module _ (xs : List ItemAnswer) (answers : Answers s 0 xs) (count : length xs ≡ o .items) where
     -- with "the index of the next item or end word": behind the first three words and those of the items so far;
-    pub next-index : (before after : List Told) (x : Told) → xs ≡ before ++ (x ∷ after) → x .answer .next ≡ 3 + length (allTold (before ++ (x ∷ [])))
+    pub next-index : (before after : List ItemAnswer) (x : ItemAnswer) → xs ≡ before ++ (x ∷ after) → x .answer .next ≡ 3 + length (allAnswerWords (before ++ (x ∷ [])))
     next-index = handing.told-next s o read xs answers count
 
     -- and the answers say every byte of the frame.
@@ -125,12 +125,12 @@ module _ (s : List ℕ) (o : Overview) (read : readOf s ≡ accepted o) where
 
     -- "an accepted frame written again has the same bytes" (T20): begin, add, add_text and close, handed what read, item and text answered
     pub copied-by-calls : Bytes s → (buf : List ℕ) → length s ≤ length buf
-        → writeCalls buf (o .kind) (o .card) (o .sequence) (map callOf xs) ≡ ran (accepted (length s)) (s ++ drop (length s) buf)
+        → writeCalls buf (o .kind) (o .card) (o .sequence) (map callOf xs) ≡ callsDone (accepted (length s)) (s ++ drop (length s) buf)
     copied-by-calls = handing.copied s o read xs answers count
 
 -- "Every list that the rules allow can be written, if it fits", by calls of add and add_text (T18, T18b),
 pub every-list-is-written-by-calls : (f : Frame) → Legal f → (buf : List ℕ) → length (encode f) ≤ length buf
-    → writeCalls buf (f .kind) (f .card) (f .sequence) (map handOver (f .items)) ≡ ran (accepted (length (encode f))) (encode f ++ drop (length (encode f)) buf)
+    → writeCalls buf (f .kind) (f .card) (f .sequence) (map handOver (f .items)) ≡ callsDone (accepted (length (encode f))) (encode f ++ drop (length (encode f)) buf)
 every-list-is-written-by-calls = handing.calls-written
 
 pub only-room-by-calls : (f : Frame) → f .card ≤ 31 → f .sequence ≤ 0x0100 → Sound (f .kind) (f .card) [] (f .items) → (buf : List ℕ)
@@ -140,5 +140,5 @@ only-room-by-calls = handing.calls-too-short
 -- "and reads back as itself" (T19): whatever a run of calls accepts is a legal frame of the items handed over, of which the questions answer just
 -- what was handed over
 pub calls-read-back : (buf : List ℕ) (kind : Kind) (card sequence : ℕ) (cs : List Call) (m : ℕ) (left : List ℕ)
-    → writeCalls buf kind card sequence cs ≡ ran (accepted m) left → CallsWrote buf kind card sequence cs m left
+    → writeCalls buf kind card sequence cs ≡ callsDone (accepted m) left → CallsWrote buf kind card sequence cs m left
 calls-read-back = handing.calls-wrote

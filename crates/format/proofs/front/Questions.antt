@@ -16,7 +16,7 @@ use Rattle.format.specs.Frames.{Frame, allWords, verdict}
 use Rattle.format.specs.Questions.{Event, itemAt, shown, shownAt, textAt, eventAt, samplesAt, samplesLeft, countsAt, countsLeft}
 use Rattle.format.specs.Cursor.{Meets}
 use Rattle.format.specs.Stands.{ItemIs, indexOf, EventIn, ChannelIn, HistogramIn, SampleIn, BinIn, Fill, sampleOrdinal, binOrdinal}
-use Rattle.format.proofs.CursorLaws as cursor
+use Rattle.format.proofs.reader.CursorLaws as cursor
 use Rattle.format.proofs.questions.ItemQuestions as items
 use Rattle.format.proofs.questions.EventQuestions as events
 use Rattle.format.proofs.questions.FillQuestions as fill

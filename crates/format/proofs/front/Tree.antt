@@ -8,7 +8,7 @@ use mathlib.Core.Bool.{true}
 use mathlib.Core.Logic.{_↔_}
 use Rattle.format.specs.Items.{Item}
 use Rattle.format.specs.Rules.{Kind, mayEnd}
-use Rattle.format.specs.Frames.{Frame, behind, Sound, Legal}
+use Rattle.format.specs.Frames.{Frame, earlierThen, Sound, Legal}
 use Rattle.format.specs.Tree.{Tree, leaves, Lawful, TreeOf}
 use Rattle.format.proofs.tree.TreeLaws as law
 
@@ -17,15 +17,15 @@ pub one-tree : (kind : Kind) (t u : Tree kind) → leaves kind t ≡ leaves kind
 one-tree = law.one-tree
 
 -- the leaves of a lawful tree are sound, and end outside an event
-pub of-tree : (kind : Kind) (card : ℕ) (tree : Tree kind) → Lawful kind card tree → Sound kind card [] (leaves kind tree) × (mayEnd (behind [] (leaves kind tree)) ≡ true)
+pub of-tree : (kind : Kind) (card : ℕ) (tree : Tree kind) → Lawful kind card tree → Sound kind card [] (leaves kind tree) × (mayEnd (earlierThen [] (leaves kind tree)) ≡ true)
 of-tree = law.of-tree
 
 -- and such a list is the leaves of a lawful tree
-pub tree-of : (kind : Kind) (card : ℕ) (xs : List Item) → Sound kind card [] xs → mayEnd (behind [] xs) ≡ true → TreeOf kind card xs
+pub tree-of : (kind : Kind) (card : ℕ) (xs : List Item) → Sound kind card [] xs → mayEnd (earlierThen [] xs) ≡ true → TreeOf kind card xs
 tree-of = law.tree-of
 
 -- T6b, both ways; by `one-tree` the tree is the only one
-pub as-tree : (kind : Kind) (card : ℕ) (xs : List Item) → (Sound kind card [] xs × (mayEnd (behind [] xs) ≡ true)) ↔ TreeOf kind card xs
+pub as-tree : (kind : Kind) (card : ℕ) (xs : List Item) → (Sound kind card [] xs × (mayEnd (earlierThen [] xs) ≡ true)) ↔ TreeOf kind card xs
 as-tree = law.as-tree
 
 -- so the items of every legal frame are a lawful tree's

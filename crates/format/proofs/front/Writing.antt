@@ -11,10 +11,10 @@ use Rattle.format.specs.Words.{Bytes, bytes}
 use Rattle.format.specs.Answers.{Outcome, accepted, refused}
 use Rattle.format.specs.Items.{ItemOf, Item, wordsOf, Token, whole}
 use Rattle.format.specs.Rules.{Kind}
-use Rattle.format.specs.Frames.{Frame, behind, Sound, allWords, encode, Legal, verdict}
+use Rattle.format.specs.Frames.{Frame, earlierThen, Sound, allWords, encode, Legal, verdict}
 use Rattle.format.specs.Writing.{Partial, partialWords, partialVerdict, beginAnswer, beginLeft, given, addAnswer, addLeft, closeAnswer, closeLeft}
-use Rattle.format.specs.WriterCases.{PartialAnswer, content, withItem, framed, Ends, oneOf, PartialRefused, Begin, handed, Add, Short, Close, Holds, RunWrote}
-use Rattle.format.specs.Runs.{ran, writeAll}
+use Rattle.format.specs.WriterCases.{PartialAnswer, content, withItem, framed, Ends, oneOf, PartialRefused, Begin, handed, Add, Short, Close, Holds, WritingDone}
+use Rattle.format.specs.WriterCalls.{callsDone, writeAll}
 use Rattle.format.proofs.verdict.RefusalLaws.{empty-legal}
 use Rattle.format.proofs.writer.PartialRefusals.{partial-exactly}
 use Rattle.format.proofs.rules.SoundLaws.{sound-left}
@@ -23,7 +23,7 @@ use Rattle.format.proofs.writer.WriterLaws.{begin-exactly, add-exactly,
 use Rattle.format.proofs.writer.StoreLaws.{begin-left, add-left, begin-found, add-found, close-found, begin-bytes, add-bytes, close-bytes, begin-kept, add-kept, close-kept}
 use Rattle.format.proofs.writer.WriterSteps.{begin-judged, add-judged, close-frame}
 use Rattle.format.proofs.writer.WriterNumbers.{partial-refused, partial-numbers, add-room, begin-numbers, given-handed, add-numbers, close-numbers}
-use Rattle.format.proofs.writer.Completeness.{written, too-short, run-wrote, rewritten}
+use Rattle.format.proofs.writer.Completeness.{written, too-short, writing-done, rewritten}
 
 -- T15. "Add and close first judge the partial frame by rules 1 to 10, with this length (even, at most the buffer's) and size word and without
 -- rule 5": it is accepted exactly where a sound list of items begins to be written so, and refused by the first broken rule of 1 to 4, or "the first
@@ -39,7 +39,7 @@ partial-refusal = partial-refused
 pub continues : (kind : Kind) (card : ℕ) (xs : List Item) → length (allWords xs) ≤ 4092 → Sound kind card [] xs ↔ Ends kind card xs
 continues = no-dead-end
 
-pub partial-continues : (buf : List ℕ) → Bytes buf → (n : ℕ) (f : Partial) → partialVerdict buf n ≡ accepted f → Ends (f .kind) (f .card) (behind [] (f .earlier))
+pub partial-continues : (buf : List ℕ) → Bytes buf → (n : ℕ) (f : Partial) → partialVerdict buf n ≡ accepted f → Ends (f .kind) (f .card) (earlierThen [] (f .earlier))
 partial-continues = partial-ends
 
 pub first-part : (kind : Kind) (card : ℕ) (p xs ys : List Item) → Sound kind card p (xs ++ ys) → Sound kind card p xs
@@ -78,7 +78,7 @@ pub close-answers : (buf : List ℕ) (n : ℕ) (o : Outcome ℕ) → (closeAnswe
 close-answers = close-exactly
 
 pub close-makes : (buf : List ℕ) → Bytes buf → (n : ℕ) (f : Partial) (m : ℕ) → partialVerdict buf n ≡ accepted f → closeAnswer buf n ≡ accepted m
-    → Holds buf (closeLeft buf n) (framed f (behind [] (f .earlier))) m
+    → Holds buf (closeLeft buf n) (framed f (earlierThen [] (f .earlier))) m
 close-makes = close-frame
 
 -- there are legal frames of every kind, card and sequence word, so that what follows speaks of something
@@ -87,7 +87,7 @@ some-are-legal = empty-legal
 
 -- T18. "Every list that the rules allow can be written, if it fits": begin, one add for each item in order, close
 pub every-frame-is-written : (f : Frame) → Legal f → (buf : List ℕ) → length (encode f) ≤ length buf
-    → writeAll buf (f .kind) (f .card) (f .sequence) (map whole (f .items)) ≡ ran (accepted (length (encode f))) (encode f ++ drop (length (encode f)) buf)
+    → writeAll buf (f .kind) (f .card) (f .sequence) (map whole (f .items)) ≡ callsDone (accepted (length (encode f))) (encode f ++ drop (length (encode f)) buf)
 every-frame-is-written = written
 
 -- and that it does not fit, the buffer or a frame, is the only reason against
@@ -97,12 +97,12 @@ only-room = too-short
 
 -- T19. Whatever such a run accepts is a legal frame of exactly the items added, in order, and reads back as it
 pub only-frames-are-written : (buf : List ℕ) (kind : Kind) (card sequence : ℕ) (ts : List Token) (m : ℕ) (left : List ℕ)
-    → writeAll buf kind card sequence ts ≡ ran (accepted m) left → RunWrote buf kind card sequence ts m left
-only-frames-are-written = run-wrote
+    → writeAll buf kind card sequence ts ≡ callsDone (accepted m) left → WritingDone buf kind card sequence ts m left
+only-frames-are-written = writing-done
 
 -- T20. A frame that is read and "written again has the same bytes"
 pub same-bytes : (s : List ℕ) → Bytes s → (f : Frame) → verdict s ≡ accepted f → (buf : List ℕ) → length s ≤ length buf
-    → writeAll buf (f .kind) (f .card) (f .sequence) (map whole (f .items)) ≡ ran (accepted (length s)) (s ++ drop (length s) buf)
+    → writeAll buf (f .kind) (f .card) (f .sequence) (map whole (f .items)) ≡ callsDone (accepted (length s)) (s ++ drop (length s) buf)
 same-bytes = rewritten
 
 -- T33. "Every refusal leaves all lent memory as found"

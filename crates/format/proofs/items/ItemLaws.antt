@@ -14,7 +14,7 @@ use lib.Seq.{take-at, drop-at, length-take-le}
 use borrow.Author.Tests.{leb-true, eqb-true, le-leb, lt-ltb}
 use Rattle.format.specs.Words.{pick, words, bytes, longOf, timeOf, longWords, timeWords, nonZero}
 use Rattle.format.specs.Book.{Class, channel, histogram, hitCount, sample, bin, lastCell, timeBin, dataFrame, monitorFrame, commandFrame, text, startEvent, endEvent, frameEnd, unassigned, classOf, after, assigned}
-use Rattle.format.specs.Items.{ItemOf, Item, Channel, Histogram, HitCount, Sample, Bin, LastCell, TimeBin, Text, StartEvent, EndEvent, classFor, three, wordsOf, fits, decode, Token, whole, flawed, tokenFor, tokenOf, tokens}
+use Rattle.format.specs.Items.{ItemOf, Item, Channel, Histogram, HitCount, Sample, Bin, LastCell, TimeBin, Text, StartEvent, EndEvent, classFor, headerBits, wordsOf, fits, decode, Token, whole, flawed, tokenFor, tokenOf, tokens}
 use Rattle.format.specs.Fields.{Read}
 use Rattle.format.proofs.book.PrefixLaws.{and-left, and-right, and-both}
 use Rattle.format.proofs.book.BookLaws.{ranged, in-range}
@@ -23,7 +23,7 @@ use Rattle.format.proofs.items.TextLaws.{are-bytes, bytes-are, text-the
 
 -- three fields of a word below its head: card 5, chip 2, and 7 bits
 three-there : (h a b c : ℕ) → h % 16384 ≡ 0 → leb a 31 && leb b 3 && leb c 127 ≡ true
-    → (((h + three a b c) / 512 % 32 ≡ a) × ((h + three a b c) / 128 % 4 ≡ b)) × (((h + three a b c) % 128 ≡ c) × (three a b c < 16384))
+    → (((h + headerBits a b c) / 512 % 32 ≡ a) × ((h + headerBits a b c) / 128 % 4 ≡ b)) × (((h + headerBits a b c) % 128 ≡ c) × (headerBits a b c < 16384))
 three-there h a b c e f =
     let g = and-left (leb a 31 && leb b 3) (leb c 127) f in
     let p : a ≤ 31 = leb-true a 31 (and-left (leb a 31) (leb b 3) g) in
@@ -32,10 +32,10 @@ three-there h a b c e f =
     ((omega arith, omega arith), (omega arith, omega arith))
 
 -- the parts of 14 bits, apart from the word that they come from, so that omega has few quotients at a time
-three-parts : (w h m n a b c : ℕ) → w ≡ h + m → m ≡ a * 512 + n → n ≡ b * 128 + c → w ≡ h + three a b c
+three-parts : (w h m n a b c : ℕ) → w ≡ h + m → m ≡ a * 512 + n → n ≡ b * 128 + c → w ≡ h + headerBits a b c
 three-parts w h m n a b c e f g = omega arith
 
-three-back : (h w : ℕ) → h ≤ w → w < h + 16384 → h % 16384 ≡ 0 → w ≡ h + three (w / 512 % 32) (w / 128 % 4) (w % 128)
+three-back : (h w : ℕ) → h ≤ w → w < h + 16384 → h % 16384 ≡ 0 → w ≡ h + headerBits (w / 512 % 32) (w / 128 % 4) (w % 128)
 three-back h w p q e = three-parts w h (w % 16384) (w % 512) (w / 512 % 32) (w / 128 % 4) (w % 128) (omega arith) (mod-pow-add w 5 9) (mod-pow-add w 2 7)
 
 three-fits : (w : ℕ) → leb (w / 512 % 32) 31 && leb (w / 128 % 4) 3 && leb (w % 128) 127 ≡ true
@@ -53,13 +53,13 @@ written : (x : Item) → fits x ≡ true → (w : ℕ) × (ws : List ℕ) × Wri
 unfolding wordsOf decode
 written (Channel a b c) f =
     let ((p, q), (r, l)) = three-there 0xC000 a b c refl f in
-    (0xC000 + three a b c, [], record { words = refl; class = in-range _ 0 (lit< tt) (omega arith, omega arith); count = refl; read = rw (p, q, r) })
+    (0xC000 + headerBits a b c, [], record { words = refl; class = in-range _ 0 (lit< tt) (omega arith, omega arith); count = refl; read = rw (p, q, r) })
 written (Histogram a b c) f =
     let ((p, q), (r, l)) = three-there 0x8000 a b c refl f in
-    (0x8000 + three a b c, [], record { words = refl; class = in-range _ 1 (lit< tt) (omega arith, omega arith); count = refl; read = rw (p, q, r) })
+    (0x8000 + headerBits a b c, [], record { words = refl; class = in-range _ 1 (lit< tt) (omega arith, omega arith); count = refl; read = rw (p, q, r) })
 written (HitCount a b c) f =
     let ((p, q), (r, l)) = three-there 0x4000 a b c refl f in
-    (0x4000 + three a b c, [], record { words = refl; class = in-range _ 2 (lit< tt) (omega arith, omega arith); count = refl; read = rw (p, q, r) })
+    (0x4000 + headerBits a b c, [], record { words = refl; class = in-range _ 2 (lit< tt) (omega arith, omega arith); count = refl; read = rw (p, q, r) })
 written (Sample v) f =
     let h : v ≤ 4095 = leb-true v 4095 f in
     let e : (0x3000 + v) % 4096 ≡ v = omega arith in
@@ -139,7 +139,7 @@ alone : (w : ℕ) (ws : List ℕ) → length ws ≡ 0 → w ∷ ws ≡ w ∷ []
 alone w [] e = refl
 alone w (v ∷ ws) e = absurd (omega arith)
 
-three-read : (h w : ℕ) (ws : List ℕ) → h ≤ w → w < h + 16384 → h % 16384 ≡ 0 → length ws ≡ 0 → w ∷ ws ≡ (h + three (w / 512 % 32) (w / 128 % 4) (w % 128)) ∷ []
+three-read : (h w : ℕ) (ws : List ℕ) → h ≤ w → w < h + 16384 → h % 16384 ≡ 0 → length ws ≡ 0 → w ∷ ws ≡ (h + headerBits (w / 512 % 32) (w / 128 % 4) (w % 128)) ∷ []
 three-read h w ws p q e n = alone w ws n ∙ ap (λ (v : ℕ). v ∷ []) (three-back h w p q e)
 
 one-read : (w v : ℕ) (ws : List ℕ) → w ≡ v → length ws ≡ 0 → w ∷ ws ≡ v ∷ []

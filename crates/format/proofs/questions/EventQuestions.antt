@@ -14,8 +14,8 @@ use Rattle.format.specs.Words.{pick, Bytes}
 use Rattle.format.specs.Answers.{Outcome, accepted, refused, andThen}
 use Rattle.format.specs.Book.{Class, startEvent, endEvent}
 use Rattle.format.specs.Items.{Item, StartEvent, EndEvent, classFor, wordsOf, inRange}
-use Rattle.format.specs.Rules.{Kind, dataKind, same, since, count, total, gather, first, inEvent, eventSize}
-use Rattle.format.specs.Frames.{Frame, Sound, behind, allWords, verdict}
+use Rattle.format.specs.Rules.{Kind, dataKind, same, since, count, total, gather, headOrZero, inEvent, eventSize}
+use Rattle.format.specs.Frames.{Frame, Sound, earlierThen, allWords, verdict}
 use Rattle.format.specs.Questions.{Event, Opened, opens, endSize, events, pickNth, present, eventAt}
 use Rattle.format.specs.Stands.{EventIn}
 use Rattle.format.proofs.book.PrefixLaws.{and-right}
@@ -35,7 +35,7 @@ index-nil at = omega arith
 
 -- what a Start event at word `at` opens
 abbrev pub opened : ℕ → ℕ → ℕ → ℕ → List Item → Opened
-opened at t ts n xs = record { event = record { kind = t; timestamp = ts; number = n; size = first (gather endSize xs); index = at }; items = xs }
+opened at t ts n xs = record { event = record { kind = t; timestamp = ts; number = n; size = headOrZero (gather endSize xs); index = at }; items = xs }
 
 -- there are as many as Start events
 events-count : (at : ℕ) (xs : List Item) → length (events at xs) ≡ count startEvent xs
@@ -64,7 +64,7 @@ record Begun (at : ℕ) (xs : List Item) (e : ℕ) (o : Opened) : Type 0 where
   items : xs ≡ before ++ (StartEvent (o .event .kind) (o .event .timestamp) (o .event .number) ∷ o .items)
   ordinal : count startEvent before ≡ e
   index : o .event .index ≡ at + length (allWords before)
-  size : o .event .size ≡ first (gather endSize (o .items))
+  size : o .event .size ≡ headOrZero (gather endSize (o .items))
 
 -- the same behind one more item
 later : (at e e′ : ℕ) (x : Item) (xs : List Item) (o : Opened) → tally (same startEvent (classFor x)) + e ≡ e′
@@ -170,7 +170,7 @@ ending (x ∷ xs) = go (seen x) (ending xs)
     go (other q) r = one-more (rw (q .no-end)) r
 
 -- its size is the first that the items give
-first-end : (between after : List Item) (m : ℕ) → count endEvent between ≡ 0 → first (gather endSize (between ++ (EndEvent m ∷ after))) ≡ m
+first-end : (between after : List Item) (m : ℕ) → count endEvent between ≡ 0 → headOrZero (gather endSize (between ++ (EndEvent m ∷ after))) ≡ m
 unfolding count gather
 first-end [] after m h = refl
 first-end (x ∷ xs) after m h = go (seen x) ∙ first-end xs after m (omega arith)
@@ -178,10 +178,10 @@ first-end (x ∷ xs) after m h = go (seen x) ∙ first-end xs after m (omega ari
     rest : List ℕ
     rest = gather endSize (xs ++ (EndEvent m ∷ after))
 
-    go : Seen x → first (endSize x ++ rest) ≡ first rest
-    go (starts t ts n i) = ap (λ (y : Item). first (endSize y ++ rest)) i
+    go : Seen x → headOrZero (endSize x ++ rest) ≡ headOrZero rest
+    go (starts t ts n i) = ap (λ (y : Item). headOrZero (endSize y ++ rest)) i
     go (ends n i) = let a : tally (same endEvent (classFor x)) ≡ 1 = rw i in absurd (omega arith)
-    go (other q) = ap (λ (l : List ℕ). first (l ++ rest)) (q .no-size)
+    go (other q) = ap (λ (l : List ℕ). headOrZero (l ++ rest)) (q .no-size)
 
 -- ---- T12, of the items of a legal frame
 
@@ -218,15 +218,15 @@ answered xs e v h = go (pickNth e (events 3 xs)) refl h
         inner : (a b : Event) → accepted a ≡ accepted b → a ≡ b
         inner a b j = cc
 
-module _ (kind : Kind) (card : ℕ) (xs : List Item) (sound : Sound kind card [] xs) (closed : inEvent (behind [] xs) ≡ false) where
+module _ (kind : Kind) (card : ℕ) (xs : List Item) (sound : Sound kind card [] xs) (closed : inEvent (earlierThen [] xs) ≡ false) where
   -- behind a Start event an End event comes
   comes : (before rest : List Item) (t ts n : ℕ) → xs ≡ before ++ (StartEvent t ts n ∷ rest) → count endEvent rest ≡ 0 → ⊥
-  unfolding behind
+  unfolding earlierThen
   comes before rest t ts n e h =
       true≢false
-      (sym (stays-open (StartEvent t ts n ∷ behind [] before) rest (open-start t ts n (behind [] before)) h)
+      (sym (stays-open (StartEvent t ts n ∷ earlierThen [] before) rest (open-start t ts n (earlierThen [] before)) h)
       ∙ sym (ap (λ (l : List Item). inEvent l) (behind-append [] before (StartEvent t ts n ∷ rest)))
-      ∙ sym (ap (λ (l : List Item). inEvent (behind [] l)) e) ∙ closed)
+      ∙ sym (ap (λ (l : List Item). inEvent (earlierThen [] l)) e) ∙ closed)
 
   found-in : (e : ℕ) (o : Opened) → Begun 3 xs e o → EventIn xs e (o .event)
   found-in e o b = go (ending (o .items))
@@ -237,7 +237,7 @@ module _ (kind : Kind) (card : ℕ) (xs : List Item) (sound : Sound kind card []
       go : Ending (o .items) → EventIn xs e (o .event)
       go (never h) = absurd (comes (b .before) (o .items) (v .kind) (v .timestamp) (v .number) (b .items) h)
       go (at-last between m after i h) =
-          let z : m ≡ v .size = sym (b .size ∙ ap (λ (l : List Item). first (gather endSize l)) i ∙ first-end between after m h) in
+          let z : m ≡ v .size = sym (b .size ∙ ap (λ (l : List Item). headOrZero (gather endSize l)) i ∙ first-end between after m h) in
           record {
             before = b .before;
             between = between;
@@ -262,7 +262,7 @@ module _ (kind : Kind) (card : ℕ) (xs : List Item) (sound : Sound kind card []
 
   -- the items between its Start event and its End event, as they stand in the frame
   pub between-sound : (e : ℕ) (v : Event) (h : EventIn xs e v)
-      → Sound kind card (StartEvent (v .kind) (v .timestamp) (v .number) ∷ behind [] (h .before)) (h .between ++ (EndEvent (v .size) ∷ h .after))
+      → Sound kind card (StartEvent (v .kind) (v .timestamp) (v .number) ∷ earlierThen [] (h .before)) (h .between ++ (EndEvent (v .size) ∷ h .after))
   between-sound e v h =
       sound-tail kind card _ _ _
       (sound-right kind card [] (h .before) _ (subst (Sound kind card []) (h .items) sound))
@@ -273,12 +273,12 @@ module _ (kind : Kind) (card : ℕ) (xs : List Item) (sound : Sound kind card []
   unfolding allWords wordsOf since total
   event-size e v h =
       let start : Item = StartEvent (v .kind) (v .timestamp) (v .number) in
-      let q : List Item = start ∷ behind [] (h .before) in
+      let q : List Item = start ∷ earlierThen [] (h .before) in
       let s = between-sound e v h in
       let a = sound-head kind card _ _ _ (sound-right kind card q (h .between) _ s) in
-      let z : v .size ≡ eventSize (behind q (h .between)) = eqb-true _ _ (and-right (inRange card (EndEvent (v .size))) _ (a .valued)) in
+      let z : v .size ≡ eventSize (earlierThen q (h .between)) = eqb-true _ _ (and-right (inRange card (EndEvent (v .size))) _ (a .valued)) in
       let n : count startEvent (h .between) ≡ 0 =
-      none-starts kind card q (h .between) (sound-left kind card q (h .between) _ s) (open-start (v .kind) (v .timestamp) (v .number) (behind [] (h .before))) (h .ended) in
+      none-starts kind card q (h .between) (sound-left kind card q (h .between) _ s) (open-start (v .kind) (v .timestamp) (v .number) (earlierThen [] (h .before))) (h .ended) in
       let t = total-since q (h .between) n in
       let w = ap length (all-words (h .between) (EndEvent (v .size) ∷ [])) in
       let u = length-append (allWords (h .between)) (allWords (EndEvent (v .size) ∷ [])) in
@@ -287,7 +287,7 @@ module _ (kind : Kind) (card : ℕ) (xs : List Item) (sound : Sound kind card []
   -- as many Start events as End events
   pub starts-ends : count startEvent xs ≡ count endEvent xs
   starts-ends =
-      let o : tally (inEvent (behind [] xs)) ≡ 0 = ap (λ (b : Bool). tally b) closed in
+      let o : tally (inEvent (earlierThen [] xs)) ≡ 0 = ap (λ (b : Bool). tally b) closed in
       let i : tally (inEvent []) ≡ 0 = ap (λ (b : Bool). tally b) open-nil in
       omega (arith, balance kind card [] xs sound)
 
@@ -322,7 +322,7 @@ event-refused s k p v e = rw v
 -- what an accepted frame's items are
 pub record Sounds (f : Frame) : Type 0 where
   pub sound : Sound (f .kind) (f .card) [] (f .items)
-  pub closed : inEvent (behind [] (f .items)) ≡ false
+  pub closed : inEvent (earlierThen [] (f .items)) ≡ false
 
 pub sounds : (s : List ℕ) → Bytes s → (f : Frame) → verdict s ≡ accepted f → Sounds f
 sounds s bs f v =

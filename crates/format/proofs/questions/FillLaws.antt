@@ -12,7 +12,7 @@ use borrow.Author.Tests.{leb-true, le-leb, ltb-true}
 use Rattle.format.specs.Words.{pick}
 use Rattle.format.specs.Book.{Class, channel, histogram, sample, bin, timeBin, text, startEvent}
 use Rattle.format.specs.Items.{Item, Channel, Histogram, HitCount, Sample, Bin, LastCell, TimeBin, Text, StartEvent, EndEvent}
-use Rattle.format.specs.Rules.{Kind, dataKind, monitorKind, commandKind, same, since, before, count, has, latest, gather, binNumber, above, time, lastTime, within, outside, allowed, among, place, inEvent}
+use Rattle.format.specs.Rules.{Kind, dataKind, monitorKind, commandKind, same, since, before, count, has, latest, gather, binNumber, above, time, lastTime, insideAfter, outside, allowed, among, place, inEvent}
 use Rattle.format.specs.Frames.{Allowed, Sound}
 use Rattle.format.specs.Questions.{fillSamples, fillCounts}
 use Rattle.format.proofs.rules.LimitLaws.{allowed-limits}
@@ -82,12 +82,12 @@ counts-filled (EndEvent n ∷ xs) l = refl
 
 -- a class that has no place behind another, in any kind of frame
 pub no-place : (kind : Kind) (p : List Item) (c d : Class) → latest p ≡ c
-    → among d (allowed (within c)) ≡ false → among d (startEvent ∷ []) ≡ false → same d histogram || same d bin ≡ false → among d (text ∷ []) ≡ false
+    → among d (allowed (insideAfter c)) ≡ false → among d (startEvent ∷ []) ≡ false → same d histogram || same d bin ≡ false → among d (text ∷ []) ≡ false
     → place kind p d ≡ true → ⊥
 no-place dataKind p c d e f g h t i = go (inEvent p) i
   where
-    go : (b : Bool) → among d (allowed (pick b (within (latest p)) outside)) ≡ true → ⊥
-    go true j = true≢false (sym j ∙ ap (λ (c : Class). among d (allowed (within c))) e ∙ f)
+    go : (b : Bool) → among d (allowed (pick b (insideAfter (latest p)) outside)) ≡ true → ⊥
+    go true j = true≢false (sym j ∙ ap (λ (c : Class). among d (allowed (insideAfter c))) e ∙ f)
     go false j = true≢false (sym j ∙ g)
 no-place monitorKind p c d e f g h t i = true≢false (sym (monitor-place p d i) ∙ h)
 no-place commandKind p c d e f g h t i = true≢false (sym i ∙ t)

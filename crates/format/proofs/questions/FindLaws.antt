@@ -16,7 +16,7 @@ use Rattle.format.specs.Answers.{Outcome, accepted, refused, andThen}
 use Rattle.format.specs.Book.{startEvent, endEvent}
 use Rattle.format.specs.Items.{Item, Channel, Histogram, HitCount, Sample, Bin, LastCell, TimeBin, Text, StartEvent, EndEvent, classFor}
 use Rattle.format.specs.Rules.{Kind, same, count, inEvent}
-use Rattle.format.specs.Frames.{Sound, behind}
+use Rattle.format.specs.Frames.{Sound, earlierThen}
 use Rattle.format.specs.Questions.{Event, Opened, events, pickNth, present, until, past, isChannel, isHistogram, channelIn}
 use Rattle.format.specs.Stands.{EventIn, ChannelIn, HistogramIn}
 use Rattle.format.proofs.book.PrefixLaws.{and-left, and-right, and-both}
@@ -157,10 +157,10 @@ absent-where o P there back f = (λ e ys h. both ys e (there ys h), λ n. go n f
     go n (finds ys e) = absurd (n ys (back ys e))
     go n (missing e) = e
 
-module _ (kind : Kind) (card : ℕ) (xs : List Item) (sound : Sound kind card [] xs) (closed : inEvent (behind [] xs) ≡ false) (e chip c : ℕ) where
+module _ (kind : Kind) (card : ℕ) (xs : List Item) (sound : Sound kind card [] xs) (closed : inEvent (earlierThen [] xs) ≡ false) (e chip c : ℕ) where
   -- the items before those between an event's Start event and End event
   abbrev earlier : (v : Event) → EventIn xs e v → List Item
-  earlier v h = StartEvent (v .kind) (v .timestamp) (v .number) ∷ behind [] (h .before)
+  earlier v h = StartEvent (v .kind) (v .timestamp) (v .number) ∷ earlierThen [] (h .before)
 
   inside : (v : Event) (h : EventIn xs e v) → Sound kind card (earlier v h) (h .between)
   inside v h = sound-left kind card (earlier v h) (h .between) (EndEvent (v .size) ∷ h .after) (between-sound kind card xs sound closed e v h)
@@ -170,11 +170,11 @@ module _ (kind : Kind) (card : ℕ) (xs : List Item) (sound : Sound kind card []
   unfolding count
   no-second v h l m r a a′ i =
       let n : count startEvent (h .between) ≡ 0 =
-      none-starts kind card (earlier v h) (h .between) (inside v h) (open-start (v .kind) (v .timestamp) (v .number) (behind [] (h .before))) (h .ended) in
+      none-starts kind card (earlier v h) (h .between) (inside v h) (open-start (v .kind) (v .timestamp) (v .number) (earlierThen [] (h .before))) (h .ended) in
       let j = ap (count startEvent) i in
       let k = count-append startEvent l (Channel a chip c ∷ (m ++ (Channel a′ chip c ∷ r))) in
       let q = count-append startEvent m (Channel a′ chip c ∷ r) in
-      one-channel kind card (behind (earlier v h) l) m r a a′ chip c (omega arith)
+      one-channel kind card (earlierThen (earlier v h) l) m r a a′ chip c (omega arith)
       (sound-right kind card (earlier v h) l _ (subst (Sound kind card (earlier v h)) i (inside v h)))
 
   is-there : (a : ℕ) → isChannel chip c (Channel a chip c) ≡ true
@@ -240,7 +240,7 @@ module _ (kind : Kind) (card : ℕ) (xs : List Item) (sound : Sound kind card []
       )
 
   -- the items behind the header, as they stand in the frame
-  pub channel-sound : (ys : List Item) (h : ChannelIn xs e chip c ys) → Sound kind card (Channel (h .card) chip c ∷ behind (earlier (h .event) (h .within)) (h .left)) ys
+  pub channel-sound : (ys : List Item) (h : ChannelIn xs e chip c ys) → Sound kind card (Channel (h .card) chip c ∷ earlierThen (earlier (h .event) (h .within)) (h .left)) ys
   channel-sound ys h =
       sound-tail kind card _ _ _
       (sound-right kind card (earlier (h .event) (h .within)) (h .left) _
@@ -250,7 +250,7 @@ module _ (kind : Kind) (card : ℕ) (xs : List Item) (sound : Sound kind card []
 
 module _ (kind : Kind) (card : ℕ) (xs : List Item) (sound : Sound kind card [] xs) (chip c : ℕ) where
   one-header : (l m r : List Item) (a a′ : ℕ) → xs ≡ l ++ (Histogram a chip c ∷ (m ++ (Histogram a′ chip c ∷ r))) → ⊥
-  one-header l m r a a′ i = one-histogram kind card (behind [] l) m r a a′ chip c (sound-right kind card [] l _ (subst (Sound kind card []) i sound))
+  one-header l m r a a′ i = one-histogram kind card (earlierThen [] l) m r a a′ chip c (sound-right kind card [] l _ (subst (Sound kind card []) i sound))
 
   pub histogram-there : (ys : List Item) → HistogramIn xs chip c ys → present (past (isHistogram chip c) xs) ≡ accepted ys
   histogram-there ys h =
@@ -283,5 +283,5 @@ module _ (kind : Kind) (card : ℕ) (xs : List Item) (sound : Sound kind card []
       let i : ys ≡ ys′ = is-one ys ys′ (sym (histogram-there ys h) ∙ histogram-there ys′ h′) in
       (one-split (h .left) (h′ .left) (Histogram (h .card) chip c) (Histogram (h′ .card) chip c) ys ys′ i (sym (h .header) ∙ h′ .header), i)
 
-  pub histogram-sound : (ys : List Item) (h : HistogramIn xs chip c ys) → Sound kind card (Histogram (h .card) chip c ∷ behind [] (h .left)) ys
+  pub histogram-sound : (ys : List Item) (h : HistogramIn xs chip c ys) → Sound kind card (Histogram (h .card) chip c ∷ earlierThen [] (h .left)) ys
   histogram-sound ys h = sound-tail kind card _ _ _ (sound-right kind card [] (h .left) _ (subst (Sound kind card []) (h .header) sound))

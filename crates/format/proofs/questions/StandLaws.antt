@@ -106,7 +106,7 @@ sample-mark ys t v h =
     ∙ before-marks 0 t v (h .time) (h .before) (h .run) (h .after) (h .same-channel) (h .samples) (h .at)
 
 -- a mark is of a Sample behind a Time bin, or of one before any, the first of which would be at time u
-record RunIn (u : ℕ) (ys : List Item) (t v : ℕ) : Type 0 where
+record StretchIn (u : ℕ) (ys : List Item) (t v : ℕ) : Type 0 where
   run : List Item
   after : List Item
   items : ys ≡ run ++ (Sample v ∷ after)
@@ -127,7 +127,7 @@ one-more x ys t v e h =
       at = h .at;
     }
 
-mark-in : (u k t v : ℕ) (ys : List Item) → MarkIs (sampleMarks u ys) k t v → RunIn u ys t v ⊎ SampleIn ys t v
+mark-in : (u k t v : ℕ) (ys : List Item) → MarkIs (sampleMarks u ys) k t v → StretchIn u ys t v ⊎ SampleIn ys t v
 unfolding sampleMarks pickNth only
 mark-in u k t v [] e = no-some (t, v) e
 mark-in u k t v (Channel a b c ∷ ys) e = no-some (t, v) e
@@ -141,14 +141,14 @@ mark-in u (suc k) t v (Sample w ∷ ys) e = go (mark-in (suc u) k t v ys e)
     later : (n : ℕ) → t ≡ suc u + n → t ≡ u + suc n
     later n h = omega arith
 
-    go : RunIn (suc u) ys t v ⊎ SampleIn ys t v → RunIn u (Sample w ∷ ys) t v ⊎ SampleIn (Sample w ∷ ys) t v
+    go : StretchIn (suc u) ys t v ⊎ SampleIn ys t v → StretchIn u (Sample w ∷ ys) t v ⊎ SampleIn (Sample w ∷ ys) t v
     go (inl r) = inl (record { run = Sample w ∷ r .run; after = r .after; items = ap (λ (l : List Item). Sample w ∷ l) (r .items); samples = r .samples; at = later (length (r .run)) (r .at) })
     go (inr h) = inr (one-more (Sample w) ys t v refl h)
 mark-in u k t v (Bin b n ∷ ys) e = no-some (t, v) e
 mark-in u k t v (LastCell a b ∷ ys) e = no-some (t, v) e
 mark-in u k t v (TimeBin w ∷ ys) e = go (mark-in w k t v ys e)
   where
-    go : RunIn w ys t v ⊎ SampleIn ys t v → RunIn u (TimeBin w ∷ ys) t v ⊎ SampleIn (TimeBin w ∷ ys) t v
+    go : StretchIn w ys t v ⊎ SampleIn ys t v → StretchIn u (TimeBin w ∷ ys) t v ⊎ SampleIn (TimeBin w ∷ ys) t v
     go (inl r) = inr (record { before = []; time = w; run = r .run; after = r .after; items = ap (λ (l : List Item). TimeBin w ∷ l) (r .items); same-channel = refl; samples = r .samples; at = r .at })
     go (inr h) = inr (one-more (TimeBin w) ys t v refl h)
 mark-in u k t v (Text s ∷ ys) e = no-some (t, v) e
@@ -171,7 +171,7 @@ sample-in kind card a b c k t v p ys s e = go (mark-in 0 k t v ys e)
         let (w, j) = as-sample x (and-left (among (classFor x) (sample ∷ [])) (only (sample ∷ []) run) o) in
         not-first w (run ++ (Sample v ∷ after)) (i ∙ ap (λ (y : Item). y ∷ (run ++ (Sample v ∷ after))) j)
 
-    go : RunIn 0 ys t v ⊎ SampleIn ys t v → SampleIn ys t v
+    go : StretchIn 0 ys t v ⊎ SampleIn ys t v → SampleIn ys t v
     go (inl r) = absurd (no-run (r .run) (r .after) (r .items) (r .samples))
     go (inr h) = h
 

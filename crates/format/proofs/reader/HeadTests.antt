@@ -13,8 +13,8 @@ use Rattle.format.specs.Answers.{Outcome, accepted, refused, andThen}
 use Rattle.format.specs.Book.{classOf}
 use Rattle.format.specs.Items.{Item}
 use Rattle.format.specs.Rules.{Kind, dataKind, monitorKind, commandKind, mayEnd}
-use Rattle.format.specs.Frames.{Frame, behind, startWord, kindOf, lengthFits, startFits, lastOf, headFault, kindIn, cardIn, front, body, walk, ending, judged, verdict}
-use Rattle.format.specs.Steps.{St, stateOf, indexIn, Summary, summary, summed, rest, Overview, overview, readOf, Indexed, indexOf}
+use Rattle.format.specs.Frames.{Frame, earlierThen, startWord, kindOf, lengthFits, startFits, lastOf, headFault, kindIn, cardIn, front, body, walk, ending, judged, verdict}
+use Rattle.format.specs.Steps.{ReaderState, stateOf, indexIn, Summary, summary, summed, rest, Overview, overview, readOf, Indexed, indexOf}
 use Rattle.format.proofs.verdict.HeadLaws.{Head, head-of, start-word, Starts, starts}
 
 -- ---- the start word: its kind and version are its high eleven bits

@@ -12,9 +12,9 @@ use Rattle.format.specs.Words.{pick, words, wordAt}
 use Rattle.format.specs.Answers.{Outcome, accepted, refused, andThen}
 use Rattle.format.specs.Book.{Class, channel, histogram, hitCount, sample, bin, lastCell, timeBin, dataFrame, monitorFrame, commandFrame, text, startEvent, endEvent, frameEnd, unassigned}
 use Rattle.format.specs.Items.{Item, Channel, Histogram, HitCount, Sample, Bin, LastCell, TimeBin, Text, StartEvent, EndEvent, classFor, wordsOf, Token}
-use Rattle.format.specs.Rules.{Kind, dataKind, monitorKind, commandKind, same, since, count, has, latest, inEvent, Where, within, outside, headed, unheaded, whereAfter, allowed, among, place, mayEnd}
-use Rattle.format.specs.Frames.{Frame, behind, lastOf, headFault, kindIn, cardIn, front, body, walk, ending, judged, verdict}
-use Rattle.format.specs.Steps.{St, stateOf, endedBy, indexIn, Summary, summary, summed, rest, Overview, overview, readOf, Indexed, indexOf}
+use Rattle.format.specs.Rules.{Kind, dataKind, monitorKind, commandKind, same, since, count, has, latest, inEvent, ReaderMode, insideAfter, outside, headed, unheaded, modeAfter, allowed, among, place, mayEnd}
+use Rattle.format.specs.Frames.{Frame, earlierThen, lastOf, headFault, kindIn, cardIn, front, body, walk, ending, judged, verdict}
+use Rattle.format.specs.Steps.{ReaderState, stateOf, endedBy, indexIn, Summary, summary, summed, rest, Overview, overview, readOf, Indexed, indexOf}
 use Rattle.format.proofs.verdict.WalkLaws.{Stepped, walk-step}
 use Rattle.format.proofs.verdict.Acceptance.{in-order, behind-behind, length-behind}
 
@@ -23,7 +23,7 @@ use Rattle.format.proofs.verdict.Acceptance.{in-order, behind-behind, l
 no : {A : Type 0} → false ≡ true → A
 no e = let z : _≡_ {A = ℕ} 0 1 = cc in absurd (omega arith)
 
-within-open : (c : Class) → endedBy (within c) ≡ false
+within-open : (c : Class) → endedBy (insideAfter c) ≡ false
 within-open channel = refl
 within-open histogram = refl
 within-open hitCount = refl
@@ -81,7 +81,7 @@ quiet kind card d (t ∷ ts) p q at e w =
     quiet kind card d ts (s .item ∷ p) q (at + length (wordsOf (s .item)))
     (quiet-item (s .item) p (not-start kind p (s .item) d (s .allowed .placed)) e) (s .rest)
 
-other-ended : (kind : Kind) (p : List Item) → (kind ≡ dataKind → ⊥) → endedBy (whereAfter kind p) ≡ true
+other-ended : (kind : Kind) (p : List Item) → (kind ≡ dataKind → ⊥) → endedBy (modeAfter kind p) ≡ true
 other-ended dataKind p d = absurd (d refl)
 other-ended monitorKind p d = go (same histogram (latest p) || same bin (latest p))
   where
@@ -90,14 +90,14 @@ other-ended monitorKind p d = go (same histogram (latest p) || same bin (latest 
     go false = refl
 other-ended commandKind p d = refl
 
-data-ended : (p : List Item) → endedBy (whereAfter dataKind p) ≡ mayEnd p
+data-ended : (p : List Item) → endedBy (modeAfter dataKind p) ≡ mayEnd p
 data-ended p = go (inEvent p)
   where
-    go : (b : Bool) → endedBy (pick b (within (latest p)) outside) ≡ not b
+    go : (b : Bool) → endedBy (pick b (insideAfter (latest p)) outside) ≡ not b
     go true = within-open (latest p)
     go false = refl
 
-pub may-end : (kind : Kind) (card at : ℕ) (ts : List Token) (p : List Item) → walk kind card [] at ts ≡ accepted p → endedBy (whereAfter kind p) ≡ mayEnd p
+pub may-end : (kind : Kind) (card at : ℕ) (ts : List Token) (p : List Item) → walk kind card [] at ts ≡ accepted p → endedBy (modeAfter kind p) ≡ mayEnd p
 unfolding since count
 may-end dataKind card at ts p w = data-ended p
 may-end monitorKind card at ts p w =
@@ -114,7 +114,7 @@ may-end commandKind card at ts p w =
 -- ---- the answers
 
 indexed : ℕ → Frame → Outcome Indexed
-indexed n f = accepted (record { frame = overview f; index = indexIn n (behind [] (f .items)) })
+indexed n f = accepted (record { frame = overview f; index = indexIn n (earlierThen [] (f .items)) })
 
 module _ (s : List ℕ) (n : ℕ) where
   pub head-refused : (k : ℕ) → k ≡ headFault s → (k ≡ 0 → ⊥) → refused k 0 ≡ indexOf s n
@@ -140,23 +140,23 @@ module _ (s : List ℕ) (n : ℕ) where
         go (refused j r) g = cc
 
     -- what a walk to the end tells
-    pub record Told (x : Summary) : Type 0 where
+    pub record WalkedThrough (x : Summary) : Type 0 where
       pub p : List Item
       pub walked : walk (kindIn s) (cardIn s) [] 3 (body s) ≡ accepted p
       pub is : x ≡ summary (kindIn s) n p
 
-    pub told : (x : Summary) → accepted x ≡ summed (kindIn s) (cardIn s) s (lastOf s) n → Told x
+    pub walked-through : (x : Summary) → accepted x ≡ summed (kindIn s) (cardIn s) s (lastOf s) n → WalkedThrough x
     unfolding summed
-    told x f = go (walk (kindIn s) (cardIn s) [] 3 (body s)) refl (f ∙ ap (λ (o : Outcome (List Item)). andThen o (λ p. accepted (summary (kindIn s) n p))) front-walk)
+    walked-through x f = go (walk (kindIn s) (cardIn s) [] 3 (body s)) refl (f ∙ ap (λ (o : Outcome (List Item)). andThen o (λ p. accepted (summary (kindIn s) n p))) front-walk)
       where
         inner : (x y : Summary) → accepted x ≡ accepted y → x ≡ y
         inner x y g = cc
 
-        go : (o : Outcome (List Item)) → walk (kindIn s) (cardIn s) [] 3 (body s) ≡ o → accepted x ≡ andThen o (λ p. accepted (summary (kindIn s) n p)) → Told x
+        go : (o : Outcome (List Item)) → walk (kindIn s) (cardIn s) [] 3 (body s) ≡ o → accepted x ≡ andThen o (λ p. accepted (summary (kindIn s) n p)) → WalkedThrough x
         go (accepted q) w g = record { p = q; walked = w; is = inner _ _ g }
         go (refused j r) w g = let z : _≡_ {A = ℕ} 0 1 = cc in absurd (omega arith)
 
-    module _ (x : Summary) (t : Told x) where
+    module _ (x : Summary) (t : WalkedThrough x) where
       ends : endedBy (x .state .mode) ≡ mayEnd (t .p)
       unfolding stateOf
       ends = ap (λ (y : Summary). endedBy (y .state .mode)) (t .is) ∙ may-end (kindIn s) (cardIn s) 3 (body s) (t .p) (t .walked)
@@ -169,9 +169,9 @@ module _ (s : List ℕ) (n : ℕ) where
           → accepted (record { frame = record { kind = kindIn s; card = cardIn s; sequence = wordAt s 2; items = x .count; state = x .state }; index = x .index }) ≡ indexOf s n
       unfolding indexOf judged
       all-read f =
-          let c : x .count ≡ length (behind [] (t .p)) = ap (λ (y : Summary). y .count) (t .is) ∙ sym (length-behind [] (t .p) ∙ omega arith) in
-          let i : x .index ≡ indexIn n (behind [] (behind [] (t .p))) = ap (λ (y : Summary). y .index) (t .is) ∙ ap (indexIn n) (sym (in-order (t .p))) in
-          let r : x .state ≡ stateOf (kindIn s) (behind [] (behind [] (t .p))) = ap (λ (y : Summary). y .state) (t .is) ∙ ap (stateOf (kindIn s)) (sym (in-order (t .p))) in
+          let c : x .count ≡ length (earlierThen [] (t .p)) = ap (λ (y : Summary). y .count) (t .is) ∙ sym (length-behind [] (t .p) ∙ omega arith) in
+          let i : x .index ≡ indexIn n (earlierThen [] (earlierThen [] (t .p))) = ap (λ (y : Summary). y .index) (t .is) ∙ ap (indexIn n) (sym (in-order (t .p))) in
+          let r : x .state ≡ stateOf (kindIn s) (earlierThen [] (earlierThen [] (t .p))) = ap (λ (y : Summary). y .state) (t .is) ∙ ap (stateOf (kindIn s)) (sym (in-order (t .p))) in
           rw (judged-here, t .walked, sym ends ∙ f)
           (λ j. accepted (record { frame = record { kind = kindIn s; card = cardIn s; sequence = wordAt s 2; items = c j; state = r j }; index = i j }))
 

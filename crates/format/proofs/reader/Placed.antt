@@ -13,7 +13,7 @@ use borrow.Author.Tests.{leb-true, leb-false, eq-eqb, ne-eqb}
 use Rattle.format.specs.Answers.{Outcome, accepted, refused, andThen}
 use Rattle.format.specs.Items.{Item, wordsOf, Token, whole}
 use Rattle.format.specs.Rules.{Kind, total}
-use Rattle.format.specs.Frames.{Frame, behind, allWords, lastOf, kindIn, cardIn, front, body, walk, verdict}
+use Rattle.format.specs.Frames.{Frame, earlierThen, allWords, lastOf, kindIn, cardIn, front, body, walk, verdict}
 use Rattle.format.specs.Questions.{Found, shown, nth, itemAt, shownAt, present}
 use Rattle.format.specs.Cursor.{standingAt, shownBy}
 use Rattle.format.specs.Steps.{tokenAt, nextAt, rest, indexIn, overview, Indexed, indexOf}
@@ -21,17 +21,17 @@ use Rattle.format.proofs.verdict.WalkLaws.{walk-step}
 use Rattle.format.proofs.verdict.Acceptance.{in-order, length-behind, verdict-of}
 use Rattle.format.proofs.reader.StepLaws.{rest-at, rest-empty, next-at}
 use Rattle.format.proofs.questions.ItemQuestions.{item-past, item-refused}
-use Rattle.format.proofs.CursorLaws.{standing-in, standing-early}
+use Rattle.format.proofs.reader.CursorLaws.{standing-in, standing-early}
 
 -- ---- what was walked through are whole items
 
 record Wholes (p : List Item) (ts : List Token) (q : List Item) : Type 0 where
   items : List Item
   tokens-are : ts ≡ map whole items
-  earlier : q ≡ behind p items
+  earlier : q ≡ earlierThen p items
 
 wholes : (kind : Kind) (card : ℕ) (ts : List Token) (p : List Item) (at : ℕ) (q : List Item) → walk kind card p at ts ≡ accepted q → Wholes p ts q
-unfolding walk behind
+unfolding walk earlierThen
 wholes kind card [] p at q e = record { items = []; tokens-are = refl; earlier = cc }
 wholes kind card (t ∷ ts) p at q e =
     let s = walk-step kind card p at t ts q e in
@@ -43,18 +43,18 @@ unfolding front
 body-whole s f v =
     let j = verdict-of s f v .judged in
     let w = wholes (kindIn s) (cardIn s) (body s) [] 3 (j .earlier) (j .walked) in
-    let i : behind [] (j .earlier) ≡ f .items = ap (λ (g : Frame). g .items) (j .ended .frame) in
-    w .tokens-are ∙ ap (map whole) (sym (in-order (w .items)) ∙ ap (behind []) (sym (w .earlier)) ∙ i)
+    let i : earlierThen [] (j .earlier) ≡ f .items = ap (λ (g : Frame). g .items) (j .ended .frame) in
+    w .tokens-are ∙ ap (map whole) (sym (in-order (w .items)) ∙ ap (earlierThen []) (sym (w .earlier)) ∙ i)
 
 -- ---- the index that was noted
 
-kept-index : (n : ℕ) (p xs : List Item) → n < length p → indexIn n (behind p xs) ≡ indexIn n p
-unfolding behind indexIn
+kept-index : (n : ℕ) (p xs : List Item) → n < length p → indexIn n (earlierThen p xs) ≡ indexIn n p
+unfolding earlierThen indexIn
 kept-index n p [] h = refl
 kept-index n p (x ∷ xs) h = kept-index n (x ∷ p) xs (omega arith) ∙ (rw (ne-eqb (length p) n (λ e. omega arith)))
 
-index-behind : (n : ℕ) (p xs : List Item) → n < length xs → indexIn (length p + n) (behind p xs) ≡ 3 + total p + length (allWords (take n xs))
-unfolding behind indexIn total allWords
+index-behind : (n : ℕ) (p xs : List Item) → n < length xs → indexIn (length p + n) (earlierThen p xs) ≡ 3 + total p + length (allWords (take n xs))
+unfolding earlierThen indexIn total allWords
 index-behind n p [] h = absurd (omega arith)
 index-behind zero p (x ∷ xs) h =
     let e : length p ≡ length p + 0 = omega arith in
@@ -62,14 +62,14 @@ index-behind zero p (x ∷ xs) h =
     kept-index (length p + 0) (x ∷ p) xs (omega arith) ∙ g ∙ omega arith
 index-behind (suc n) p (x ∷ xs) h =
     let e : length p + suc n ≡ length (x ∷ p) + n = omega arith in
-    ap (λ (k : ℕ). indexIn k (behind (x ∷ p) xs)) e ∙ index-behind n (x ∷ p) xs (omega arith)
+    ap (λ (k : ℕ). indexIn k (earlierThen (x ∷ p) xs)) e ∙ index-behind n (x ∷ p) xs (omega arith)
     ∙ omega (arith, length-append (wordsOf x) (allWords (take n xs)))
 
-index-all : (n : ℕ) (xs : List Item) → n < length xs → indexIn n (behind [] xs) ≡ 3 + length (allWords (take n xs))
+index-all : (n : ℕ) (xs : List Item) → n < length xs → indexIn n (earlierThen [] xs) ≡ 3 + length (allWords (take n xs))
 unfolding total
 index-all n xs h =
     let e : n ≡ length {A = Item} [] + n = omega arith in
-    ap (λ (k : ℕ). indexIn k (behind [] xs)) e ∙ index-behind n [] xs h
+    ap (λ (k : ℕ). indexIn k (earlierThen [] xs)) e ∙ index-behind n [] xs h
 
 none-noted : (n : ℕ) (p : List Item) → length p ≤ n → indexIn n p ≡ 0
 unfolding indexIn
@@ -148,7 +148,7 @@ pub record Placed (s : List ℕ) (n at : ℕ) : Type 0 where
   pub answer : itemAt s n ≡ accepted (record { item = item; next = nextAt s at })
 
 abbrev noting : ℕ → Frame → Indexed
-noting n f = record { frame = overview f; index = indexIn n (behind [] (f .items)) }
+noting n f = record { frame = overview f; index = indexIn n (earlierThen [] (f .items)) }
 
 module _ (s : List ℕ) (n : ℕ) where
   -- an accepted frame, of which the walk noted an index
@@ -191,7 +191,7 @@ module _ (s : List ℕ) (n : ℕ) where
     none-placed h =
         let o = noted i e in
         let c : i .frame .items ≡ length (o .frame .items) = ap (λ (j : Indexed). j .frame .items) (o .is) in
-        ap (λ (j : Indexed). j .index) (o .is) ∙ none-noted n (behind [] (o .frame .items)) (omega (arith, length-behind [] (o .frame .items)))
+        ap (λ (j : Indexed). j .index) (o .is) ∙ none-noted n (earlierThen [] (o .frame .items)) (omega (arith, length-behind [] (o .frame .items)))
 
     pub item-placed : n < i .frame .items → Placed s n (i .index)
     unfolding itemAt

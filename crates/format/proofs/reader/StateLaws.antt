@@ -12,8 +12,8 @@ use borrow.Author.Tests.{leb-true, leb-false, le-leb, lt-leb, ltb-true, ltb-fals
 use Rattle.format.specs.Words.{pick}
 use Rattle.format.specs.Book.{Class, channel, histogram, hitCount, sample, bin, lastCell, timeBin, dataFrame, monitorFrame, commandFrame, text, startEvent, endEvent, frameEnd, unassigned}
 use Rattle.format.specs.Items.{Item, Channel, Histogram, HitCount, Sample, Bin, LastCell, TimeBin, Text, StartEvent, EndEvent, classFor, wordsOf, key, Token, whole, broken, flawed}
-use Rattle.format.specs.Rules.{Kind, dataKind, monitorKind, commandKind, same, since, before, count, has, latest, total, gather, channelKey, histogramKey, binNumber, startTime, first, above, inEvent, time, lastTime, Where, outside, inside, afterChannel, afterTime, afterSample, unheaded, headed, commands, within, whereAfter, allowed, among, place, value, order, Checked, good, bad, check}
-use Rattle.format.specs.Steps.{St, aboveAll, openerAfter, stateOf, start, valueBy, paused, orderBy, stateAfter, checkBy}
+use Rattle.format.specs.Rules.{Kind, dataKind, monitorKind, commandKind, same, since, before, count, has, latest, total, gather, channelKey, histogramKey, binNumber, startTime, headOrZero, above, inEvent, time, lastTime, ReaderMode, outside, inside, afterChannel, afterTime, afterSample, unheaded, headed, commands, insideAfter, modeAfter, allowed, among, place, value, order, Checked, good, bad, check}
+use Rattle.format.specs.Steps.{ReaderState, aboveAll, openerAfter, stateOf, start, valueBy, paused, orderBy, stateAfter, checkBy}
 
 -- ---- numbers above all of some
 
@@ -39,7 +39,7 @@ no : {A : Type 0} → false ≡ true → A
 no e = let z : _≡_ {A = ℕ} 0 1 = cc in absurd (omega arith)
 
 -- the places of a data frame, and of a monitor frame
-abbrev InData : Where → Type 0
+abbrev InData : ReaderMode → Type 0
 InData outside = Unit {0}
 InData inside = Unit {0}
 InData afterChannel = Unit {0}
@@ -49,7 +49,7 @@ InData unheaded = ⊥
 InData headed = ⊥
 InData commands = ⊥
 
-within-data : (c : Class) → InData (within c)
+within-data : (c : Class) → InData (insideAfter c)
 within-data channel = tt
 within-data histogram = tt
 within-data hitCount = tt
@@ -66,16 +66,16 @@ within-data endEvent = tt
 within-data frameEnd = tt
 within-data unassigned = tt
 
-in-data : (p : List Item) → InData (whereAfter dataKind p)
+in-data : (p : List Item) → InData (modeAfter dataKind p)
 in-data p = go (inEvent p)
   where
-    go : (b : Bool) → InData (pick b (within (latest p)) outside)
+    go : (b : Bool) → InData (pick b (insideAfter (latest p)) outside)
     go true = within-data (latest p)
     go false = tt
 
 -- a class that stands in no place of a data frame, of a monitor frame
-not-data : (p : List Item) (c : Class) → ((m : Where) → InData m → among c (allowed m) ≡ false) → place dataKind p c ≡ true → ⊥
-not-data p c n h = true≢false (sym h ∙ n (whereAfter dataKind p) (in-data p))
+not-data : (p : List Item) (c : Class) → ((m : ReaderMode) → InData m → among c (allowed m) ≡ false) → place dataKind p c ≡ true → ⊥
+not-data p c n h = true≢false (sym h ∙ n (modeAfter dataKind p) (in-data p))
 
 not-monitor : (p : List Item) (c : Class) → among c (allowed headed) ≡ false → among c (allowed unheaded) ≡ false → place monitorKind p c ≡ true → ⊥
 not-monitor p c u v h = go (same histogram (latest p) || same bin (latest p)) h
@@ -84,7 +84,7 @@ not-monitor p c u v h = go (same histogram (latest p) || same bin (latest p)) h
     go true e = true≢false (sym e ∙ u)
     go false e = true≢false (sym e ∙ v)
 
-histogram-not : (m : Where) → InData m → among histogram (allowed m) ≡ false
+histogram-not : (m : ReaderMode) → InData m → among histogram (allowed m) ≡ false
 histogram-not outside i = refl
 histogram-not inside i = refl
 histogram-not afterChannel i = refl
@@ -94,7 +94,7 @@ histogram-not unheaded i = absurd i
 histogram-not headed i = absurd i
 histogram-not commands i = absurd i
 
-bin-not : (m : Where) → InData m → among bin (allowed m) ≡ false
+bin-not : (m : ReaderMode) → InData m → among bin (allowed m) ≡ false
 bin-not outside i = refl
 bin-not inside i = refl
 bin-not afterChannel i = refl
@@ -104,7 +104,7 @@ bin-not unheaded i = absurd i
 bin-not headed i = absurd i
 bin-not commands i = absurd i
 
-text-not : (m : Where) → InData m → among text (allowed m) ≡ false
+text-not : (m : ReaderMode) → InData m → among text (allowed m) ≡ false
 text-not outside i = refl
 text-not inside i = refl
 text-not afterChannel i = refl
@@ -121,7 +121,7 @@ open-there p c n h = go (inEvent p) refl
     go : (b : Bool) → inEvent p ≡ b → inEvent p ≡ true
     go true e = e
     go false e =
-        let g : among c (allowed (pick (inEvent p) (within (latest p)) outside)) ≡ false = rw (e, n) in
+        let g : among c (allowed (pick (inEvent p) (insideAfter (latest p)) outside)) ≡ false = rw (e, n) in
         absurd (true≢false (sym h ∙ g))
 
 -- an event that is open stays so until its End event
@@ -152,17 +152,17 @@ pub record Turn (kind : Kind) (p : List Item) (x : Item) : Type 0 where
   pub ordered : orderBy (stateOf kind p) x ≡ order p x
   pub after : order p x ≡ true → stateAfter (3 + total p) (stateOf kind p) x ≡ stateOf kind (x ∷ p)
 
-alike : (m m′ : Where) (k k′ n n′ o o′ : ℕ) → m ≡ m′ → k ≡ k′ → n ≡ n′ → o ≡ o′
-    → _≡_ {A = St} (record { mode = m; key = k; next = n; opener = o }) (record { mode = m′; key = k′; next = n′; opener = o′ })
+alike : (m m′ : ReaderMode) (k k′ n n′ o o′ : ℕ) → m ≡ m′ → k ≡ k′ → n ≡ n′ → o ≡ o′
+    → _≡_ {A = ReaderState} (record { mode = m; key = k; next = n; opener = o }) (record { mode = m′; key = k′; next = n′; opener = o′ })
 alike m m′ k k′ n n′ o o′ e f g h = λ i. record { mode = e i; key = f i; next = g i; opener = h i }
 
 -- a time that no Time bin and no Sample changes
-time-same : (p : List Item) (n : ℕ) → n ≡ 0 → time p ≡ first (gather startTime p) + (n + count sample (since timeBin p))
+time-same : (p : List Item) (n : ℕ) → n ≡ 0 → time p ≡ headOrZero (gather startTime p) + (n + count sample (since timeBin p))
 time-same p n e = rw e (rw (zero-add (count sample (since timeBin p))))
 
 -- a Time bin stands right behind a Channel, or behind a Sample, and only there leaves a pause
-pause : (x : Item) (q : List Item) (t : ℕ) → among timeBin (allowed (within (classFor x))) ≡ true
-    → paused (within (classFor x)) (time (x ∷ q)) t ≡ not (has sample (since channel (x ∷ q))) || leb (lastTime (x ∷ q) + 2) t
+pause : (x : Item) (q : List Item) (t : ℕ) → among timeBin (allowed (insideAfter (classFor x))) ≡ true
+    → paused (insideAfter (classFor x)) (time (x ∷ q)) t ≡ not (has sample (since channel (x ∷ q))) || leb (lastTime (x ∷ q) + 2) t
 unfolding since before count gather
 pause (Channel a b c) q t h = refl
 pause (Sample v) q t h =
@@ -177,7 +177,7 @@ pause (StartEvent k ts n) q t h = no h
 pause (EndEvent n) q t h = no h
 
 time-ordered : (p : List Item) (t : ℕ) → place dataKind p timeBin ≡ true → inEvent p ≡ true
-    → paused (whereAfter dataKind p) (time p) t ≡ not (has sample (since channel p)) || leb (lastTime p + 2) t
+    → paused (modeAfter dataKind p) (time p) t ≡ not (has sample (since channel p)) || leb (lastTime p + 2) t
 unfolding since count
 time-ordered [] t h o = no o
 time-ordered (x ∷ q) t h o = rw o (pause x q t (rw o at h))
@@ -300,7 +300,7 @@ value-same kind card p (EndEvent n) =
     let e : 2 * ((3 + total p) - ((3 + total p) - total (since startEvent p))) + 6 ≡ 2 * total (since startEvent p) + 6 = omega arith in
     rw e
 
-abbrev pub states : Kind → Checked (List Item) → Checked St
+abbrev pub states : Kind → Checked (List Item) → Checked ReaderState
 states kind (good q) = good (stateOf kind q)
 states kind (bad n) = bad n
 
@@ -308,7 +308,7 @@ states-broken : (kind : Kind) (a : Bool) → pick a (bad 9) (bad 8) ≡ states k
 states-broken kind true = refl
 states-broken kind false = refl
 
-states-whole : (kind : Kind) (a b c d : Bool) (q : List Item) (r : St) → (a ≡ true → d ≡ c) → (a ≡ true → c ≡ true → r ≡ stateOf kind q)
+states-whole : (kind : Kind) (a b c d : Bool) (q : List Item) (r : ReaderState) → (a ≡ true → d ≡ c) → (a ≡ true → c ≡ true → r ≡ stateOf kind q)
     → pick a (pick b (pick d (good r) (bad 10)) (bad 9)) (bad 8) ≡ states kind (pick a (pick b (pick c (good q) (bad 10)) (bad 9)) (bad 8))
 states-whole kind false b c d q r e f = refl
 states-whole kind true false c d q r e f = refl

@@ -16,7 +16,7 @@ use Rattle.format.specs.Book.{Class, channel, histogram, hitCount, sampl
 use Rattle.format.specs.Items.{Item, Text, EndEvent, wordsOf, closed, decode, Token, whole, broken, flawed, tokenOf, tokens}
 use Rattle.format.specs.Rules.{Kind, total, Checked, good, bad, check}
 use Rattle.format.specs.Frames.{width, walk}
-use Rattle.format.specs.Steps.{St, stateOf, start, checkBy, tokenAt, nextAt, rest, Stepped, moved, stopped, marked, stepOf, indexIn, Summary, summary, summed}
+use Rattle.format.specs.Steps.{ReaderState, stateOf, start, checkBy, tokenAt, nextAt, rest, Stepped, moved, stopped, marked, stepOf, indexIn, Summary, summary, summed}
 use Rattle.format.proofs.items.WordLaws.{length-words, word-at}
 use Rattle.format.proofs.items.TextLaws.{TextRead, text-back}
 use Rattle.format.proofs.items.ItemLaws.{tokens-skip, Passed, token-passed}
@@ -113,7 +113,7 @@ module _ (s : List ℕ) (last : ℕ) (room : 2 * last ≤ length s + 1) where
 
   module _ (kind : Kind) (card n : ℕ) where
     -- it stands before the item at word `at`, with the items p behind it
-    pub record Going (at count index : ℕ) (st : St) : Type 0 where
+    pub record Going (at count index : ℕ) (st : ReaderState) : Type 0 where
       pub p : List Item
       pub at-is : at ≡ 3 + total p
       pub count-is : count ≡ length p
@@ -126,37 +126,37 @@ module _ (s : List ℕ) (last : ℕ) (room : 2 * last ≤ length s + 1) where
     unfolding total indexIn
     going-start = record { p = []; at-is = refl; count-is = refl; index-is = refl; state-is = start-state kind; few = omega arith; same = refl }
 
-    module _ (at count index : ℕ) (st : St) (g : Going at count index st) (h : at < last) where
+    module _ (at count index : ℕ) (st : ReaderState) (g : Going at count index st) (h : at < last) where
       here : walk kind card (g .p) at (tokenAt s last at ∷ rest s last (nextAt s at)) ≡ walk kind card [] 3 (rest s last 3)
       here = ap (walk kind card (g .p) at) (sym (rest-at at h)) ∙ g .same
 
       turned : checkBy card at st (tokenAt s last at) ≡ states kind (check kind card (g .p) (tokenAt s last at))
       turned =
-          ap₂ (λ (a : ℕ) (r : St). checkBy card a r (tokenAt s last at)) (g .at-is) (g .state-is)
+          ap₂ (λ (a : ℕ) (r : ReaderState). checkBy card a r (tokenAt s last at)) (g .at-is) (g .state-is)
           ∙ turn kind card (g .p) (tokenAt s last at)
 
       -- what the turn made of the state, as the list has it
-      record Moved (st′ : St) : Type 0 where
+      record Moved (st′ : ReaderState) : Type 0 where
         x : Item
         token : tokenAt s last at ≡ whole x
         state : st′ ≡ stateOf kind (x ∷ g .p)
         checked : check kind card (g .p) (tokenAt s last at) ≡ good (x ∷ g .p)
 
-      good-state : (a b : St) → good a ≡ good b → a ≡ b
+      good-state : (a b : ReaderState) → good a ≡ good b → a ≡ b
       good-state a b e = cc
 
-      moved-by : (st′ : St) (o : Checked (List Item)) → check kind card (g .p) (tokenAt s last at) ≡ o → good st′ ≡ states kind o → Moved st′
+      moved-by : (st′ : ReaderState) (o : Checked (List Item)) → check kind card (g .p) (tokenAt s last at) ≡ o → good st′ ≡ states kind o → Moved st′
       moved-by st′ (good q) e f =
           let (x, t) = not-whole kind card (g .p) (tokenAt s last at) q e in
           let (a, c) = passed kind card (g .p) x q (ap (check kind card (g .p)) (sym t) ∙ e) in
           record { x = x; token = t; state = good-state _ _ f ∙ ap (stateOf kind) c; checked = e ∙ ap good c }
       moved-by st′ (bad k) e f = let z : _≡_ {A = ℕ} 0 1 = cc in absurd (omega arith)
 
-      marked-good : (o : Checked St) (st′ : St) (next : ℕ) → moved st′ next ≡ marked (nextAt s at) o → (good st′ ≡ o) × (next ≡ nextAt s at)
+      marked-good : (o : Checked ReaderState) (st′ : ReaderState) (next : ℕ) → moved st′ next ≡ marked (nextAt s at) o → (good st′ ≡ o) × (next ≡ nextAt s at)
       marked-good (good r) st′ next e = (cc, cc)
       marked-good (bad k) st′ next e = let z : _≡_ {A = ℕ} 0 1 = cc in absurd (omega arith)
 
-      pub going-moved : (st′ : St) (next : ℕ) → moved st′ next ≡ stepOf card s last at st
+      pub going-moved : (st′ : ReaderState) (next : ℕ) → moved st′ next ≡ stepOf card s last at st
           → (at < next) × (next ≤ last) × Going next (count + 1) (pick (eqb count n) at index) st′
       unfolding stepOf total indexIn
       going-moved st′ next e =
@@ -185,10 +185,10 @@ module _ (s : List ℕ) (last : ℕ) (room : 2 * last ≤ length s + 1) where
       stopped-by k (good q) e = let z : _≡_ {A = ℕ} 0 1 = cc in absurd (omega arith)
       stopped-by k (bad j) e = ap bad (sym (inner k j e))
         where
-          inner : (k j : ℕ) → _≡_ {A = Checked St} (bad k) (bad j) → k ≡ j
+          inner : (k j : ℕ) → _≡_ {A = Checked ReaderState} (bad k) (bad j) → k ≡ j
           inner k j f = cc
 
-      marked-bad : (o : Checked St) (k : ℕ) → stopped k ≡ marked (nextAt s at) o → bad k ≡ o
+      marked-bad : (o : Checked ReaderState) (k : ℕ) → stopped k ≡ marked (nextAt s at) o → bad k ≡ o
       marked-bad (good r) k e = let z : _≡_ {A = ℕ} 0 1 = cc in absurd (omega arith)
       marked-bad (bad j) k e = cc
 
@@ -199,7 +199,7 @@ module _ (s : List ℕ) (last : ℕ) (room : 2 * last ≤ length s + 1) where
           let r = walk-bad kind card (g .p) k at (tokenAt s last at) (rest s last (nextAt s at)) b in
           rw (← here, r)
 
-    pub going-end : (at count index : ℕ) (st : St) → Going at count index st → last ≤ at
+    pub going-end : (at count index : ℕ) (st : ReaderState) → Going at count index st → last ≤ at
         → accepted (record { count = count; index = index; state = st }) ≡ summed kind card s last n
     unfolding summed walk
     going-end at count index st g h =

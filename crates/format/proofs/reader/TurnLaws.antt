@@ -15,7 +15,7 @@ use Rattle.format.specs.Words.{pick, words, bytes, wordAt, longAt, timeA
 use Rattle.format.specs.Book.{Class, channel, histogram, hitCount, sample, bin, lastCell, timeBin, dataFrame, monitorFrame, commandFrame, text, startEvent, endEvent, frameEnd, unassigned, classOf, after, assigned, textWords}
 use Rattle.format.specs.Items.{Item, Channel, Histogram, HitCount, Sample, Bin, LastCell, TimeBin, Text, StartEvent, EndEvent, closed, decode, Token, whole, broken, flawed, tokenFor, tokenOf}
 use Rattle.format.specs.Rules.{Checked, good, bad}
-use Rattle.format.specs.Steps.{St, checkBy, tokenAt, nextAt, Stepped, moved, stopped, marked, stepOf}
+use Rattle.format.specs.Steps.{ReaderState, checkBy, tokenAt, nextAt, Stepped, moved, stopped, marked, stepOf}
 use Rattle.format.proofs.items.WordLaws.{word-at}
 use Rattle.format.proofs.reader.StepLaws.{left-after}
 
@@ -25,12 +25,12 @@ pub record Stands (s : List ℕ) (last at : ℕ) (t : Token) (next : ℕ) : Type
   pub follow : nextAt s at ≡ next
 
 -- what a turn makes of it
-pub step-at : (card : ℕ) (s : List ℕ) (last at : ℕ) (st : St) (t : Token) (next : ℕ) → Stands s last at t next
+pub step-at : (card : ℕ) (s : List ℕ) (last at : ℕ) (st : ReaderState) (t : Token) (next : ℕ) → Stands s last at t next
     → marked next (checkBy card at st t) ≡ stepOf card s last at st
 unfolding stepOf
 step-at card s last at st t next w = rw (w .token, w .follow)
 
-pub stop-at : (card : ℕ) (s : List ℕ) (last at : ℕ) (st : St) (t : Token) (k : ℕ) → tokenAt s last at ≡ t → checkBy card at st t ≡ bad k
+pub stop-at : (card : ℕ) (s : List ℕ) (last at : ℕ) (st : ReaderState) (t : Token) (k : ℕ) → tokenAt s last at ≡ t → checkBy card at st t ≡ bad k
     → stopped k ≡ stepOf card s last at st
 unfolding stepOf
 stop-at card s last at st t k e f = rw (e, f)

@@ -9,7 +9,7 @@ use Rattle.format.specs.Words.{pick}
 use Rattle.format.specs.Book.{Class}
 use Rattle.format.specs.Items.{Item, Channel, Histogram, HitCount, Sample, Bin, LastCell, TimeBin, Text, StartEvent, EndEvent, classFor, wordsOf, inRange}
 use Rattle.format.specs.Rules.{Kind, dataKind, monitorKind, commandKind, same, since, before, count, latest, total, gather, channelKey, histogramKey, binNumber, startTime, inEvent, place, mayEnd, sized, order}
-use Rattle.format.specs.Frames.{behind, Allowed, Sound}
+use Rattle.format.specs.Frames.{earlierThen, Allowed, Sound}
 use Rattle.format.specs.Spots.{withValue}
 use Rattle.format.proofs.book.PrefixLaws.{and-right, and-both}
 
@@ -85,8 +85,8 @@ latest-bare : (p : List Item) → latest (bares p) ≡ latest p
 latest-bare [] = refl
 latest-bare (x ∷ p) = same-class x 0
 
-behind-bare : (p xs : List Item) → behind (bares p) (bares xs) ≡ bares (behind p xs)
-unfolding behind
+behind-bare : (p xs : List Item) → earlierThen (bares p) (bares xs) ≡ bares (earlierThen p xs)
+unfolding earlierThen
 behind-bare p [] = refl
 behind-bare p (x ∷ xs) = behind-bare (x ∷ p) xs
 
@@ -179,8 +179,8 @@ bares-with [] x after v = ap (λ (y : Item). y ∷ bares after) (same-bare x v)
 bares-with (y ∷ before) x after v = ap (λ (l : List Item). bare y ∷ l) (bares-with before x after v)
 
 pub ended-with : (before : List Item) (x : Item) (after : List Item) (v : ℕ)
-    → mayEnd (behind [] (before ++ (withValue x v ∷ after))) ≡ mayEnd (behind [] (before ++ (x ∷ after)))
+    → mayEnd (earlierThen [] (before ++ (withValue x v ∷ after))) ≡ mayEnd (earlierThen [] (before ++ (x ∷ after)))
 ended-with before x after v =
     ap not
     (alike inEvent event-bare _ _
-    (sym (behind-bare [] (before ++ (withValue x v ∷ after))) ∙ ap (behind []) (bares-with before x after v) ∙ behind-bare [] (before ++ (x ∷ after))))
+    (sym (behind-bare [] (before ++ (withValue x v ∷ after))) ∙ ap (earlierThen []) (bares-with before x after v) ∙ behind-bare [] (before ++ (x ∷ after))))

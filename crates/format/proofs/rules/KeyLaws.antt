@@ -3,7 +3,7 @@
 use Prim.Native.Nat.{ℕ, _+_, _*_, _<_}
 use mathlib.Core.Logic.{_↔_}
 use native.Mathlib.Omega.{arith}
-use Rattle.format.specs.Items.{three, key}
+use Rattle.format.specs.Items.{headerBits, key}
 
-pub key-rises : (a b c a′ b′ c′ : ℕ) → b < 4 → c < 128 → b′ < 4 → c′ < 128 → (key a b c < key a′ b′ c′) ↔ (three a b c < three a′ b′ c′)
+pub key-rises : (a b c a′ b′ c′ : ℕ) → b < 4 → c < 128 → b′ < 4 → c′ < 128 → (key a b c < key a′ b′ c′) ↔ (headerBits a b c < headerBits a′ b′ c′)
 key-rises a b c a′ b′ c′ p q p′ q′ = (λ h. omega arith, λ h. omega arith)

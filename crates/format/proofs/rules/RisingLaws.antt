@@ -11,7 +11,7 @@ use Rattle.format.specs.Words.{pick}
 use Rattle.format.specs.Book.{Class, startEvent}
 use Rattle.format.specs.Items.{Item, Channel, Histogram, classFor, key}
 use Rattle.format.specs.Rules.{Kind, same, since, count, gather, channelKey, histogramKey, above}
-use Rattle.format.specs.Frames.{Sound, behind}
+use Rattle.format.specs.Frames.{Sound, earlierThen}
 use Rattle.format.proofs.book.PrefixLaws.{and-left, and-right}
 use Rattle.format.proofs.rules.LimitLaws.{allowed-limits}
 use Rattle.format.proofs.rules.SoundLaws.{tally, tally-zero, sound-right, sound-head, sound-tail}
@@ -31,16 +31,16 @@ higher-behind k (n ∷ a) l h m e = higher-behind k a l h m (and-right (ltb n m)
 
 -- it stays so behind items that do not begin the count anew
 module _ (g : Item → List ℕ) where
-  pub higher-since : (c : Class) (k : ℕ) (p xs : List Item) → count c xs ≡ 0 → Higher k (gather g (since c p)) → Higher k (gather g (since c (behind p xs)))
-  unfolding behind count since gather
+  pub higher-since : (c : Class) (k : ℕ) (p xs : List Item) → count c xs ≡ 0 → Higher k (gather g (since c p)) → Higher k (gather g (since c (earlierThen p xs)))
+  unfolding earlierThen count since gather
   higher-since c k p [] n h = h
   higher-since c k p (x ∷ xs) n h =
       let a : tally (same c (classFor x)) ≡ 0 = omega arith in
       higher-since c k (x ∷ p) xs (omega arith)
       (subst (λ (b : Bool). Higher k (g x ++ gather g (pick b [] (since c p)))) (sym (tally-zero (same c (classFor x)) a)) (higher-behind k (g x) (gather g (since c p)) h))
 
-  pub higher-all : (k : ℕ) (p xs : List Item) → Higher k (gather g p) → Higher k (gather g (behind p xs))
-  unfolding behind gather
+  pub higher-all : (k : ℕ) (p xs : List Item) → Higher k (gather g p) → Higher k (gather g (earlierThen p xs))
+  unfolding earlierThen gather
   higher-all k p [] h = h
   higher-all k p (x ∷ xs) h = higher-all k (x ∷ p) xs (higher-behind k (g x) (gather g p) h)
 

@@ -10,8 +10,8 @@ use borrow.Author.Tests.{le-leb}
 use Rattle.format.specs.Words.{pick}
 use Rattle.format.specs.Book.{Class, channel, histogram, hitCount, sample, bin, lastCell, timeBin, dataFrame, monitorFrame, commandFrame, text, startEvent, endEvent, frameEnd, unassigned}
 use Rattle.format.specs.Items.{Item, Channel, Histogram, HitCount, Sample, Bin, LastCell, TimeBin, Text, StartEvent, EndEvent, classFor, wordsOf}
-use Rattle.format.specs.Rules.{Kind, dataKind, monitorKind, commandKind, same, since, count, latest, total, inEvent, within, outside, headed, unheaded, allowed, among, place}
-use Rattle.format.specs.Frames.{Allowed, Sound, behind, allWords}
+use Rattle.format.specs.Rules.{Kind, dataKind, monitorKind, commandKind, same, since, count, latest, total, inEvent, insideAfter, outside, headed, unheaded, allowed, among, place}
+use Rattle.format.specs.Frames.{Allowed, Sound, earlierThen, allWords}
 use Rattle.format.specs.Questions.{opens, endSize}
 
 -- 1 where the test holds
@@ -24,8 +24,8 @@ tally-zero false e = refl
 
 -- ---- lists in parts
 
-pub behind-append : (p xs ys : List Item) → behind p (xs ++ ys) ≡ behind (behind p xs) ys
-unfolding behind
+pub behind-append : (p xs ys : List Item) → earlierThen p (xs ++ ys) ≡ earlierThen (earlierThen p xs) ys
+unfolding earlierThen
 behind-append p [] ys = refl
 behind-append p (x ∷ xs) ys = behind-append (x ∷ p) xs ys
 
@@ -40,8 +40,8 @@ module _ (kind : Kind) (card : ℕ) where
   sound-left p [] ys s = tt
   sound-left p (x ∷ xs) ys s = (s .0, sound-left (x ∷ p) xs ys (s .1))
 
-  pub sound-right : (p xs ys : List Item) → Sound kind card p (xs ++ ys) → Sound kind card (behind p xs) ys
-  unfolding Sound behind
+  pub sound-right : (p xs ys : List Item) → Sound kind card p (xs ++ ys) → Sound kind card (earlierThen p xs) ys
+  unfolding Sound earlierThen
   sound-right p [] ys s = s
   sound-right p (x ∷ xs) ys s = sound-right (x ∷ p) xs ys (s .1)
 
@@ -100,7 +100,7 @@ open-other x p h =
     rw (h .no-end, h .no-start, z)
 
 -- the places of a Start event and of an End event
-no-start-within : (c : Class) → among startEvent (allowed (within c)) ≡ false
+no-start-within : (c : Class) → among startEvent (allowed (insideAfter c)) ≡ false
 no-start-within channel = refl
 no-start-within histogram = refl
 no-start-within hitCount = refl
@@ -137,7 +137,7 @@ monitor-place p c e = go (same histogram (latest p) || same bin (latest p)) e
 pub start-place : (kind : Kind) (p : List Item) → place kind p startEvent ≡ true → (kind ≡ dataKind) × (inEvent p ≡ false)
 start-place dataKind p e = (refl, go (inEvent p) e)
   where
-    go : (b : Bool) → among startEvent (allowed (pick b (within (latest p)) outside)) ≡ true → b ≡ false
+    go : (b : Bool) → among startEvent (allowed (pick b (insideAfter (latest p)) outside)) ≡ true → b ≡ false
     go true f = absurd (true≢false (sym f ∙ no-start-within (latest p)))
     go false f = refl
 start-place monitorKind p e = absurd (true≢false (sym (monitor-place p startEvent e)))
@@ -146,15 +146,15 @@ start-place commandKind p e = absurd (true≢false (sym e))
 pub end-place : (kind : Kind) (p : List Item) → place kind p endEvent ≡ true → (kind ≡ dataKind) × (inEvent p ≡ true)
 end-place dataKind p e = (refl, go (inEvent p) e)
   where
-    go : (b : Bool) → among endEvent (allowed (pick b (within (latest p)) outside)) ≡ true → b ≡ true
+    go : (b : Bool) → among endEvent (allowed (pick b (insideAfter (latest p)) outside)) ≡ true → b ≡ true
     go true f = refl
     go false f = absurd (true≢false (sym f))
 end-place monitorKind p e = absurd (true≢false (sym (monitor-place p endEvent e)))
 end-place commandKind p e = absurd (true≢false (sym e))
 
 -- an open event stays open until an End event
-pub stays-open : (p xs : List Item) → inEvent p ≡ true → count endEvent xs ≡ 0 → inEvent (behind p xs) ≡ true
-unfolding behind count
+pub stays-open : (p xs : List Item) → inEvent p ≡ true → count endEvent xs ≡ 0 → inEvent (earlierThen p xs) ≡ true
+unfolding earlierThen count
 stays-open p [] o n = o
 stays-open p (x ∷ xs) o n = stays-open (x ∷ p) xs (go (seen x)) (omega arith)
   where
@@ -166,13 +166,13 @@ stays-open p (x ∷ xs) o n = stays-open (x ∷ p) xs (go (seen x)) (omega arith
 module _ (kind : Kind) (card : ℕ) where
   -- each Start event opens one, each End event closes one
   pub balance : (p xs : List Item) → Sound kind card p xs
-      → count startEvent xs + tally (inEvent p) ≡ count endEvent xs + tally (inEvent (behind p xs))
-  unfolding Sound behind count
+      → count startEvent xs + tally (inEvent p) ≡ count endEvent xs + tally (inEvent (earlierThen p xs))
+  unfolding Sound earlierThen count
   balance p [] s = refl
   balance p (x ∷ xs) s = go (seen x) (balance (x ∷ p) xs (s .1))
     where
       last : ℕ
-      last = tally (inEvent (behind (x ∷ p) xs))
+      last = tally (inEvent (earlierThen (x ∷ p) xs))
 
       go : Seen x → count startEvent xs + tally (inEvent (x ∷ p)) ≡ count endEvent xs + last
           → tally (same startEvent (classFor x)) + count startEvent xs + tally (inEvent p) ≡ tally (same endEvent (classFor x)) + count endEvent xs + last
@@ -209,12 +209,12 @@ module _ (kind : Kind) (card : ℕ) where
   pub none-starts : (p xs : List Item) → Sound kind card p xs → inEvent p ≡ true → count endEvent xs ≡ 0 → count startEvent xs ≡ 0
   none-starts p xs s o n =
       let a : tally (inEvent p) ≡ 1 = ap (λ (b : Bool). tally b) o in
-      let b : tally (inEvent (behind p xs)) ≡ 1 = ap (λ (b : Bool). tally b) (stays-open p xs o n) in
+      let b : tally (inEvent (earlierThen p xs)) ≡ 1 = ap (λ (b : Bool). tally b) (stays-open p xs o n) in
       omega (arith, balance p xs s)
 
 -- the words of an event so far: those of its Start event and of what stands behind it
-pub total-since : (p xs : List Item) → count startEvent xs ≡ 0 → total (since startEvent (behind p xs)) ≡ total (since startEvent p) + length (allWords xs)
-unfolding behind count since total allWords
+pub total-since : (p xs : List Item) → count startEvent xs ≡ 0 → total (since startEvent (earlierThen p xs)) ≡ total (since startEvent p) + length (allWords xs)
+unfolding earlierThen count since total allWords
 total-since p [] n = omega arith
 total-since p (x ∷ xs) n =
     let a : tally (same startEvent (classFor x)) ≡ 0 = omega arith in

@@ -12,11 +12,11 @@ use Rattle.format.specs.Words.{Bytes, bytes}
 use Rattle.format.specs.Answers.{Outcome, accepted, refused}
 use Rattle.format.specs.Items.{Item, wordsOf, inRange}
 use Rattle.format.specs.Rules.{mayEnd, sized}
-use Rattle.format.specs.Frames.{Frame, behind, Sound, startWord, allWords, frameWords, encode, Legal, verdict}
+use Rattle.format.specs.Frames.{Frame, earlierThen, Sound, startWord, allWords, frameWords, encode, Legal, verdict}
 use Rattle.format.specs.Spots.{noHeader, Spot, spotIn, spotFor, spot, valueWord, valueWords, putFor, put, legalValue, withValue, underAll, SpotIs, withItems}
 use Rattle.format.proofs.book.PrefixLaws.{and-left}
 use Rattle.format.proofs.items.WordLaws.{bytes-append, length-bytes}
-use Rattle.format.proofs.StoringLaws.{sets-mid}
+use Rattle.format.proofs.items.StoringLaws.{sets-mid}
 use Rattle.format.proofs.questions.ItemQuestions.{no-some, all-words}
 use Rattle.format.proofs.rules.SoundLaws.{sound-right, sound-head}
 use Rattle.format.proofs.rules.AlikeLaws.{sound-with, ended-with}
@@ -89,8 +89,8 @@ module _ (f : Frame) (w : ℕ) (p : Spot) (is : SpotIs (f .items) w p) where
 
     in-range : inRange (f .card) (is .item) ≡ true
     in-range =
-        let a = sound-head (f .kind) (f .card) (behind [] (is .before)) (is .item) (is .after) (sound-right (f .kind) (f .card) [] (is .before) (is .item ∷ is .after) items-sound) in
-        and-left (inRange (f .card) (is .item)) (sized (behind [] (is .before)) (is .item)) (a .valued)
+        let a = sound-head (f .kind) (f .card) (earlierThen [] (is .before)) (is .item) (is .after) (sound-right (f .kind) (f .card) [] (is .before) (is .item ∷ is .after) items-sound) in
+        and-left (inRange (f .card) (is .item)) (sized (earlierThen [] (is .before)) (is .item)) (a .valued)
 
     pub standing-legal : legalValue (p .kind) (p .value) ≡ true
     standing-legal = known .standing (f .card) in-range
@@ -102,9 +102,9 @@ module _ (f : Frame) (w : ℕ) (p : Spot) (is : SpotIs (f .items) w p) where
           sequence = l .sequence;
           sound = subst (Sound (f .kind) (f .card) []) (sym (split v))
               (sound-with (f .kind) (f .card) (is .before) (is .item) (is .after) v [] (known .ranged (f .card) v in-range h) items-sound);
-          ended = ap (λ (xs : List Item). mayEnd (behind [] xs)) (split v)
+          ended = ap (λ (xs : List Item). mayEnd (earlierThen [] xs)) (split v)
               ∙ ended-with (is .before) (is .item) (is .after) v
-              ∙ ap (λ (xs : List Item). mayEnd (behind [] xs)) (sym (is .items))
+              ∙ ap (λ (xs : List Item). mayEnd (earlierThen [] xs)) (sym (is .items))
               ∙ l .ended;
           short = let m = length-encode f in let n = length-encode (changed f w v) in let s = l .short in let k = replaced-all 3 (f .items) w v in omega arith;
         }

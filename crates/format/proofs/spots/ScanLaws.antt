@@ -22,7 +22,7 @@ use Rattle.format.specs.Scans.{headBy, headIn, headFor, head, headerBy, 
 use Rattle.format.proofs.rules.AlikeLaws.{blind, same-width}
 use Rattle.format.proofs.spots.SpotLaws.{replaced}
 use Rattle.format.proofs.spots.PutLaws.{changed, stands, spot-in, put-changed}
-use Rattle.format.proofs.CursorLaws.{from-first, on-start, Turn, turn, run-out, standing-early}
+use Rattle.format.proofs.reader.CursorLaws.{from-first, on-start, Turn, turn, run-out, standing-early}
 
 -- ---- an item as it is answered tells the same
 

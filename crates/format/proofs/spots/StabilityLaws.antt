@@ -21,7 +21,7 @@ use Rattle.format.proofs.book.PrefixLaws.{and-left, and-right, and-both
 use Rattle.format.proofs.items.WordLaws.{bytes-below}
 use Rattle.format.proofs.questions.ItemQuestions.{all-words}
 use Rattle.format.proofs.spots.SpotLaws.{valued, replaced-elsewhere, replaced-apart, replaced-again, replaced-words}
-use Rattle.format.proofs.StoringLaws.{sets-outside, sets-bytes}
+use Rattle.format.proofs.items.StoringLaws.{sets-outside, sets-bytes}
 use Rattle.format.proofs.spots.PutLaws.{length-encode, changed, split, standing-legal, stands, spot-in, spot-is, put-stores, put-encode, put-changed}
 use Rattle.format.proofs.verdict.Acceptance.{sound}
 

@@ -12,8 +12,8 @@ use lib.ListN.{length}
 use borrow.Author.Tests.{leb-true, leb-false, le-leb, lt-leb, eq-eqb, ltb-true, ltb-false}
 use Rattle.format.specs.Words.{pick}
 use Rattle.format.specs.Book.{Class, channel, histogram, sample, bin, timeBin, startEvent, endEvent}
-use Rattle.format.specs.Items.{Item, Channel, Histogram, HitCount, Sample, Bin, LastCell, TimeBin, Text, StartEvent, EndEvent, classFor, three, wordsOf, inRange, key}
-use Rattle.format.specs.Rules.{Kind, dataKind, monitorKind, commandKind, same, since, before, count, has, latest, total, gather, channelKey, histogramKey, binNumber, above, inEvent, time, lastTime, Where, outside, inside, afterChannel, afterTime, afterSample, unheaded, headed, within, whereAfter, allowed, among, place, eventSize, value, order}
+use Rattle.format.specs.Items.{Item, Channel, Histogram, HitCount, Sample, Bin, LastCell, TimeBin, Text, StartEvent, EndEvent, classFor, headerBits, wordsOf, inRange, key}
+use Rattle.format.specs.Rules.{Kind, dataKind, monitorKind, commandKind, same, since, before, count, has, latest, total, gather, channelKey, histogramKey, binNumber, above, inEvent, time, lastTime, ReaderMode, outside, inside, afterChannel, afterTime, afterSample, unheaded, headed, insideAfter, modeAfter, allowed, among, place, eventSize, value, order}
 use Rattle.format.specs.Frames.{Allowed}
 use Rattle.format.proofs.book.PrefixLaws.{and-both}
 use Rattle.format.proofs.rules.LimitLaws.{limits}
@@ -52,14 +52,14 @@ pub data Move : State → Item → State → Type 0 where
   starts : (t ts n : ℕ) → Move out (StartEvent t ts n) (amid 0 6)
   counts : (st : State) (m n a b c : ℕ) → Body st m n → Move st (HitCount a b c) (amid m (n + 1))
   cells : (st : State) (m n a b : ℕ) → Body st m n → Move st (LastCell a b) (amid m (n + 1))
-  opens : (st : State) (m n a b c : ℕ) → Body st m n → m ≤ three a b c → Move st (Channel a b c) (opened (suc (three a b c)) (n + 1))
+  opens : (st : State) (m n a b c : ℕ) → Body st m n → m ≤ headerBits a b c → Move st (Channel a b c) (opened (suc (headerBits a b c)) (n + 1))
   ends : (st : State) (m n z : ℕ) → Body st m n → z ≡ 2 * (n + 3) → Move st (EndEvent z) out
   times : (m n t : ℕ) → Move (opened m n) (TimeBin t) (timed m (n + 1) t)
   first : (m n t v : ℕ) → t ≤ 511 → Move (timed m n t) (Sample v) (sampled m (n + 1) (t + 1))
   next : (m n t v : ℕ) → t ≤ 511 → Move (sampled m n t) (Sample v) (sampled m (n + 1) (t + 1))
   later : (m n t u : ℕ) → t + 1 ≤ u → Move (sampled m n t) (TimeBin u) (timed m (n + 1) u)
-  heads : (a b c : ℕ) → Move empty (Histogram a b c) (filling (suc (three a b c)) 0)
-  heads-next : (m k a b c : ℕ) → m ≤ three a b c → Move (filling m k) (Histogram a b c) (filling (suc (three a b c)) 0)
+  heads : (a b c : ℕ) → Move empty (Histogram a b c) (filling (suc (headerBits a b c)) 0)
+  heads-next : (m k a b c : ℕ) → m ≤ headerBits a b c → Move (filling m k) (Histogram a b c) (filling (suc (headerBits a b c)) 0)
   fills : (m k b n : ℕ) → k ≤ b → Move (filling m k) (Bin b n) (filling m (suc b))
   says : (s : List ℕ) → Move texts (Text s) texts
 
@@ -78,17 +78,17 @@ pub data Moves : State → List Item → Type 0 where
 
 pub record InEvent (card : ℕ) (p : List Item) (m n : ℕ) : Type 0 where
   pub opened : inEvent p ≡ true
-  pub keys : (b c : ℕ) → above (key card b c) (gather channelKey (since startEvent p)) ≡ leb m (three card b c)
+  pub keys : (b c : ℕ) → above (key card b c) (gather channelKey (since startEvent p)) ≡ leb m (headerBits card b c)
   pub words : total (since startEvent p) ≡ n
 
-pub record Left (card : ℕ) (p : List Item) (m n : ℕ) (w : Where) : Type 0 where
+pub record Left (card : ℕ) (p : List Item) (m n : ℕ) (w : ReaderMode) : Type 0 where
   pub event : InEvent card p m n
-  pub stands : whereAfter dataKind p ≡ w
+  pub stands : modeAfter dataKind p ≡ w
 
 pub record Filled (card : ℕ) (p : List Item) (m k : ℕ) : Type 0 where
   pub shut : inEvent p ≡ false
-  pub stands : whereAfter monitorKind p ≡ headed
-  pub keys : (b c : ℕ) → above (key card b c) (gather histogramKey p) ≡ leb m (three card b c)
+  pub stands : modeAfter monitorKind p ≡ headed
+  pub keys : (b c : ℕ) → above (key card b c) (gather histogramKey p) ≡ leb m (headerBits card b c)
   pub bins : (b : ℕ) → above b (gather binNumber (since histogram p)) ≡ leb k b
 
 abbrev pub Leaves : ℕ → List Item → State → Type 0
@@ -126,12 +126,12 @@ still-shut p x e h = rw e (go (same endEvent (classFor x)))
     go true = refl
     go false = let g = leb-false 1 (count startEvent (since endEvent p)) h in lt-leb 1 (0 + count startEvent (since endEvent p)) (omega arith)
 
-stands-after : (p : List Item) (x : Item) → inEvent (x ∷ p) ≡ true → whereAfter dataKind (x ∷ p) ≡ within (classFor x)
-stands-after p x e = ap (λ (b : Bool). pick b (within (classFor x)) outside) e
+stands-after : (p : List Item) (x : Item) → inEvent (x ∷ p) ≡ true → modeAfter dataKind (x ∷ p) ≡ insideAfter (classFor x)
+stands-after p x e = ap (λ (b : Bool). pick b (insideAfter (classFor x)) outside) e
 
 -- an item of one word that neither ends the event nor heads a channel
 stays : (card : ℕ) (p : List Item) (m n : ℕ) (x : Item) → same endEvent (classFor x) ≡ false → same startEvent (classFor x) ≡ false → channelKey x ≡ []
-    → length (wordsOf x) ≡ 1 → InEvent card p m n → Left card (x ∷ p) m (n + 1) (within (classFor x))
+    → length (wordsOf x) ≡ 1 → InEvent card p m n → Left card (x ∷ p) m (n + 1) (insideAfter (classFor x))
 unfolding since gather total
 stays card p m n x e f g h i =
     let o = still-open p x e (i .opened) in
@@ -152,8 +152,8 @@ module _ (card : ℕ) where
   -- ---- a move is allowed, and leads to the state that the items then leave
 
   -- the item's class is allowed where it stands
-  at-place : (kind : Kind) (p : List Item) (w : Where) (c : Class) → whereAfter kind p ≡ w → among c (allowed w) ≡ true → place kind p c ≡ true
-  at-place kind p w c e f = ap (λ (w : Where). among c (allowed w)) e ∙ f
+  at-place : (kind : Kind) (p : List Item) (w : ReaderMode) (c : Class) → modeAfter kind p ≡ w → among c (allowed w) ≡ true → place kind p c ≡ true
+  at-place kind p w c e f = ap (λ (w : ReaderMode). among c (allowed w)) e ∙ f
 
   body-event : (st : State) (p : List Item) (m n : ℕ) → Body st m n → Leaves card p st → InEvent card p m n
   body-event st p m n (free _ _) l = l .event
@@ -170,25 +170,25 @@ module _ (card : ℕ) where
   body-allowed st p m n x (past _ _ t) l e f v o = record { placed = at-place dataKind p afterSample (classFor x) (l .0 .stands) f; valued = v; ordered = o }
 
   -- a header is above those before it exactly where its content is one that may come next
-  header-order : (a b c m : ℕ) (ks : List ℕ) → a ≡ card → above (key card b c) ks ≡ leb m (three card b c) → (above (key a b c) ks ≡ true) ↔ (m ≤ three a b c)
+  header-order : (a b c m : ℕ) (ks : List ℕ) → a ≡ card → above (key card b c) ks ≡ leb m (headerBits card b c) → (above (key a b c) ks ≡ true) ↔ (m ≤ headerBits a b c)
   header-order a b c m ks e k =
-      let f : above (key a b c) ks ≡ leb m (three a b c) = subst (λ (a : ℕ). above (key a b c) ks ≡ leb m (three a b c)) (sym e) k in
-      (λ h. leb-true m (three a b c) (sym f ∙ h), λ h. f ∙ le-leb m (three a b c) h)
+      let f : above (key a b c) ks ≡ leb m (headerBits a b c) = subst (λ (a : ℕ). above (key a b c) ks ≡ leb m (headerBits a b c)) (sym e) k in
+      (λ h. leb-true m (headerBits a b c) (sym f ∙ h), λ h. f ∙ le-leb m (headerBits a b c) h)
 
   -- the rules of headers
-  pub channel-order : (p : List Item) (m n a b c : ℕ) → InEvent card p m n → a ≡ card → (order p (Channel a b c) ≡ true) ↔ (m ≤ three a b c)
+  pub channel-order : (p : List Item) (m n a b c : ℕ) → InEvent card p m n → a ≡ card → (order p (Channel a b c) ≡ true) ↔ (m ≤ headerBits a b c)
   channel-order p m n a b c i e = header-order a b c m (gather channelKey (since startEvent p)) e (i .keys b c)
 
-  pub histogram-order : (p : List Item) (m a b c : ℕ) → ((b c : ℕ) → above (key card b c) (gather histogramKey p) ≡ leb m (three card b c)) → a ≡ card
-      → (order p (Histogram a b c) ≡ true) ↔ (m ≤ three a b c)
+  pub histogram-order : (p : List Item) (m a b c : ℕ) → ((b c : ℕ) → above (key card b c) (gather histogramKey p) ≡ leb m (headerBits card b c)) → a ≡ card
+      → (order p (Histogram a b c) ≡ true) ↔ (m ≤ headerBits a b c)
   histogram-order p m a b c k e = header-order a b c m (gather histogramKey p) e (k b c)
 
   -- and those above a header
-  above-header : (a b c m : ℕ) (ks : List ℕ) → a ≡ card → ((b c : ℕ) → above (key card b c) ks ≡ leb m (three card b c)) → m ≤ three a b c
-      → (b′ c′ : ℕ) → above (key card b′ c′) (key a b c ∷ ks) ≡ leb (suc (three a b c)) (three card b′ c′)
+  above-header : (a b c m : ℕ) (ks : List ℕ) → a ≡ card → ((b c : ℕ) → above (key card b c) ks ≡ leb m (headerBits card b c)) → m ≤ headerBits a b c
+      → (b′ c′ : ℕ) → above (key card b′ c′) (key a b c ∷ ks) ≡ leb (suc (headerBits a b c)) (headerBits card b′ c′)
   unfolding above
   above-header a b c m ks e k l b′ c′ =
-      rise (key card b′ c′) (key a b c) (three card b′ c′) (three a b c) m (above (key card b′ c′) ks) (λ h. omega arith) (λ h. omega arith) l (k b′ c′)
+      rise (key card b′ c′) (key a b c) (headerBits card b′ c′) (headerBits a b c) m (above (key card b′ c′) ks) (λ h. omega arith) (λ h. omega arith) l (k b′ c′)
 
   -- what the items leave after a Start event, a Channel, a Histogram, a Bin
   after-start : (p : List Item) (t ts n : ℕ) → Left card (StartEvent t ts n ∷ p) 0 6 inside
@@ -196,11 +196,11 @@ module _ (card : ℕ) where
   after-start p t ts n =
       let o : inEvent (StartEvent t ts n ∷ p) ≡ true = le-leb 1 (1 + count startEvent (since endEvent p)) (omega arith) in
       record {
-        event = record { opened = o; keys = λ b c. sym (le-leb 0 (three card b c) (omega arith)); words = refl };
+        event = record { opened = o; keys = λ b c. sym (le-leb 0 (headerBits card b c) (omega arith)); words = refl };
         stands = stands-after p (StartEvent t ts n) o;
       }
 
-  after-channel : (p : List Item) (m n a b c : ℕ) → a ≡ card → m ≤ three a b c → InEvent card p m n → Left card (Channel a b c ∷ p) (suc (three a b c)) (n + 1) afterChannel
+  after-channel : (p : List Item) (m n a b c : ℕ) → a ≡ card → m ≤ headerBits a b c → InEvent card p m n → Left card (Channel a b c ∷ p) (suc (headerBits a b c)) (n + 1) afterChannel
   unfolding since gather total wordsOf
   after-channel p m n a b c e l i =
       let o = still-open p (Channel a b c) refl (i .opened) in
@@ -209,8 +209,8 @@ module _ (card : ℕ) where
         stands = stands-after p (Channel a b c) o;
       }
 
-  after-histogram : (p : List Item) (m a b c : ℕ) → a ≡ card → m ≤ three a b c → inEvent p ≡ false
-      → ((b c : ℕ) → above (key card b c) (gather histogramKey p) ≡ leb m (three card b c)) → Filled card (Histogram a b c ∷ p) (suc (three a b c)) 0
+  after-histogram : (p : List Item) (m a b c : ℕ) → a ≡ card → m ≤ headerBits a b c → inEvent p ≡ false
+      → ((b c : ℕ) → above (key card b c) (gather histogramKey p) ≡ leb m (headerBits card b c)) → Filled card (Histogram a b c ∷ p) (suc (headerBits a b c)) 0
   unfolding since gather above
   after-histogram p m a b c e l s k =
       record {
@@ -230,9 +230,9 @@ module _ (card : ℕ) where
         bins = λ b′. rise b′ b b′ b k (above b′ (gather binNumber (since histogram p))) (λ h. h) (λ h. h) l (f .bins b′);
       }
 
-  empty-keys : (p : List Item) → p ≡ [] → (b c : ℕ) → above (key card b c) (gather histogramKey p) ≡ leb 0 (three card b c)
+  empty-keys : (p : List Item) → p ≡ [] → (b c : ℕ) → above (key card b c) (gather histogramKey p) ≡ leb 0 (headerBits card b c)
   unfolding gather above
-  empty-keys p e b c = ap (λ (p : List Item). above (key card b c) (gather histogramKey p)) e ∙ sym (le-leb 0 (three card b c) (omega arith))
+  empty-keys p e b c = ap (λ (p : List Item). above (key card b c) (gather histogramKey p)) e ∙ sym (le-leb 0 (headerBits card b c) (omega arith))
 
   pub empty-shut : (p : List Item) → p ≡ [] → inEvent p ≡ false
   unfolding since count
@@ -259,7 +259,7 @@ module _ (card : ℕ) where
   pub moved : (p : List Item) (st st′ : State) (x : Item) → Leaves card p st → inRange card x ≡ true → Move st x st′ → Allowed (kindFor st) card p x × Leaves card (x ∷ p) st′
   unfolding since count gather total above wordsOf
   moved p st st′ x l r (starts t ts n) = (
-    record { placed = at-place dataKind p outside startEvent (ap (λ (b : Bool). pick b (within (latest p)) outside) l) refl; valued = and-both _ _ r refl; ordered = refl },
+    record { placed = at-place dataKind p outside startEvent (ap (λ (b : Bool). pick b (insideAfter (latest p)) outside) l) refl; valued = and-both _ _ r refl; ordered = refl },
     after-start p t ts n,
   )
   moved p st st′ x l r (counts _ m n a b c d) =
@@ -299,7 +299,7 @@ module _ (card : ℕ) where
       let e = limits card (Histogram a b c) .0 r .0 in
       let k = empty-keys p l in (
         record {
-          placed = at-place monitorKind p unheaded histogram (ap (λ (p : List Item). whereAfter monitorKind p) l) refl;
+          placed = at-place monitorKind p unheaded histogram (ap (λ (p : List Item). modeAfter monitorKind p) l) refl;
           valued = and-both _ _ r refl;
           ordered = histogram-order p 0 a b c k e .1 (omega arith);
         },

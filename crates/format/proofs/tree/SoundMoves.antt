@@ -10,9 +10,9 @@ use lib.Dec.{eqb}
 use borrow.Author.Tests.{leb-true, eqb-true, not-true}
 use Rattle.format.specs.Words.{pick}
 use Rattle.format.specs.Book.{Class, channel, hitCount, sample, lastCell, timeBin, endEvent}
-use Rattle.format.specs.Items.{Item, Channel, Histogram, EndEvent, classFor, three, inRange}
-use Rattle.format.specs.Rules.{Kind, dataKind, monitorKind, commandKind, since, has, latest, time, lastTime, Where, outside, inside, afterChannel, afterTime, afterSample, unheaded, headed, commands, within, whereAfter, allowed, among, place, mayEnd, eventSize, sized, value, order}
-use Rattle.format.specs.Frames.{behind, Allowed, Sound}
+use Rattle.format.specs.Items.{Item, Channel, Histogram, EndEvent, classFor, headerBits, inRange}
+use Rattle.format.specs.Rules.{Kind, dataKind, monitorKind, commandKind, since, has, latest, time, lastTime, ReaderMode, outside, inside, afterChannel, afterTime, afterSample, unheaded, headed, commands, insideAfter, modeAfter, allowed, among, place, mayEnd, eventSize, sized, value, order}
+use Rattle.format.specs.Frames.{earlierThen, Allowed, Sound}
 use Rattle.format.specs.Tree.{Limited}
 use Rattle.format.proofs.book.PrefixLaws.{and-left, and-right}
 use Rattle.format.proofs.rules.LimitLaws.{limits}
@@ -34,7 +34,7 @@ module _ (card : ℕ) where
   body-move st p m n x ds d i v o (inr (inl (isLastCell a b))) k = (amid m (n + 1), cells st m n a b d)
   body-move st p m n x ds d i v o (inr (inr (inl (isChannel a b c)))) k =
       let e = limits card (Channel a b c) .0 (ranged p (Channel a b c) v) .0 in
-      (opened (suc (three a b c)) (n + 1), opens st m n a b c d (channel-order card p m n a b c i e .0 o))
+      (opened (suc (headerBits a b c)) (n + 1), opens st m n a b c d (channel-order card p m n a b c i e .0 o))
   body-move st p m n x ds d i v o (inr (inr (inr (inl (isEndEvent z))))) k =
       let s = eqb-true z (eventSize p) (and-right (inRange card (EndEvent z)) (eqb z (eventSize p)) v) in
       (out, ends st m n z d (omega (arith, i .words)))
@@ -60,13 +60,13 @@ module _ (card : ℕ) where
   sampled-move p m n t x e f s o (inr (inr h)) = absurd h
 
   empty-move : (x : Item) → OneOf (allowed unheaded) x → Moved empty x
-  empty-move x (inl (isHistogram a b c)) = (filling (suc (three a b c)) 0, heads a b c)
+  empty-move x (inl (isHistogram a b c)) = (filling (suc (headerBits a b c)) 0, heads a b c)
   empty-move x (inr h) = absurd h
 
   filling-move : (p : List Item) (m k : ℕ) (x : Item) → Filled card p m k → value card p x ≡ true → order p x ≡ true → OneOf (allowed headed) x → Moved (filling m k) x
   filling-move p m k x f v o (inl (isHistogram a b c)) =
       let e = limits card (Histogram a b c) .0 (ranged p (Histogram a b c) v) .0 in
-      (filling (suc (three a b c)) 0, heads-next m k a b c (histogram-order card p m a b c (f .keys) e .0 o))
+      (filling (suc (headerBits a b c)) 0, heads-next m k a b c (histogram-order card p m a b c (f .keys) e .0 o))
   filling-move p m k x f v o (inr (inl (isBin b n))) = (filling m (suc b), fills m k b n (leb-true k b (sym (f .bins b) ∙ o)))
   filling-move p m k x f v o (inr (inr h)) = absurd h
 
@@ -74,11 +74,11 @@ module _ (card : ℕ) where
   texts-move x (inl (isText s)) = (texts, says s)
   texts-move x (inr h) = absurd h
 
-  in-place : (kind : Kind) (p : List Item) (w : Where) (x : Item) → whereAfter kind p ≡ w → place kind p (classFor x) ≡ true → OneOf (allowed w) x
-  in-place kind p w x e h = one-of (allowed w) x (ap (λ (w : Where). among (classFor x) (allowed w)) (sym e) ∙ h)
+  in-place : (kind : Kind) (p : List Item) (w : ReaderMode) (x : Item) → modeAfter kind p ≡ w → place kind p (classFor x) ≡ true → OneOf (allowed w) x
+  in-place kind p w x e h = one-of (allowed w) x (ap (λ (w : ReaderMode). among (classFor x) (allowed w)) (sym e) ∙ h)
 
   pub move-of : (p : List Item) (st : State) (x : Item) → Leaves card p st → Allowed (kindFor st) card p x → Moved st x
-  move-of p out x l a = out-move x (in-place dataKind p outside x (ap (λ (b : Bool). pick b (within (latest p)) outside) l) (a .placed))
+  move-of p out x l a = out-move x (in-place dataKind p outside x (ap (λ (b : Bool). pick b (insideAfter (latest p)) outside) l) (a .placed))
   move-of p (amid m n) x l a =
       body-move (amid m n) p m n x [] (free m n) (l .event) (a .valued) (a .ordered) (in-place dataKind p inside x (l .stands) (a .placed)) (λ h. absurd h)
   move-of p (opened m n) x l a = opened-move m n x (in-place dataKind p afterChannel x (l .0 .stands) (a .placed))
@@ -86,7 +86,7 @@ module _ (card : ℕ) where
   move-of p (sampled m n t) x l a =
       body-move (sampled m n t) p m n x (sample ∷ timeBin ∷ []) (past m n t) (l .0 .event) (a .valued) (a .ordered)
       (in-place dataKind p afterSample x (l .0 .stands) (a .placed)) (sampled-move p m n t x (l .1) (l .3) (l .2) (a .ordered))
-  move-of p empty x l a = empty-move x (in-place monitorKind p unheaded x (ap (λ (p : List Item). whereAfter monitorKind p) l) (a .placed))
+  move-of p empty x l a = empty-move x (in-place monitorKind p unheaded x (ap (λ (p : List Item). modeAfter monitorKind p) l) (a .placed))
   move-of p (filling m k) x l a = filling-move p m k x l (a .valued) (a .ordered) (in-place monitorKind p headed x (l .stands) (a .placed))
   move-of p texts x l a = texts-move x (in-place commandKind p commands x refl (a .placed))
 
@@ -125,8 +125,8 @@ module _ (card : ℕ) where
   final-of (filling m k) p l e = at-filling m k
   final-of texts p l e = at-texts
 
-  pub sound-moves : (xs p : List Item) (st : State) → Leaves card p st → Sound (kindFor st) card p xs → mayEnd (behind p xs) ≡ true → Moves st xs × Limited card xs
-  unfolding Sound behind Limited
+  pub sound-moves : (xs p : List Item) (st : State) → Leaves card p st → Sound (kindFor st) card p xs → mayEnd (earlierThen p xs) ≡ true → Moves st xs × Limited card xs
+  unfolding Sound earlierThen Limited
   sound-moves [] p st l s e = (done st (final-of st p l e), tt)
   sound-moves (x ∷ xs) p st l s e =
       let (st′, mv) = move-of p st x l (s .0) in
@@ -135,8 +135,8 @@ module _ (card : ℕ) where
       let h = sound-moves xs (x ∷ p) st′ l′ (subst (λ (k : Kind). Sound k card (x ∷ p) xs) (same-kind st st′ x mv) (s .1)) e in
       (move st st′ x xs mv (h .0), (limits card x .0 r, h .1))
 
-  pub moves-sound : (xs : List Item) (st : State) → Moves st xs → (p : List Item) → Leaves card p st → Limited card xs → Sound (kindFor st) card p xs × (mayEnd (behind p xs) ≡ true)
-  unfolding Sound behind Limited
+  pub moves-sound : (xs : List Item) (st : State) → Moves st xs → (p : List Item) → Leaves card p st → Limited card xs → Sound (kindFor st) card p xs × (mayEnd (earlierThen p xs) ≡ true)
+  unfolding Sound earlierThen Limited
   moves-sound xs st (done _ f) p l r = (tt, may-end st p l f)
   moves-sound xs st (move _ st′ x ys mv ms) p l r =
       let (a, l′) = moved card p st st′ x l (limits card x .1 (r .0)) mv in

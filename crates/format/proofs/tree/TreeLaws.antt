@@ -10,8 +10,8 @@ use native.Mathlib.Omega.{arith}
 use Rattle.format.specs.Book.{Class, sample, bin, timeBin}
 use Rattle.format.specs.Items.{Item, Channel, HitCount, LastCell, EndEvent}
 use Rattle.format.specs.Rules.{Kind, dataKind, monitorKind, commandKind, same, since, count, latest, mayEnd}
-use Rattle.format.specs.Frames.{Frame, behind, Sound, Legal}
-use Rattle.format.specs.Tree.{Run, run, Part, hits, cell, pulse, Event, event, Bar, bar, Pedestal, pedestal, Tree, ofSamples, ofRuns, ofParts, ofEvents, ofBars, ofPedestals, ofTexts, leaves, Shaped, Limited, Lawful, TreeOf}
+use Rattle.format.specs.Frames.{Frame, earlierThen, Sound, Legal}
+use Rattle.format.specs.Tree.{Stretch, stretch, Part, hits, cell, pulse, Event, event, Bar, bar, Pedestal, pedestal, Tree, ofSamples, ofStretches, ofParts, ofEvents, ofBars, ofPedestals, ofTexts, leaves, Shaped, Limited, Lawful, TreeOf}
 use Rattle.format.proofs.tree.Moves.{State, out, empty, texts, kindFor, Leaves, Moves}
 use Rattle.format.proofs.tree.SoundMoves.{sound-moves, moves-sound}
 use Rattle.format.proofs.tree.TreeMoves.{events-moves, monitor-moves, texts-moves, build}
@@ -36,22 +36,22 @@ same-samples (v ∷ vs) (v′ ∷ vs′) xs xs′ o o′ e =
     let (g, h) = same-samples vs vs′ xs xs′ o o′ r in
     (ap₂ _∷_ f g, h)
 
-runs-off : (rs : List Run) (xs : List Item) → Off sample xs → Off sample (ofRuns rs xs)
-unfolding ofRuns
+runs-off : (rs : List Stretch) (xs : List Item) → Off sample xs → Off sample (ofStretches rs xs)
+unfolding ofStretches
 runs-off [] xs o = o
-runs-off (run t v vs ∷ rs) xs o = refl
+runs-off (stretch t v vs ∷ rs) xs o = refl
 
-same-runs : (rs rs′ : List Run) (xs xs′ : List Item) → Off sample xs → Off sample xs′ → Off timeBin xs → Off timeBin xs′
-    → ofRuns rs xs ≡ ofRuns rs′ xs′ → (rs ≡ rs′) × (xs ≡ xs′)
-unfolding ofRuns
+same-runs : (rs rs′ : List Stretch) (xs xs′ : List Item) → Off sample xs → Off sample xs′ → Off timeBin xs → Off timeBin xs′
+    → ofStretches rs xs ≡ ofStretches rs′ xs′ → (rs ≡ rs′) × (xs ≡ xs′)
+unfolding ofStretches
 same-runs [] [] xs xs′ o o′ t t′ e = (refl, e)
-same-runs [] (run u v vs ∷ rs′) xs xs′ o o′ t t′ e = differ timeBin xs _ t refl e
-same-runs (run u v vs ∷ rs) [] xs xs′ o o′ t t′ e = differ timeBin xs′ _ t′ refl (sym e)
-same-runs (run u v vs ∷ rs) (run u′ v′ vs′ ∷ rs′) xs xs′ o o′ t t′ e =
-    let r : ofSamples vs (ofRuns rs xs) ≡ ofSamples vs′ (ofRuns rs′ xs′) = cc in
+same-runs [] (stretch u v vs ∷ rs′) xs xs′ o o′ t t′ e = differ timeBin xs _ t refl e
+same-runs (stretch u v vs ∷ rs) [] xs xs′ o o′ t t′ e = differ timeBin xs′ _ t′ refl (sym e)
+same-runs (stretch u v vs ∷ rs) (stretch u′ v′ vs′ ∷ rs′) xs xs′ o o′ t t′ e =
+    let r : ofSamples vs (ofStretches rs xs) ≡ ofSamples vs′ (ofStretches rs′ xs′) = cc in
     let f : u ≡ u′ = cc in
     let g : v ≡ v′ = cc in
-    let (i, j) = same-samples vs vs′ (ofRuns rs xs) (ofRuns rs′ xs′) (runs-off rs xs o) (runs-off rs′ xs′ o′) r in
+    let (i, j) = same-samples vs vs′ (ofStretches rs xs) (ofStretches rs′ xs′) (runs-off rs xs o) (runs-off rs′ xs′ o′) r in
     let (k, l) = same-runs rs rs′ xs xs′ o o′ t t′ j in
     (cc, l)
 
@@ -182,23 +182,23 @@ moves-tree monitorKind xs ms = let (hs, r, a, e) = build xs empty ms tt in (hs, 
 moves-tree commandKind xs ms = let (ss, e) = build xs texts ms tt in (ss, tt, e)
 
 -- the leaves of a lawful tree are sound, and end outside an event
-pub of-tree : (kind : Kind) (card : ℕ) (tree : Tree kind) → Lawful kind card tree → Sound kind card [] (leaves kind tree) × (mayEnd (behind [] (leaves kind tree)) ≡ true)
+pub of-tree : (kind : Kind) (card : ℕ) (tree : Tree kind) → Lawful kind card tree → Sound kind card [] (leaves kind tree) × (mayEnd (earlierThen [] (leaves kind tree)) ≡ true)
 of-tree kind card tree l =
     let (s, e) = moves-sound card (leaves kind tree) (begin kind) (tree-moves kind tree (l .shaped)) [] (begins kind card) (l .limited) in
     (subst (λ (k : Kind). Sound k card [] (leaves kind tree)) (kind-back kind) s, e)
 
 -- and such a list is the leaves of a lawful tree
-pub tree-of : (kind : Kind) (card : ℕ) (xs : List Item) → Sound kind card [] xs → mayEnd (behind [] xs) ≡ true → TreeOf kind card xs
+pub tree-of : (kind : Kind) (card : ℕ) (xs : List Item) → Sound kind card [] xs → mayEnd (earlierThen [] xs) ≡ true → TreeOf kind card xs
 tree-of kind card xs s e =
     let (ms, r) = sound-moves card xs [] (begin kind) (begins kind card) (subst (λ (k : Kind). Sound k card [] xs) (sym (kind-back kind)) s) e in
     let (t, h, l) = moves-tree kind xs ms in
     record { tree = t; lawful = record { shaped = h; limited = subst (Limited card) (sym l) r }; leaves-are = l }
 
 -- T6b, both ways; by `one-tree` the tree is the only one
-pub as-tree : (kind : Kind) (card : ℕ) (xs : List Item) → (Sound kind card [] xs × (mayEnd (behind [] xs) ≡ true)) ↔ TreeOf kind card xs
+pub as-tree : (kind : Kind) (card : ℕ) (xs : List Item) → (Sound kind card [] xs × (mayEnd (earlierThen [] xs) ≡ true)) ↔ TreeOf kind card xs
 as-tree kind card xs = (
   λ h. tree-of kind card xs (h .0) (h .1),
-  λ h. subst (λ (l : List Item). Sound kind card [] l × (mayEnd (behind [] l) ≡ true)) (h .leaves-are) (of-tree kind card (h .tree) (h .lawful)),
+  λ h. subst (λ (l : List Item). Sound kind card [] l × (mayEnd (earlierThen [] l) ≡ true)) (h .leaves-are) (of-tree kind card (h .tree) (h .lawful)),
 )
 
 -- so the items of every legal frame are a lawful tree's

@@ -6,9 +6,9 @@ use mathlib.Core.Path.{_≡_, refl, ap, subst, _∙_}
 use mathlib.Core.List.{List, [], _∷_}
 use native.Mathlib.Omega.{arith}
 use lib.ListN.{length, length-append}
-use Rattle.format.specs.Items.{Item, Channel, Histogram, HitCount, Sample, Bin, LastCell, TimeBin, Text, StartEvent, EndEvent, three, wordsOf}
+use Rattle.format.specs.Items.{Item, Channel, Histogram, HitCount, Sample, Bin, LastCell, TimeBin, Text, StartEvent, EndEvent, headerBits, wordsOf}
 use Rattle.format.specs.Frames.{allWords}
-use Rattle.format.specs.Tree.{Run, run, Part, hits, cell, pulse, Event, event, Bar, bar, Pedestal, pedestal, ofSamples, ofRuns, ofParts, ofEvents, ofBars, ofPedestals, ofTexts, Rising, Spaced, AllSpaced, channels, AllEvents, binNumbers, histograms, AllBars}
+use Rattle.format.specs.Tree.{Stretch, stretch, Part, hits, cell, pulse, Event, event, Bar, bar, Pedestal, pedestal, ofSamples, ofStretches, ofParts, ofEvents, ofBars, ofPedestals, ofTexts, Rising, Spaced, AllSpaced, channels, AllEvents, binNumbers, histograms, AllBars}
 use Rattle.format.proofs.tree.Moves.{State, out, amid, opened, timed, sampled, empty, filling, texts, Body, free, past, starts, counts, cells, opens, ends, times, first, next, later, heads, heads-next, fills, says, at-out, at-empty, at-filling, at-texts, Moves, done, move}
 
 -- how many words some items have
@@ -48,20 +48,20 @@ run-moves v vs m n t xs l k =
     (samples-moves vs m (n + 1) (t + 1) xs (omega arith)
     (λ n′ t′ e f. k n′ t′ (omega arith) (λ ys. omega (arith, f ys, one-word (Sample v) (ofSamples vs ys) refl))))
 
-runs-moves : (rs : List Run) (m n t : ℕ) (xs : List Item) → Spaced (t + 1) rs
-    → ((n′ t′ : ℕ) → ((ys : List Item) → n′ + wordCount ys ≡ n + wordCount (ofRuns rs ys)) → Moves (sampled m n′ t′) xs)
-    → Moves (sampled m n t) (ofRuns rs xs)
-unfolding ofRuns Spaced wordsOf
+runs-moves : (rs : List Stretch) (m n t : ℕ) (xs : List Item) → Spaced (t + 1) rs
+    → ((n′ t′ : ℕ) → ((ys : List Item) → n′ + wordCount ys ≡ n + wordCount (ofStretches rs ys)) → Moves (sampled m n′ t′) xs)
+    → Moves (sampled m n t) (ofStretches rs xs)
+unfolding ofStretches Spaced wordsOf
 runs-moves [] m n t xs s k = k n t (λ ys. refl)
-runs-moves (run u v vs ∷ rs) m n t xs s k =
+runs-moves (stretch u v vs ∷ rs) m n t xs s k =
     move _ _ _ _ (later m n t u (s .0))
-    (run-moves v vs m (n + 1) u (ofRuns rs xs) (s .1)
+    (run-moves v vs m (n + 1) u (ofStretches rs xs) (s .1)
     (λ n′ t′ e f. runs-moves rs m n′ t′ xs (subst (λ (k : ℕ). Spaced k rs) (omega arith) (s .2))
-    (λ n″ t″ g. k n″ t″ (λ ys. omega (arith, g ys, f (ofRuns rs ys), one-word (TimeBin u) (Sample v ∷ ofSamples vs (ofRuns rs ys)) refl)))))
+    (λ n″ t″ g. k n″ t″ (λ ys. omega (arith, g ys, f (ofStretches rs ys), one-word (TimeBin u) (Sample v ∷ ofSamples vs (ofStretches rs ys)) refl)))))
 
 parts-moves : (ps : List Part) (st : State) (m n z : ℕ) (xs : List Item) → Body st m n → AllSpaced ps → Rising m (channels ps)
     → z ≡ 2 * (n + wordCount (ofParts ps (EndEvent z ∷ []))) → Moves out xs → Moves st (ofParts ps (EndEvent z ∷ xs))
-unfolding ofParts AllSpaced Rising channels ofRuns Spaced wordsOf
+unfolding ofParts AllSpaced Rising channels ofStretches Spaced wordsOf
 parts-moves [] st m n z xs b s r e k = move _ _ _ _ (ends st m n z b (omega (arith, count-end z))) k
 parts-moves (hits a₁ a₂ a₃ ∷ ps) st m n z xs b s r e k =
     move _ _ _ _ (counts st m n a₁ a₂ a₃ b)
@@ -69,16 +69,16 @@ parts-moves (hits a₁ a₂ a₃ ∷ ps) st m n z xs b s r e k =
 parts-moves (cell a₁ a₂ ∷ ps) st m n z xs b s r e k =
     move _ _ _ _ (cells st m n a₁ a₂ b)
     (parts-moves ps (amid m (n + 1)) m (n + 1) z xs (free m (n + 1)) s r (omega (arith, one-word (LastCell a₁ a₂) (ofParts ps (EndEvent z ∷ [])) refl)) k)
-parts-moves (pulse a₁ a₂ a₃ (run t v vs) rs ∷ ps) st m n z xs b s r e k =
-    let m′ : ℕ = suc (three a₁ a₂ a₃) in
+parts-moves (pulse a₁ a₂ a₃ (stretch t v vs) rs ∷ ps) st m n z xs b s r e k =
+    let m′ : ℕ = suc (headerBits a₁ a₂ a₃) in
     let tail : List Item = ofParts ps (EndEvent z ∷ []) in
-    let counted : List Item = Sample v ∷ ofSamples vs (ofRuns rs tail) in
+    let counted : List Item = Sample v ∷ ofSamples vs (ofStretches rs tail) in
     move _ _ _ _ (opens st m n a₁ a₂ a₃ b (r .0))
     (move _ _ _ _ (times m′ (n + 1) t)
-    (run-moves v vs m′ (n + 1 + 1) t (ofRuns rs (ofParts ps (EndEvent z ∷ xs))) (s .0 .1)
+    (run-moves v vs m′ (n + 1 + 1) t (ofStretches rs (ofParts ps (EndEvent z ∷ xs))) (s .0 .1)
     (λ n′ t′ h f. runs-moves rs m′ n′ t′ (ofParts ps (EndEvent z ∷ xs)) (subst (λ (k : ℕ). Spaced k rs) (omega arith) (s .0 .2))
     (λ n″ t″ g. parts-moves ps (sampled m′ n″ t″) m′ n″ z xs (past m′ n″ t″) (s .1) (r .1)
-    (omega (arith, e, g tail, f (ofRuns rs tail), one-word (TimeBin t) counted refl, one-word (Channel a₁ a₂ a₃) (TimeBin t ∷ counted) refl)) k))))
+    (omega (arith, e, g tail, f (ofStretches rs tail), one-word (TimeBin t) counted refl, one-word (Channel a₁ a₂ a₃) (TimeBin t ∷ counted) refl)) k))))
 
 pub events-moves : (es : List Event) → AllEvents es → Moves out (ofEvents es)
 unfolding ofEvents AllEvents wordsOf
@@ -97,13 +97,13 @@ unfolding ofPedestals Rising histograms AllBars
 pedestals-moves [] m k r l = done (filling m k) (at-filling m k)
 pedestals-moves (pedestal a b c bs ∷ hs) m k r l =
     move _ _ _ _ (heads-next m k a b c (r .0))
-    (bars-moves bs (suc (three a b c)) 0 (ofPedestals hs) (l .0) (λ k′. pedestals-moves hs (suc (three a b c)) k′ (r .1) (l .1)))
+    (bars-moves bs (suc (headerBits a b c)) 0 (ofPedestals hs) (l .0) (λ k′. pedestals-moves hs (suc (headerBits a b c)) k′ (r .1) (l .1)))
 
 pub monitor-moves : (hs : List Pedestal) → Rising 0 (histograms hs) → AllBars hs → Moves empty (ofPedestals hs)
 unfolding ofPedestals Rising histograms AllBars
 monitor-moves [] r l = done empty at-empty
 monitor-moves (pedestal a b c bs ∷ hs) r l =
-    move _ _ _ _ (heads a b c) (bars-moves bs (suc (three a b c)) 0 (ofPedestals hs) (l .0) (λ k′. pedestals-moves hs (suc (three a b c)) k′ (r .1) (l .1)))
+    move _ _ _ _ (heads a b c) (bars-moves bs (suc (headerBits a b c)) 0 (ofPedestals hs) (l .0) (λ k′. pedestals-moves hs (suc (headerBits a b c)) k′ (r .1) (l .1)))
 
 pub texts-moves : (ss : List (List ℕ)) → Moves texts (ofTexts ss)
 unfolding ofTexts
@@ -123,9 +123,9 @@ pub record InBody (m n : ℕ) (xs : List Item) : Type 0 where
   pub lawful : AllEvents events
   pub leaves : ofParts parts (EndEvent size ∷ ofEvents events) ≡ xs
 
-pub record InRuns (m n t : ℕ) (xs : List Item) : Type 0 where
+pub record InStretches (m n t : ℕ) (xs : List Item) : Type 0 where
   pub samples : List ℕ
-  pub runs : List Run
+  pub runs : List Stretch
   pub parts : List Part
   pub size : ℕ
   pub events : List Event
@@ -133,22 +133,22 @@ pub record InRuns (m n t : ℕ) (xs : List Item) : Type 0 where
   pub apart : Spaced (t + length samples + 1) runs
   pub spaced : AllSpaced parts
   pub rising : Rising m (channels parts)
-  pub sized : size ≡ 2 * (n + wordCount (ofSamples samples (ofRuns runs (ofParts parts (EndEvent size ∷ [])))))
+  pub sized : size ≡ 2 * (n + wordCount (ofSamples samples (ofStretches runs (ofParts parts (EndEvent size ∷ [])))))
   pub lawful : AllEvents events
-  pub leaves : ofSamples samples (ofRuns runs (ofParts parts (EndEvent size ∷ ofEvents events))) ≡ xs
+  pub leaves : ofSamples samples (ofStretches runs (ofParts parts (EndEvent size ∷ ofEvents events))) ≡ xs
 
-pub record InRun (m n t : ℕ) (xs : List Item) : Type 0 where
+pub record InStretch (m n t : ℕ) (xs : List Item) : Type 0 where
   pub sample : ℕ
   pub rest : List Item
   pub here : Sample sample ∷ rest ≡ xs
   pub fits : t ≤ 511
-  pub runs : InRuns m (n + 1) (t + 1) rest
+  pub runs : InStretches m (n + 1) (t + 1) rest
 
 pub record InChannel (m n : ℕ) (xs : List Item) : Type 0 where
   pub start : ℕ
   pub rest : List Item
   pub here : TimeBin start ∷ rest ≡ xs
-  pub run : InRun m (n + 1) start rest
+  pub stretch : InStretch m (n + 1) start rest
 
 pub record InBars (m k : ℕ) (xs : List Item) : Type 0 where
   pub bars : List Bar
@@ -162,8 +162,8 @@ abbrev pub Built : State → List Item → Type 0
 Built out xs = (es : List Event) × AllEvents es × (ofEvents es ≡ xs)
 Built (amid m n) xs = InBody m n xs
 Built (opened m n) xs = InChannel m n xs
-Built (timed m n t) xs = InRun m n t xs
-Built (sampled m n t) xs = InRuns m n t xs
+Built (timed m n t) xs = InStretch m n t xs
+Built (sampled m n t) xs = InStretches m n t xs
 Built empty xs = (hs : List Pedestal) × Rising 0 (histograms hs) × AllBars hs × (ofPedestals hs ≡ xs)
 Built (filling m k) xs = InBars m k xs
 Built texts xs = (ss : List (List ℕ)) × (ofTexts ss ≡ xs)
@@ -181,7 +181,7 @@ Timely texts = Unit {0}
 
 -- a part may come after a channel's last sample
 in-body : (st : State) (m n : ℕ) (xs : List Item) → Body st m n → Timely st → InBody m n xs → Built st xs
-unfolding ofSamples ofRuns Spaced
+unfolding ofSamples ofStretches Spaced
 in-body st m n xs (free _ _) h b = b
 in-body st m n xs (past _ _ t) h b =
     record {
@@ -200,16 +200,16 @@ in-body st m n xs (past _ _ t) h b =
     }
 
 -- a Channel before its runs is a part
-channel-part : (m n a b c : ℕ) (xs : List Item) → m ≤ three a b c → InChannel (suc (three a b c)) (n + 1) xs → InBody m n (Channel a b c ∷ xs)
-unfolding ofRuns ofParts Rising Spaced AllSpaced channels wordsOf
+channel-part : (m n a b c : ℕ) (xs : List Item) → m ≤ headerBits a b c → InChannel (suc (headerBits a b c)) (n + 1) xs → InBody m n (Channel a b c ∷ xs)
+unfolding ofStretches ofParts Rising Spaced AllSpaced channels wordsOf
 channel-part m n a b c xs l h =
-    let r = h .run in
+    let r = h .stretch in
     let f = r .runs in
     let tail : List Item = ofParts (f .parts) (EndEvent (f .size) ∷ []) in
-    let counted : List Item = ofSamples (f .samples) (ofRuns (f .runs) tail) in
+    let counted : List Item = ofSamples (f .samples) (ofStretches (f .runs) tail) in
     let sampled : List Item = Sample (r .sample) ∷ counted in
     record {
-      parts = pulse a b c (run (h .start) (r .sample) (f .samples)) (f .runs) ∷ f .parts;
+      parts = pulse a b c (stretch (h .start) (r .sample) (f .samples)) (f .runs) ∷ f .parts;
       size = f .size;
       events = f .events;
       spaced = ((omega arith, omega (arith, f .fits), subst (λ (k : ℕ). Spaced k (f .runs)) (omega arith) (f .apart)), f .spaced);
@@ -224,15 +224,15 @@ channel-part m n a b c xs l h =
     }
 
 -- a Time bin after a sample begins a further run
-later-run : (m n t u : ℕ) (xs : List Item) → t ≤ 512 → t + 1 ≤ u → InRun m (n + 1) u xs → InRuns m n t (TimeBin u ∷ xs)
-unfolding ofSamples ofRuns Spaced wordsOf
+later-run : (m n t u : ℕ) (xs : List Item) → t ≤ 512 → t + 1 ≤ u → InStretch m (n + 1) u xs → InStretches m n t (TimeBin u ∷ xs)
+unfolding ofSamples ofStretches Spaced wordsOf
 later-run m n t u xs h l r =
     let f = r .runs in
     let tail : List Item = ofParts (f .parts) (EndEvent (f .size) ∷ []) in
-    let counted : List Item = ofSamples (f .samples) (ofRuns (f .runs) tail) in
+    let counted : List Item = ofSamples (f .samples) (ofStretches (f .runs) tail) in
     record {
       samples = [];
-      runs = run u (r .sample) (f .samples) ∷ f .runs;
+      runs = stretch u (r .sample) (f .samples) ∷ f .runs;
       parts = f .parts;
       size = f .size;
       events = f .events;
@@ -246,7 +246,7 @@ later-run m n t u xs h l r =
     }
 
 pub build : (xs : List Item) (st : State) → Moves st xs → Timely st → Built st xs
-unfolding ofSamples ofRuns ofParts ofEvents ofBars ofPedestals ofTexts Rising Spaced AllSpaced channels AllEvents binNumbers histograms AllBars wordsOf
+unfolding ofSamples ofStretches ofParts ofEvents ofBars ofPedestals ofTexts Rising Spaced AllSpaced channels AllEvents binNumbers histograms AllBars wordsOf
 build xs st (done _ at-out) h = ([], tt, refl)
 build xs st (done _ at-empty) h = ([], tt, tt, refl)
 build xs st (done _ (at-filling m k)) h = record { bars = []; pedestals = []; bins = tt; rising = tt; all = tt; leaves = refl }
@@ -284,7 +284,7 @@ build xs st (move _ _ _ ys (cells _ m n a₁ a₂ d) ms) h =
       leaves = ap (λ (l : List Item). LastCell a₁ a₂ ∷ l) (b .leaves);
     })
 build xs st (move _ _ _ ys (opens _ m n a₁ a₂ a₃ d l) ms) h =
-    let c = build ys (opened (suc (three a₁ a₂ a₃)) (n + 1)) ms tt in
+    let c = build ys (opened (suc (headerBits a₁ a₂ a₃)) (n + 1)) ms tt in
     in-body st m n xs d h (channel-part m n a₁ a₂ a₃ ys l c)
 build xs st (move _ _ _ ys (ends _ m n z d e) ms) h =
     let (es, a, l) = build ys out ms tt in
@@ -299,7 +299,7 @@ build xs st (move _ _ _ ys (ends _ m n z d e) ms) h =
       lawful = a;
       leaves = ap (λ (l : List Item). EndEvent z ∷ l) l;
     })
-build xs st (move _ _ _ ys (times m n t) ms) h = record { start = t; rest = ys; here = refl; run = build ys (timed m (n + 1) t) ms tt }
+build xs st (move _ _ _ ys (times m n t) ms) h = record { start = t; rest = ys; here = refl; stretch = build ys (timed m (n + 1) t) ms tt }
 build xs st (move _ _ _ ys (first m n t v l) ms) h =
     record { sample = v; rest = ys; here = refl; fits = l; runs = build ys (sampled m (n + 1) (t + 1)) ms (omega arith) }
 build xs st (move _ _ _ ys (next m n t v l) ms) h =
@@ -314,16 +314,16 @@ build xs st (move _ _ _ ys (next m n t v l) ms) h =
       apart = subst (λ (k : ℕ). Spaced k (b .runs)) (omega arith) (b .apart);
       spaced = b .spaced;
       rising = b .rising;
-      sized = omega (arith, b .sized, one-word (Sample v) (ofSamples (b .samples) (ofRuns (b .runs) (ofParts (b .parts) (EndEvent (b .size) ∷ [])))) refl);
+      sized = omega (arith, b .sized, one-word (Sample v) (ofSamples (b .samples) (ofStretches (b .runs) (ofParts (b .parts) (EndEvent (b .size) ∷ [])))) refl);
       lawful = b .lawful;
       leaves = ap (λ (l : List Item). Sample v ∷ l) (b .leaves);
     }
 build xs st (move _ _ _ ys (later m n t u l) ms) h = later-run m n t u ys h l (build ys (timed m (n + 1) u) ms tt)
 build xs st (move _ _ _ ys (heads a b c) ms) h =
-    let f = build ys (filling (suc (three a b c)) 0) ms tt in
+    let f = build ys (filling (suc (headerBits a b c)) 0) ms tt in
     (pedestal a b c (f .bars) ∷ f .pedestals, (omega arith, f .rising), (f .bins, f .all), ap (λ (l : List Item). Histogram a b c ∷ l) (f .leaves))
 build xs st (move _ _ _ ys (heads-next m k a b c l) ms) h =
-    let f = build ys (filling (suc (three a b c)) 0) ms tt in
+    let f = build ys (filling (suc (headerBits a b c)) 0) ms tt in
     record {
       bars = [];
       pedestals = pedestal a b c (f .bars) ∷ f .pedestals;

@@ -14,36 +14,36 @@ use Rattle.format.specs.Words.{pick, Bytes, words, bytes, wordAt}
 use Rattle.format.specs.Answers.{Outcome, accepted, refused, andThen}
 use Rattle.format.specs.Items.{Item, tokens}
 use Rattle.format.specs.Rules.{Kind, mayEnd}
-use Rattle.format.specs.Frames.{Frame, behind, Sound, startWord, allWords, frameWords, encode, Legal, lastOf, headFault, kindIn, cardIn, front, body, walk, ending, judged, verdict}
+use Rattle.format.specs.Frames.{Frame, earlierThen, Sound, startWord, allWords, frameWords, encode, Legal, lastOf, headFault, kindIn, cardIn, front, body, walk, ending, judged, verdict}
 use Rattle.format.proofs.items.WordLaws.{words-bytes, bytes-words, length-words, length-bytes, word-at, below-drop}
 use Rattle.format.proofs.verdict.WalkLaws.{Walked, walk-sound, walk-complete}
 use Rattle.format.proofs.verdict.HeadLaws.{Head, head-of, head-zero, start-word, Starts, starts, front-word, length-front, front-last, front-below, three-first}
 
 -- the items, in their order again
-pub behind-behind : (xs ys p : List Item) → behind ys (behind p xs) ≡ behind (xs ++ ys) p
-unfolding behind
+pub behind-behind : (xs ys p : List Item) → earlierThen ys (earlierThen p xs) ≡ earlierThen (xs ++ ys) p
+unfolding earlierThen
 behind-behind [] ys p = refl
 behind-behind (x ∷ xs) ys p = behind-behind xs ys (x ∷ p)
 
-pub in-order : (xs : List Item) → behind [] (behind [] xs) ≡ xs
-unfolding behind
+pub in-order : (xs : List Item) → earlierThen [] (earlierThen [] xs) ≡ xs
+unfolding earlierThen
 in-order xs = behind-behind xs [] [] ∙ append-nil xs
 
-pub length-behind : (p xs : List Item) → length (behind p xs) ≡ length p + length xs
-unfolding behind
+pub length-behind : (p xs : List Item) → length (earlierThen p xs) ≡ length p + length xs
+unfolding earlierThen
 length-behind p [] = omega arith
 length-behind p (x ∷ xs) = length-behind (x ∷ p) xs ∙ omega arith
 
 -- ---- what an accepted walk and ending say
 pub record Ended (s : List ℕ) (q : List Item) (f : Frame) : Type 0 where
   pub may : mayEnd q ≡ true
-  pub frame : record { kind = kindIn s; card = cardIn s; sequence = wordAt s 2; items = behind [] q } ≡ f
+  pub frame : record { kind = kindIn s; card = cardIn s; sequence = wordAt s 2; items = earlierThen [] q } ≡ f
 
 ended-of : (s : List ℕ) (q : List Item) (f : Frame) → ending s q ≡ accepted f → Ended s q f
 ended-of s q f e = go (mayEnd q) refl e
   where
     go : (b : Bool) → mayEnd q ≡ b
-        → pick b (accepted (record { kind = kindIn s; card = cardIn s; sequence = wordAt s 2; items = behind [] q })) (refused 11 (lastOf s)) ≡ accepted f → Ended s q f
+        → pick b (accepted (record { kind = kindIn s; card = cardIn s; sequence = wordAt s 2; items = earlierThen [] q })) (refused 11 (lastOf s)) ≡ accepted f → Ended s q f
     go true m g = record { may = m; frame = inner _ _ g }
       where
         inner : (a b : Frame) → accepted a ≡ accepted b → a ≡ b
@@ -117,7 +117,7 @@ sound s bs f e =
     let w = walk-sound (kindIn s) (cardIn s) (length (drop 3 (front s))) [] 3 (drop 3 (front s)) (j .earlier) (omega arith) (below-drop 3 (front s) 65536 (front-below s bs)) (j .walked) in
     let xs : List Item = w .items in
     let g : Frame = record { kind = kindIn s; card = cardIn s; sequence = wordAt s 2; items = xs } in
-    let i : behind [] (j .earlier) ≡ xs = ap (behind []) (w .earlier) ∙ in-order xs in
+    let i : earlierThen [] (j .earlier) ≡ xs = ap (earlierThen []) (w .earlier) ∙ in-order xs in
     let q : s ≡ encode g = sym (bytes-words s (h .even) bs) ∙ encode-of g (words s) (words-frame s xs h (w .written)) in
     let l : Legal g = record {
       card = below-32 (wordAt s 0);
@@ -195,13 +195,13 @@ module _ (f : Frame) (l : Legal f) where
   unfolding fore
   body-s = ap (λ (ws : List ℕ). tokens 0 (drop 3 ws)) front-s
 
-  walk-s : walk (kindIn (encode f)) (cardIn (encode f)) [] 3 (body (encode f)) ≡ accepted (behind [] (f .items))
+  walk-s : walk (kindIn (encode f)) (cardIn (encode f)) [] 3 (body (encode f)) ≡ accepted (earlierThen [] (f .items))
   walk-s =
       ap₂ (λ (k : Kind) (c : ℕ). walk k c [] 3 (body (encode f))) (start-s .kind-is) (start-s .card-is)
       ∙ ap (walk (f .kind) (f .card) [] 3) body-s
       ∙ walk-complete (f .kind) (f .card) (f .items) [] 3 (l .sound)
 
-  frame-s : record { kind = kindIn (encode f); card = cardIn (encode f); sequence = wordAt (encode f) 2; items = behind [] (behind [] (f .items)) } ≡ f
+  frame-s : record { kind = kindIn (encode f); card = cardIn (encode f); sequence = wordAt (encode f) 2; items = earlierThen [] (earlierThen [] (f .items)) } ≡ f
   frame-s = λ i. record { kind = start-s .kind-is i; card = start-s .card-is i; sequence = third-s i; items = in-order (f .items) i }
 
   judged-s : judged (encode f) ≡ accepted f

@@ -14,7 +14,7 @@ use Rattle.format.specs.Prefix.{find}
 use Rattle.format.specs.Book.{classOf}
 use Rattle.format.specs.Items.{Item, Histogram, Bin, wordsOf, decode, Token, whole, tokenOf, tokens}
 use Rattle.format.specs.Rules.{Kind, monitorKind, since, count, total, gather, above, mayEnd, check}
-use Rattle.format.specs.Frames.{Frame, behind, Sound, allWords, frameWords, encode, Legal, lastOf, headFault, kindIn, cardIn, front, body, walk, ending, judged, verdict}
+use Rattle.format.specs.Frames.{Frame, earlierThen, Sound, allWords, frameWords, encode, Legal, lastOf, headFault, kindIn, cardIn, front, body, walk, ending, judged, verdict}
 use Rattle.format.specs.Questions.{events, pickNth, eventAt}
 use Rattle.format.specs.Figures.{pedestal}
 use Rattle.format.specs.Faults.{HeadBroken, Refused, ofHead, ofItem, ofEnd, Placed, Answered, reads, refuses}
@@ -100,7 +100,7 @@ module _ (s : List ℕ) (bs : Bytes s) where
       go (faulty m h g) = head-refused s m h ∙ ap (λ (n : ℕ). refused n 0) (one-first (HeadBroken s) (suc m) k g f)
   given n p (ofItem k r none f) = by-items (refused k r) none (walk-refuses s bs (lastOf s) enough k r f)
   given n p (ofEnd xs none sd written opened) =
-      by-items (accepted (behind [] xs)) none
+      by-items (accepted (earlierThen [] xs)) none
       (ap (λ (l : List ℕ). walk (kindIn s) (cardIn s) [] 3 (tokens 0 l)) written ∙ walk-complete (kindIn s) (cardIn s) xs [] 3 sd)
       ∙ (rw opened)
 
@@ -115,7 +115,7 @@ due-placed s n p (ofHead k f) =
     let (a, b) = head-number s k (f .broken) in
     record { least = a; most = omega arith; head = λ h. refl; item = λ h i. absurd (omega arith); last = λ h. absurd (omega arith) }
 due-placed s n p (ofItem k r none f) =
-    let (a, b) = item-number s (lastOf s) (behind [] (f .items)) r k (f .first .broken) in
+    let (a, b) = item-number s (lastOf s) (earlierThen [] (f .items)) r k (f .first .broken) in
     record { least = omega arith; most = omega arith; head = λ h. absurd (omega arith); item = λ h i. (omega (arith, f .begins), f .inside); last = λ h. absurd (omega arith) }
 due-placed s n p (ofEnd xs none sd written opened) =
     record { least = omega arith; most = omega arith; head = λ h. absurd (omega arith); item = λ h i. absurd (omega arith); last = λ h. refl }
@@ -157,7 +157,7 @@ items-only s bs f e =
     ap (tokens 0) (w .written ∙ sym (append-nil (allWords (w .items))))
     ∙ alone (kindIn s) (cardIn s) [] (w .items) [] (w .sound)
     ∙ append-nil (map whole (w .items))
-    ∙ ap (map whole) (sym (in-order (w .items)) ∙ ap (behind []) (sym (w .earlier)) ∙ ap (λ (g : Frame). g .items) (j .ended .frame))
+    ∙ ap (map whole) (sym (in-order (w .items)) ∙ ap (earlierThen []) (sym (w .earlier)) ∙ ap (λ (g : Frame). g .items) (j .ended .frame))
 
 -- 00F1 in a Bin's count, where it looks like a Start event
 pub bin-count : (b high : ℕ) (rest : List ℕ) → b ≤ 4095 → high < 65536
@@ -177,15 +177,15 @@ no-event at b n xs = refl
 
 -- case 7 with 00F1 in the count's low word: a histogram and its bin, and no event
 pub counted : verdict (pedestal 0x8A4E 0x00F1 1) ≡ accepted (record { kind = monitorKind; card = 5; sequence = 0; items = Histogram 5 0 78 ∷ Bin 256 0x100F1 ∷ [] })
-unfolding bytes words nonZero allZero find classOf wordsOf decode tokenOf tokens since count total gather above check behind headFault front walk judged verdict
+unfolding bytes words nonZero allZero find classOf wordsOf decode tokenOf tokens since count total gather above check earlierThen headFault front walk judged verdict
 counted = refl
 
 pub no-event-there : eventAt (pedestal 0x8A4E 0x00F1 1) 0 ≡ refused 13 0
-unfolding bytes words nonZero allZero find classOf wordsOf decode tokenOf tokens since count total gather above check behind headFault front walk judged verdict eventAt events pickNth
+unfolding bytes words nonZero allZero find classOf wordsOf decode tokenOf tokens since count total gather above check earlierThen headFault front walk judged verdict eventAt events pickNth
 no-event-there = refl
 
 -- ---- there are legal frames: of every kind, card and sequence word the one without items
 pub empty-legal : (kind : Kind) (card sequence : ℕ) → card ≤ 31 → sequence ≤ 0x0100
     → Legal (record { kind = kind; card = card; sequence = sequence; items = [] })
-unfolding Sound behind since count encode frameWords allWords bytes
+unfolding Sound earlierThen since count encode frameWords allWords bytes
 empty-legal kind card sequence c q = record { card = c; sequence = q; sound = tt; ended = refl; short = omega arith }

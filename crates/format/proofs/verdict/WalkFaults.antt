@@ -11,7 +11,7 @@ use Rattle.format.specs.Answers.{Outcome, accepted, refused}
 use Rattle.format.specs.Book.{classOf, after}
 use Rattle.format.specs.Items.{Item, wordsOf, Token, whole, tokenOf, tokens}
 use Rattle.format.specs.Rules.{Kind, Checked, good, bad, check}
-use Rattle.format.specs.Frames.{behind, Sound, allWords, kindIn, cardIn, walk}
+use Rattle.format.specs.Frames.{earlierThen, Sound, allWords, kindIn, cardIn, walk}
 use Rattle.format.specs.Faults.{First, ItemBroken, FirstFaulty}
 use Rattle.format.proofs.items.WordLaws.{below-drop}
 use Rattle.format.proofs.items.PartLaws.{part-take}
@@ -38,15 +38,15 @@ one-bad m n e = cc
 module _ (kind : Kind) (card : ℕ) where
   -- over the words of a sound list it goes on with what comes after them
   pub walk-over : (xs : List Item) (q : List Item) (at : ℕ) (rest : List ℕ) → Sound kind card q xs
-      → walk kind card q at (tokens 0 (allWords xs ++ rest)) ≡ walk kind card (behind q xs) (at + length (allWords xs)) (tokens 0 rest)
-  unfolding Sound allWords behind
+      → walk kind card q at (tokens 0 (allWords xs ++ rest)) ≡ walk kind card (earlierThen q xs) (at + length (allWords xs)) (tokens 0 rest)
+  unfolding Sound allWords earlierThen
   walk-over [] q at rest s = ap (λ (n : ℕ). walk kind card q n (tokens 0 rest)) (omega arith)
   walk-over (x ∷ xs) q at rest s =
       ap (λ (l : List ℕ). walk kind card q at (tokens 0 l)) (append-assoc (wordsOf x) (allWords xs) rest)
       ∙ ap (walk kind card q at) (read-written x (allWords xs ++ rest) (allowed-fits kind card q x (s .0)))
       ∙ walk-good kind card q (x ∷ q) at (whole x) (tokens 0 (allWords xs ++ rest)) (passes kind card q x (s .0))
       ∙ walk-over xs (x ∷ q) (at + length (wordsOf x)) rest (s .1)
-      ∙ ap (λ (n : ℕ). walk kind card (behind (x ∷ q) xs) n (tokens 0 rest)) (omega (arith, length-append (wordsOf x) (allWords xs)))
+      ∙ ap (λ (n : ℕ). walk kind card (earlierThen (x ∷ q) xs) n (tokens 0 rest)) (omega (arith, length-append (wordsOf x) (allWords xs)))
 
   -- and it stops at the first item that does not pass
   pub record Stopped (q : List Item) (at : ℕ) (ws : List ℕ) (n p : ℕ) : Type 0 where
@@ -56,11 +56,11 @@ module _ (kind : Kind) (card : ℕ) where
     pub rest : List ℕ
     pub written : ws ≡ allWords items ++ (word ∷ rest)
     pub reach : p ≡ at + length (allWords items)
-    pub checked : check kind card (behind q items) (tokenOf word rest) ≡ bad n
+    pub checked : check kind card (earlierThen q items) (tokenOf word rest) ≡ bad n
 
   pub walk-stops : (k : ℕ) (q : List Item) (at : ℕ) (ws : List ℕ) (n p : ℕ) → length ws ≤ k → ((i : ℕ) → getD ws i 0 < 65536)
       → walk kind card q at (tokens 0 ws) ≡ refused n p → Stopped q at ws n p
-  unfolding tokens Sound allWords behind walk
+  unfolding tokens Sound allWords earlierThen walk
   walk-stops zero q at [] n p l b e = let z : _≡_ {A = ℕ} 0 1 = cc in absurd (omega arith)
   walk-stops zero q at (w ∷ ws) n p l b e = absurd (omega arith)
   walk-stops (suc k) q at [] n p l b e = let z : _≡_ {A = ℕ} 0 1 = cc in absurd (omega arith)
@@ -165,7 +165,7 @@ module _ (s : List ℕ) (bs : Bytes s) (end : ℕ) (enough : 2 * end ≤ length 
         stand = standing (h .items) p (h .reach) l (h .word) (h .rest) (h .written);
         begins = h .reach;
         inside = l;
-        first = check-first (behind [] (h .items)) p n l (ap₂ (λ (w : ℕ) (ws : List ℕ). check (kindIn s) (cardIn s) (behind [] (h .items)) (tokenOf w ws)) i j ∙ h .checked);
+        first = check-first (earlierThen [] (h .items)) p n l (ap₂ (λ (w : ℕ) (ws : List ℕ). check (kindIn s) (cardIn s) (earlierThen [] (h .items)) (tokenOf w ws)) i j ∙ h .checked);
       }
 
   pub walk-refuses : (n p : ℕ) → FirstFaulty s end n p → walk (kindIn s) (cardIn s) [] 3 (tokens 0 (drop 3 (upTo s end))) ≡ refused n p
@@ -173,6 +173,6 @@ module _ (s : List ℕ) (bs : Bytes s) (end : ℕ) (enough : 2 * end ≤ length 
       let xs = f .items in
       ap (λ (l : List ℕ). walk (kindIn s) (cardIn s) [] 3 (tokens 0 l)) (parted xs p (f .begins) (f .inside) (f .stand))
       ∙ walk-over (kindIn s) (cardIn s) xs [] 3 (wordAt s p ∷ left s end p) (f .sound)
-      ∙ ap (walk (kindIn s) (cardIn s) (behind [] xs) (3 + length (allWords xs))) (tokens-at (wordAt s p) (left s end p))
-      ∙ walk-bad (kindIn s) (cardIn s) (behind [] xs) n (3 + length (allWords xs)) (tokenOf (wordAt s p) (left s end p)) _ (first-check (behind [] xs) p n (f .inside) (f .first))
+      ∙ ap (walk (kindIn s) (cardIn s) (earlierThen [] xs) (3 + length (allWords xs))) (tokens-at (wordAt s p) (left s end p))
+      ∙ walk-bad (kindIn s) (cardIn s) (earlierThen [] xs) n (3 + length (allWords xs)) (tokenOf (wordAt s p) (left s end p)) _ (first-check (earlierThen [] xs) p n (f .inside) (f .first))
       ∙ ap (refused n) (sym (f .begins))

@@ -11,7 +11,7 @@ use Rattle.format.specs.Answers.{accepted, refused}
 use Rattle.format.specs.Book.{classOf, after}
 use Rattle.format.specs.Items.{Item, wordsOf, fits, inRange, Token, whole, broken, flawed, tokenOf, tokens}
 use Rattle.format.specs.Rules.{Kind, place, sized, Checked, good, bad, check}
-use Rattle.format.specs.Frames.{behind, Allowed, Sound, allWords, width, walk}
+use Rattle.format.specs.Frames.{earlierThen, Allowed, Sound, allWords, width, walk}
 use Rattle.format.proofs.book.PrefixLaws.{and-left}
 use Rattle.format.proofs.items.WordLaws.{below-drop}
 use Rattle.format.proofs.rules.LimitLaws.{range-fits}
@@ -94,11 +94,11 @@ module _ (kind : Kind) (card : ℕ) where
     pub items : List Item
     pub sound : Sound kind card p items
     pub written : ws ≡ allWords items
-    pub earlier : q ≡ behind p items
+    pub earlier : q ≡ earlierThen p items
 
   pub walk-sound : (n : ℕ) (p : List Item) (at : ℕ) (ws : List ℕ) (q : List Item) → length ws ≤ n → ((i : ℕ) → getD ws i 0 < 65536)
       → walk kind card p at (tokens 0 ws) ≡ accepted q → Walked p ws q
-  unfolding tokens Sound allWords behind walk
+  unfolding tokens Sound allWords earlierThen walk
   walk-sound zero p at [] q l b e = record { items = []; sound = tt; written = refl; earlier = cc }
   walk-sound zero p at (w ∷ ws) q l b e = absurd (omega arith)
   walk-sound (suc n) p at [] q l b e = record { items = []; sound = tt; written = refl; earlier = cc }
@@ -122,8 +122,8 @@ module _ (kind : Kind) (card : ℕ) where
       shorter (suc k) (x ∷ l) = omega (arith, shorter k l)
 
   -- and those of a sound list are walked through
-  pub walk-complete : (xs : List Item) (p : List Item) (at : ℕ) → Sound kind card p xs → walk kind card p at (tokens 0 (allWords xs)) ≡ accepted (behind p xs)
-  unfolding tokens Sound allWords behind walk
+  pub walk-complete : (xs : List Item) (p : List Item) (at : ℕ) → Sound kind card p xs → walk kind card p at (tokens 0 (allWords xs)) ≡ accepted (earlierThen p xs)
+  unfolding tokens Sound allWords earlierThen walk
   walk-complete [] p at s = refl
   walk-complete (x ∷ xs) p at s =
       ap (walk kind card p at) (read-written x (allWords xs) (allowed-fits p x (s .0)))

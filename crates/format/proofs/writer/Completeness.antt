@@ -15,10 +15,10 @@ use Rattle.format.specs.Words.{Bytes, bytes}
 use Rattle.format.specs.Answers.{Outcome, accepted, refused}
 use Rattle.format.specs.Items.{Item, wordsOf, Token, whole}
 use Rattle.format.specs.Rules.{Kind, mayEnd}
-use Rattle.format.specs.Frames.{Frame, behind, Allowed, Sound, allWords, encode, Legal, verdict}
+use Rattle.format.specs.Frames.{Frame, earlierThen, Allowed, Sound, allWords, encode, Legal, verdict}
 use Rattle.format.specs.Writing.{partialWords, partialVerdict, beginAnswer, beginLeft, addAnswer, addLeft, closeAnswer, closeLeft}
-use Rattle.format.specs.Runs.{Ran, ran, next, addAll, writeAll}
-use Rattle.format.specs.WriterCases.{longer, begins, beginShort, adds, addShort, closes, Begun, content, RunWrote}
+use Rattle.format.specs.WriterCalls.{CallsDone, callsDone, thenCalls, addAll, writeAll}
+use Rattle.format.specs.WriterCases.{longer, begins, beginShort, adds, addShort, closes, Begun, content, WritingDone}
 use Rattle.format.proofs.items.WordLaws.{length-bytes}
 use Rattle.format.proofs.verdict.Acceptance.{sound, complete}
 use Rattle.format.proofs.questions.ItemQuestions.{all-words}
@@ -31,10 +31,10 @@ use Rattle.format.proofs.writer.WriterSteps.{begin-begun, add-begun, ad
 
 -- ---- a run, a call at a time
 
-next-accepted : (o : Outcome ℕ) (left : List ℕ) (calls : ℕ → Ran) (n : ℕ) → o ≡ accepted n → next o left calls ≡ calls n
+next-accepted : (o : Outcome ℕ) (left : List ℕ) (calls : ℕ → CallsDone) (n : ℕ) → o ≡ accepted n → thenCalls o left calls ≡ calls n
 next-accepted o left calls n e = rw e
 
-next-refused : (o : Outcome ℕ) (left : List ℕ) (calls : ℕ → Ran) (k p : ℕ) → o ≡ refused k p → next o left calls ≡ ran (refused k p) left
+next-refused : (o : Outcome ℕ) (left : List ℕ) (calls : ℕ → CallsDone) (k p : ℕ) → o ≡ refused k p → thenCalls o left calls ≡ callsDone (refused k p) left
 next-refused o left calls k p e = rw e
 
 pub begin-on : (buf : List ℕ) (kind : Kind) (card sequence : ℕ) (ts : List Token) (n : ℕ) → beginAnswer buf card sequence ≡ accepted n
@@ -43,7 +43,7 @@ unfolding writeAll
 begin-on buf kind card sequence ts n e = next-accepted _ _ _ n e
 
 pub begin-stops : (buf : List ℕ) (kind : Kind) (card sequence : ℕ) (ts : List Token) (k p : ℕ) → beginAnswer buf card sequence ≡ refused k p
-    → writeAll buf kind card sequence ts ≡ ran (refused k p) (beginLeft buf kind card sequence)
+    → writeAll buf kind card sequence ts ≡ callsDone (refused k p) (beginLeft buf kind card sequence)
 unfolding writeAll
 begin-stops buf kind card sequence ts k p e = next-refused _ _ _ k p e
 
@@ -51,11 +51,11 @@ pub add-on : (buf : List ℕ) (n : ℕ) (t : Token) (ts : List Token) (m : ℕ) 
 unfolding addAll
 add-on buf n t ts m e = next-accepted _ _ _ m e
 
-pub add-stops : (buf : List ℕ) (n : ℕ) (t : Token) (ts : List Token) (k p : ℕ) → addAnswer buf n t ≡ refused k p → addAll buf n (t ∷ ts) ≡ ran (refused k p) (addLeft buf n t)
+pub add-stops : (buf : List ℕ) (n : ℕ) (t : Token) (ts : List Token) (k p : ℕ) → addAnswer buf n t ≡ refused k p → addAll buf n (t ∷ ts) ≡ callsDone (refused k p) (addLeft buf n t)
 unfolding addAll
 add-stops buf n t ts k p e = next-refused _ _ _ k p e
 
-pub close-on : (buf : List ℕ) (n : ℕ) → addAll buf n [] ≡ ran (closeAnswer buf n) (closeLeft buf n)
+pub close-on : (buf : List ℕ) (n : ℕ) → addAll buf n [] ≡ callsDone (closeAnswer buf n) (closeLeft buf n)
 unfolding addAll
 close-on buf n = refl
 
@@ -120,7 +120,7 @@ module _ (kind : Kind) (card sequence : ℕ) (buf : List ℕ) where
     judged = partial-complete b n (content kind card sequence xs) xs (r .begun)
 
     -- close at the end of a legal list
-    ends : mayEnd (behind [] xs) ≡ true → closeAnswer b n ≡ accepted (n + 2)
+    ends : mayEnd (earlierThen [] xs) ≡ true → closeAnswer b n ≡ accepted (n + 2)
     ends e =
         let k = r .kept in
         let s = r .room in
@@ -138,7 +138,7 @@ module _ (kind : Kind) (card sequence : ℕ) (buf : List ℕ) where
 
     -- the next item of a sound list is allowed, and the frame has room for it and an end word
     record Next (x : Item) (ys : List Item) : Type 0 where
-      pub allowed : Allowed kind card (behind [] xs) x
+      pub allowed : Allowed kind card (earlierThen [] xs) x
       pub fits : longer n x + 2 ≤ length (encode (frame (xs ++ (x ∷ ys))))
 
     next-item : (x : Item) (ys : List Item) → Sound kind card [] (xs ++ (x ∷ ys)) → Next x ys
@@ -150,7 +150,7 @@ module _ (kind : Kind) (card sequence : ℕ) (buf : List ℕ) where
         let v = length-append (wordsOf x) (allWords ys) in
         let s = length-bytes (wordsOf x) in
         record {
-          allowed = sound-head kind card (behind [] xs) x ys (sound-right kind card [] xs (x ∷ ys) l);
+          allowed = sound-head kind card (earlierThen [] xs) x ys (sound-right kind card [] xs (x ∷ ys) l);
           fits = omega arith;
         }
 
@@ -170,8 +170,8 @@ module _ (kind : Kind) (card sequence : ℕ) (buf : List ℕ) where
 
   -- ---- the adds and close
 
-  done : List Item → Ran
-  done xs = ran (accepted (length (encode (frame xs)))) (encode (frame xs) ++ drop (length (encode (frame xs))) buf)
+  done : List Item → CallsDone
+  done xs = callsDone (accepted (length (encode (frame xs)))) (encode (frame xs) ++ drop (length (encode (frame xs))) buf)
 
   one-more : (xs : List Item) (x : Item) (ys : List Item) → (xs ++ (x ∷ [])) ++ ys ≡ xs ++ (x ∷ ys)
   one-more xs x ys = append-assoc xs (x ∷ []) ys
@@ -181,10 +181,10 @@ module _ (kind : Kind) (card sequence : ℕ) (buf : List ℕ) where
   unfolding done
   runs [] b n xs r l h =
       let i = append-nil xs in
-      let e = ends b n xs r (ap (λ (xs : List Item). mayEnd (behind [] xs)) (sym i) ∙ l .ended) in
+      let e = ends b n xs r (ap (λ (xs : List Item). mayEnd (earlierThen [] xs)) (sym i) ∙ l .ended) in
       let (_, m, c) = closed b n xs r (n + 2) e in
       subst (λ (ys : List Item). addAll b n [] ≡ done ys) (sym i)
-      (close-on b n ∙ ap₂ ran (e ∙ ap accepted m) (c ∙ ap (λ (m : ℕ). encode (frame xs) ++ drop m buf) m))
+      (close-on b n ∙ ap₂ callsDone (e ∙ ap accepted m) (c ∙ ap (λ (m : ℕ). encode (frame xs) ++ drop m buf) m))
   runs (x ∷ ys) b n xs r l h =
       let i = one-more xs x ys in
       let f = next-item b n xs r x ys (l .sound) .fits in
@@ -218,10 +218,10 @@ module _ (kind : Kind) (card sequence : ℕ) (buf : List ℕ) where
       ⊎-elim
       (λ (f : (longer n x + 2 ≤ length buf) × (longer n x + 2 ≤ 8192)).
       let e = added b n xs r x ys l (f .0) (f .1) in
-      ap (λ (o : Ran). o .answer) (add-on b n (whole x) (map whole ys) (longer n x) e)
+      ap (λ (o : CallsDone). o .answer) (add-on b n (whole x) (map whole ys) (longer n x) e)
       ∙ stops ys (addLeft b n (whole x)) (longer n x) (xs ++ (x ∷ [])) (goes-on b n xs r x (longer n x) e)
       (subst (Sound kind card []) (sym i) l) (subst (λ (ys : List Item). Over (length (encode (frame ys)))) (sym i) h))
-      (λ (f : Over (longer n x + 2)). ap (λ (o : Ran). o .answer) (add-stops b n (whole x) (map whole ys) 12 0 (too-long b n xs r x ys l f)))
+      (λ (f : Over (longer n x + 2)). ap (λ (o : CallsDone). o .answer) (add-stops b n (whole x) (map whole ys) 12 0 (too-long b n xs r x ys l f)))
       (room-or-not (longer n x + 2))
 
   -- ---- what an accepted run wrote
@@ -239,9 +239,9 @@ module _ (kind : Kind) (card sequence : ℕ) (buf : List ℕ) where
     pub token : t ≡ whole item
     pub at : ℕ
     pub running : Running (addLeft b n t) at (xs ++ (item ∷ []))
-    pub rest : addAll (addLeft b n t) at ts ≡ ran (accepted m) left
+    pub rest : addAll (addLeft b n t) at ts ≡ callsDone (accepted m) left
 
-  went : (b : List ℕ) (n : ℕ) (xs : List Item) → Running b n xs → (t : Token) (ts : List Token) (m : ℕ) (left : List ℕ) → addAll b n (t ∷ ts) ≡ ran (accepted m) left
+  went : (b : List ℕ) (n : ℕ) (xs : List Item) → Running b n xs → (t : Token) (ts : List Token) (m : ℕ) (left : List ℕ) → addAll b n (t ∷ ts) ≡ callsDone (accepted m) left
       → Went b n xs t ts m left
   went b n xs r t ts m left e = go (addAnswer b n t) refl
     where
@@ -257,20 +257,20 @@ module _ (kind : Kind) (card sequence : ℕ) (buf : List ℕ) where
             rest = sym (add-on b n t ts j a) ∙ e;
           }
       go (refused k p) a =
-          let q : refused k p ≡ accepted m = ap (λ (o : Ran). o .answer) (sym (add-stops b n t ts k p a) ∙ e) in
+          let q : refused k p ≡ accepted m = ap (λ (o : CallsDone). o .answer) (sym (add-stops b n t ts k p a) ∙ e) in
           let z : _≡_ {A = ℕ} 0 1 = cc in absurd (omega arith)
 
-  wrote : (ts : List Token) (b : List ℕ) (n : ℕ) (xs : List Item) → Running b n xs → (m : ℕ) (left : List ℕ) → addAll b n ts ≡ ran (accepted m) left → Wrote xs ts m left
+  wrote : (ts : List Token) (b : List ℕ) (n : ℕ) (xs : List Item) → Running b n xs → (m : ℕ) (left : List ℕ) → addAll b n ts ≡ callsDone (accepted m) left → Wrote xs ts m left
   wrote [] b n xs r m left e =
       let q = sym (close-on b n) ∙ e in
-      let (l, k, c) = closed b n xs r m (ap (λ (o : Ran). o .answer) q) in
+      let (l, k, c) = closed b n xs r m (ap (λ (o : CallsDone). o .answer) q) in
       let i = append-nil xs in
       record {
         items = [];
         handed = refl;
         legal = subst (λ (xs : List Item). Legal (frame xs)) (sym i) l;
         reached = k ∙ ap (λ (xs : List Item). length (encode (frame xs))) (sym i);
-        written = sym (ap (λ (o : Ran). o .left) q) ∙ c ∙ ap (λ (xs : List Item). encode (frame xs) ++ drop m buf) (sym i);
+        written = sym (ap (λ (o : CallsDone). o .left) q) ∙ c ∙ ap (λ (xs : List Item). encode (frame xs) ++ drop m buf) (sym i);
       }
   wrote (t ∷ ts) b n xs r m left e =
       let w = went b n xs r t ts m left e in
@@ -286,7 +286,7 @@ module _ (kind : Kind) (card sequence : ℕ) (buf : List ℕ) where
 
 -- T18: every legal frame is written, if it fits
 pub written : (f : Frame) → Legal f → (buf : List ℕ) → length (encode f) ≤ length buf
-    → writeAll buf (f .kind) (f .card) (f .sequence) (map whole (f .items)) ≡ ran (accepted (length (encode f))) (encode f ++ drop (length (encode f)) buf)
+    → writeAll buf (f .kind) (f .card) (f .sequence) (map whole (f .items)) ≡ callsDone (accepted (length (encode f))) (encode f ++ drop (length (encode f)) buf)
 unfolding done
 written f l buf h =
     let k = encode-length f in
@@ -302,18 +302,18 @@ too-short f c q s buf h = go (leb 8 (length buf)) refl
     go : (t : Bool) → leb 8 (length buf) ≡ t → writeAll buf (f .kind) (f .card) (f .sequence) (map whole (f .items)) .answer ≡ refused 12 0
     go true t =
         let e = begin-exactly buf (f .card) (f .sequence) (accepted 6) .1 (begins c q (leb-true _ _ t)) in
-        ap (λ (o : Ran). o .answer) (begin-on buf (f .kind) (f .card) (f .sequence) (map whole (f .items)) 6 e)
+        ap (λ (o : CallsDone). o .answer) (begin-on buf (f .kind) (f .card) (f .sequence) (map whole (f .items)) 6 e)
         ∙ stops (f .kind) (f .card) (f .sequence) buf (f .items) (beginLeft buf (f .kind) (f .card) (f .sequence)) 6 [] (starts (f .kind) (f .card) (f .sequence) buf 6 e) s h
     go false t =
         let e = begin-exactly buf (f .card) (f .sequence) (refused 12 0) .1 (beginShort c q (leb-false _ _ t)) in
-        ap (λ (o : Ran). o .answer) (begin-stops buf (f .kind) (f .card) (f .sequence) (map whole (f .items)) 12 0 e)
+        ap (λ (o : CallsDone). o .answer) (begin-stops buf (f .kind) (f .card) (f .sequence) (map whole (f .items)) 12 0 e)
 
 -- T19: whatever a run accepts is what a legal frame is written as, whose items are those handed over, and it reads back as that frame
-pub run-wrote : (buf : List ℕ) (kind : Kind) (card sequence : ℕ) (ts : List Token) (m : ℕ) (left : List ℕ) → writeAll buf kind card sequence ts ≡ ran (accepted m) left
-    → RunWrote buf kind card sequence ts m left
-run-wrote buf kind card sequence ts m left e = go (beginAnswer buf card sequence) refl
+pub writing-done : (buf : List ℕ) (kind : Kind) (card sequence : ℕ) (ts : List Token) (m : ℕ) (left : List ℕ) → writeAll buf kind card sequence ts ≡ callsDone (accepted m) left
+    → WritingDone buf kind card sequence ts m left
+writing-done buf kind card sequence ts m left e = go (beginAnswer buf card sequence) refl
   where
-    named : Wrote kind card sequence buf [] ts m left → RunWrote buf kind card sequence ts m left
+    named : Wrote kind card sequence buf [] ts m left → WritingDone buf kind card sequence ts m left
     named w =
         let f : Frame = record { kind = kind; card = card; sequence = sequence; items = w .items } in
         let t : take m left ≡ encode f = ap (take m) (w .written) ∙ take-at (encode f) (drop m buf) m (sym (w .reached)) in
@@ -324,16 +324,16 @@ run-wrote buf kind card sequence ts m left e = go (beginAnswer buf card sequence
           reads = ap verdict t ∙ complete f (w .legal);
         }
 
-    go : (o : Outcome ℕ) → beginAnswer buf card sequence ≡ o → RunWrote buf kind card sequence ts m left
+    go : (o : Outcome ℕ) → beginAnswer buf card sequence ≡ o → WritingDone buf kind card sequence ts m left
     go (accepted n) a =
         named (wrote kind card sequence buf ts (beginLeft buf kind card sequence) n [] (starts kind card sequence buf n a) m left (sym (begin-on buf kind card sequence ts n a) ∙ e))
     go (refused k p) a =
-        let q : refused k p ≡ accepted m = ap (λ (o : Ran). o .answer) (sym (begin-stops buf kind card sequence ts k p a) ∙ e) in
+        let q : refused k p ≡ accepted m = ap (λ (o : CallsDone). o .answer) (sym (begin-stops buf kind card sequence ts k p a) ∙ e) in
         let z : _≡_ {A = ℕ} 0 1 = cc in absurd (omega arith)
 
 -- T20: an accepted frame, written again from what was read, has the same bytes
 pub rewritten : (s : List ℕ) → Bytes s → (f : Frame) → verdict s ≡ accepted f → (buf : List ℕ) → length s ≤ length buf
-    → writeAll buf (f .kind) (f .card) (f .sequence) (map whole (f .items)) ≡ ran (accepted (length s)) (s ++ drop (length s) buf)
+    → writeAll buf (f .kind) (f .card) (f .sequence) (map whole (f .items)) ≡ callsDone (accepted (length s)) (s ++ drop (length s) buf)
 rewritten s bs f e buf h =
     let (l, q) = sound s bs f e in
-    written f l buf (subst (λ (t : List ℕ). length t ≤ length buf) q h) ∙ ap (λ (t : List ℕ). ran (accepted (length t)) (t ++ drop (length t) buf)) (sym q)
+    written f l buf (subst (λ (t : List ℕ). length t ≤ length buf) q h) ∙ ap (λ (t : List ℕ). callsDone (accepted (length t)) (t ++ drop (length t) buf)) (sym q)

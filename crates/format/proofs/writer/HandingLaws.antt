@@ -17,19 +17,19 @@ use Rattle.format.specs.Frames.{Frame, startWord, allWords, frameWords, 
 use Rattle.format.specs.Questions.{Shown, shown, shownAt}
 use Rattle.format.specs.Stands.{ItemIs, indexOf}
 use Rattle.format.specs.Steps.{Overview, overview, readOf}
-use Rattle.format.specs.Runs.{ran, writeAll}
+use Rattle.format.specs.WriterCalls.{callsDone, writeAll}
 use Rattle.format.specs.Faults.{Refused}
-use Rattle.format.specs.Handing.{StandsFor, Told, toldOf, Answers, no-more, then, toldWords, allTold, frameTold, Call, byAdd, byText, tokenOfCall, callOf, handOver, writeCalls, CallsWrote}
+use Rattle.format.specs.Handing.{StandsFor, ItemAnswer, itemAnswerOf, Answers, no-more, then, answerWords, allAnswerWords, frameTold, Call, byAdd, byText, tokenOfCall, callOf, handOver, writeCalls, CallsWrote}
 use Rattle.format.proofs.verdict.Acceptance.{exactly, sound}
 use Rattle.format.proofs.verdict.RefusalLaws.{refusals}
 use Rattle.format.proofs.questions.ItemQuestions.{item-stands, all-words, item-there, item-past, item-refused, text-of}
 use Rattle.format.proofs.writer.WriterSteps.{encode-length}
-use Rattle.format.proofs.writer.Completeness.{written, too-short, run-wrote, rewritten}
+use Rattle.format.proofs.writer.Completeness.{written, too-short, writing-done, rewritten}
 
 -- ---- one item
 
 -- THE LAW of the answers: by document 01's columns, they are the item's words
-pub told-words : (x : Item) (next : ℕ) → toldWords (toldOf x next) ≡ wordsOf x
+pub told-words : (x : Item) (next : ℕ) → answerWords (itemAnswerOf x next) ≡ wordsOf x
 unfolding wordsOf
 told-words (Channel a b c) next = ap (λ (w : ℕ). w ∷ []) (omega arith)
 told-words (Histogram a b c) next = ap (λ (w : ℕ). w ∷ []) (omega arith)
@@ -88,17 +88,17 @@ all-back (c ∷ cs) (x ∷ xs) e = ap₂ _∷_ (handed-back c x (cc)) (all-back 
 -- ---- all answers of a frame
 
 -- what is told of the items from ordinal n on
-unfoldable tellFrom : List Item → ℕ → List Item → List Told
+unfoldable tellFrom : List Item → ℕ → List Item → List ItemAnswer
 tellFrom all n [] = []
-tellFrom all n (x ∷ xs) = toldOf x (indexOf all (suc n)) ∷ tellFrom all (suc n) xs
+tellFrom all n (x ∷ xs) = itemAnswerOf x (indexOf all (suc n)) ∷ tellFrom all (suc n) xs
 
 tell-long : (all : List Item) (n : ℕ) (xs : List Item) → length (tellFrom all n xs) ≡ length xs
 unfolding tellFrom
 tell-long all n [] = refl
 tell-long all n (x ∷ xs) = ap suc (tell-long all (suc n) xs)
 
-tell-words : (all : List Item) (n : ℕ) (xs : List Item) → allTold (tellFrom all n xs) ≡ allWords xs
-unfolding tellFrom allTold allWords
+tell-words : (all : List Item) (n : ℕ) (xs : List Item) → allAnswerWords (tellFrom all n xs) ≡ allWords xs
+unfolding tellFrom allAnswerWords allWords
 tell-words all n [] = refl
 tell-words all n (x ∷ xs) = ap₂ _++_ (told-words x (indexOf all (suc n))) (tell-words all (suc n) xs)
 
@@ -113,7 +113,7 @@ one-more p x xs = append-assoc p (x ∷ []) xs
 longer : (p : List Item) (x : Item) (n : ℕ) → length p ≡ n → length (p ++ (x ∷ [])) ≡ suc n
 longer p x n e = omega (arith, length-append p (x ∷ []))
 
-module _ (x y : Told) (xs ys : List Told) (e : x ∷ xs ≡ y ∷ ys) where
+module _ (x y : ItemAnswer) (xs ys : List ItemAnswer) (e : x ∷ xs ≡ y ∷ ys) where
   first-told : x ≡ y
   first-told = cc
 
@@ -121,27 +121,27 @@ module _ (x y : Told) (xs ys : List Told) (e : x ∷ xs ≡ y ∷ ys) where
   later-told = cc
 
 -- each answer ends where the items before it and its own words do
-tell-next : (all ys p : List Item) (n : ℕ) → all ≡ p ++ ys → length p ≡ n → (before after : List Told) (x : Told) → tellFrom all n ys ≡ before ++ (x ∷ after)
-    → x .answer .next ≡ 3 + length (allWords p) + length (allTold (before ++ (x ∷ [])))
-unfolding tellFrom allTold allWords
+tell-next : (all ys p : List Item) (n : ℕ) → all ≡ p ++ ys → length p ≡ n → (before after : List ItemAnswer) (x : ItemAnswer) → tellFrom all n ys ≡ before ++ (x ∷ after)
+    → x .answer .next ≡ 3 + length (allWords p) + length (allAnswerWords (before ++ (x ∷ [])))
+unfolding tellFrom allAnswerWords allWords
 tell-next all [] p n e h [] after x q = let z : _≡_ {A = ℕ} 0 1 = cc in absurd (omega arith)
 tell-next all [] p n e h (b ∷ before) after x q = let z : _≡_ {A = ℕ} 0 1 = cc in absurd (omega arith)
 tell-next all (y ∷ ys) p n e h [] after x q =
-    let i : x ≡ toldOf y (indexOf all (suc n)) = sym (first-told _ x _ after q) in
-    let k : x .answer .next ≡ indexOf all (suc n) = ap (λ (t : Told). t .answer .next) i in
+    let i : x ≡ itemAnswerOf y (indexOf all (suc n)) = sym (first-told _ x _ after q) in
+    let k : x .answer .next ≡ indexOf all (suc n) = ap (λ (t : ItemAnswer). t .answer .next) i in
     let t : take (suc n) all ≡ p ++ (y ∷ []) = ap (take (suc n)) (e ∙ sym (one-more p y ys)) ∙ take-at (p ++ (y ∷ [])) ys (suc n) (longer p y n h) in
     let u : length (allWords (take (suc n) all)) ≡ length (allWords p ++ (wordsOf y ++ [])) = ap (λ (l : List Item). length (allWords l)) t ∙ ap length (all-words p (y ∷ [])) in
-    let v : length (toldWords x ++ []) ≡ length (wordsOf y ++ []) = ap (λ (t : Told). length (toldWords t ++ [])) i ∙ ap (λ (l : List ℕ). length (l ++ [])) (told-words y (indexOf all (suc n))) in
+    let v : length (answerWords x ++ []) ≡ length (wordsOf y ++ []) = ap (λ (t : ItemAnswer). length (answerWords t ++ [])) i ∙ ap (λ (l : List ℕ). length (l ++ [])) (told-words y (indexOf all (suc n))) in
     omega (arith, length-append (allWords p) (wordsOf y ++ []))
 tell-next all (y ∷ ys) p n e h (b ∷ before) after x q =
-    let i : b ≡ toldOf y (indexOf all (suc n)) = sym (first-told _ b _ (before ++ (x ∷ after)) q) in
+    let i : b ≡ itemAnswerOf y (indexOf all (suc n)) = sym (first-told _ b _ (before ++ (x ∷ after)) q) in
     let r = tell-next all ys (p ++ (y ∷ [])) (suc n) (e ∙ sym (one-more p y ys)) (longer p y n h) before after x (later-told _ b _ (before ++ (x ∷ after)) q) in
     let u : length (allWords (p ++ (y ∷ []))) ≡ length (allWords p ++ (wordsOf y ++ [])) = ap length (all-words p (y ∷ [])) in
-    let v : length (toldWords b) ≡ length (wordsOf y) = ap (λ (t : Told). length (toldWords t)) i ∙ ap length (told-words y (indexOf all (suc n))) in
-    omega (arith, length-append (allWords p) (wordsOf y ++ []), length-append (wordsOf y) [], length-append (toldWords b) (allTold (before ++ (x ∷ []))))
+    let v : length (answerWords b) ≡ length (wordsOf y) = ap (λ (t : ItemAnswer). length (answerWords t)) i ∙ ap length (told-words y (indexOf all (suc n))) in
+    omega (arith, length-append (allWords p) (wordsOf y ++ []), length-append (wordsOf y) [], length-append (answerWords b) (allAnswerWords (before ++ (x ∷ []))))
 
 -- two callers are told the same
-pub told-once : {s : List ℕ} {n : ℕ} {xs ys : List Told} → Answers s n xs → Answers s n ys → length xs ≡ length ys → xs ≡ ys
+pub told-once : {s : List ℕ} {n : ℕ} {xs ys : List ItemAnswer} → Answers s n xs → Answers s n ys → length xs ≡ length ys → xs ≡ ys
 told-once no-more no-more h = refl
 told-once no-more (then a b k) h = absurd (omega arith)
 told-once (then a b k) no-more h = absurd (omega arith)
@@ -179,7 +179,7 @@ module _ (s : List ℕ) (f : Frame) (v : verdict s ≡ accepted f) where
   answered : Answers s 0 (tellFrom (f .items) 0 (f .items))
   answered = answered-from (f .items) [] 0 refl refl
 
-  answers-are : (xs : List Told) → Answers s 0 xs → length xs ≡ length (f .items) → xs ≡ tellFrom (f .items) 0 (f .items)
+  answers-are : (xs : List ItemAnswer) → Answers s 0 xs → length xs ≡ length (f .items) → xs ≡ tellFrom (f .items) 0 (f .items)
   answers-are xs a h = told-once a answered (h ∙ sym (tell-long (f .items) 0 (f .items)))
 
   -- each of them
@@ -240,14 +240,14 @@ module _ (s : List ℕ) (bs : Bytes s) where
   read-refused n p = (λ e. refusals s bs n p .0 (refused-by s n p e), λ h. refused-too s n p (refusals s bs n p .1 h))
 
   -- and the answers are those of the one list of items
-  pub its-items : (o : Overview) (a : StandsFor s o) (xs : List Told) → Answers s 0 xs → length xs ≡ o .items → map callOf xs ≡ map handOver (a .frame .items)
+  pub its-items : (o : Overview) (a : StandsFor s o) (xs : List ItemAnswer) → Answers s 0 xs → length xs ≡ o .items → map callOf xs ≡ map handOver (a .frame .items)
   its-items o a xs k h =
       let f = a .frame in
       let c : o .items ≡ length (f .items) = ap (λ (o : Overview). o .items) (a .told) in
       ap (map callOf) (answers-are s f (exactly s bs f .1 (a .legal, a .written)) xs k (h ∙ c)) ∙ tell-calls (f .items) 0 (f .items)
 
 module _ (s : List ℕ) (o : Overview) (r : readOf s ≡ accepted o) where
-  pub all-answered : (xs : List Told) × Answers s 0 xs × (length xs ≡ o .items)
+  pub all-answered : (xs : List ItemAnswer) × Answers s 0 xs × (length xs ≡ o .items)
   all-answered =
       let f = seen s o r in
       (tellFrom (f .frame .items) 0 (f .frame .items), answered s (f .frame) (f .judged), tell-long (f .frame .items) 0 (f .frame .items) ∙ ap (λ (o : Overview). o .items) (f .seen))
@@ -264,14 +264,14 @@ module _ (s : List ℕ) (o : Overview) (r : readOf s ≡ accepted o) where
       let c : length (f .frame .items) ≡ o .items = ap (λ (o : Overview). o .items) (f .seen) in
       shown-past s (f .frame) (f .judged) n (omega arith)
 
-  module _ (xs : List Told) (a : Answers s 0 xs) (h : length xs ≡ o .items) where
+  module _ (xs : List ItemAnswer) (a : Answers s 0 xs) (h : length xs ≡ o .items) where
     -- the answers are those of the frame that the bytes stand for
     answers-of : xs ≡ tellFrom (seen s o r .frame .items) 0 (seen s o r .frame .items)
     answers-of =
         let f = seen s o r in
         answers-are s (f .frame) (f .judged) xs a (h ∙ sym (ap (λ (o : Overview). o .items) (f .seen)))
 
-    pub told-next : (before after : List Told) (x : Told) → xs ≡ before ++ (x ∷ after) → x .answer .next ≡ 3 + length (allTold (before ++ (x ∷ [])))
+    pub told-next : (before after : List ItemAnswer) (x : ItemAnswer) → xs ≡ before ++ (x ∷ after) → x .answer .next ≡ 3 + length (allAnswerWords (before ++ (x ∷ [])))
     unfolding allWords
     told-next before after x q =
         let f = seen s o r in
@@ -284,7 +284,7 @@ module _ (s : List ℕ) (o : Overview) (r : readOf s ≡ accepted o) where
         let f = seen s o r in
         let q : s ≡ encode (f .frame) = sound s bs (f .frame) (f .judged) .1 in
         let n : length s ≡ 2 * (4 + length (allWords (f .frame .items))) = ap length q ∙ size (f .frame) in
-        let w : allTold xs ≡ allWords (f .frame .items) = ap allTold answers-of ∙ tell-words (f .frame .items) 0 (f .frame .items) in
+        let w : allAnswerWords xs ≡ allWords (f .frame .items) = ap allAnswerWords answers-of ∙ tell-words (f .frame .items) 0 (f .frame .items) in
         q ∙ ap₂ (λ (o : Overview) (l : List ℕ). bytes (startWord (o .kind) (o .card) ∷ (2 * (4 + length (allWords (f .frame .items)))) ∷ o .sequence ∷ (l ++ (0x000F ∷ [])))) (f .seen) (sym w)
         ∙ ap (λ (n : ℕ). bytes (frameTold n o xs)) (sym n)
       where
@@ -293,7 +293,7 @@ module _ (s : List ℕ) (o : Overview) (r : readOf s ≡ accepted o) where
 
     -- T20
     pub copied : Bytes s → (buf : List ℕ) → length s ≤ length buf
-        → writeCalls buf (o .kind) (o .card) (o .sequence) (map callOf xs) ≡ ran (accepted (length s)) (s ++ drop (length s) buf)
+        → writeCalls buf (o .kind) (o .card) (o .sequence) (map callOf xs) ≡ callsDone (accepted (length s)) (s ++ drop (length s) buf)
     copied bs buf l =
         let f = seen s o r in
         let c : map tokenOfCall (map callOf xs) ≡ map whole (f .frame .items) =
@@ -304,7 +304,7 @@ module _ (s : List ℕ) (o : Overview) (r : readOf s ≡ accepted o) where
 -- ---- T18, T18b, T19
 
 pub calls-written : (f : Frame) → Legal f → (buf : List ℕ) → length (encode f) ≤ length buf
-    → writeCalls buf (f .kind) (f .card) (f .sequence) (map handOver (f .items)) ≡ ran (accepted (length (encode f))) (encode f ++ drop (length (encode f)) buf)
+    → writeCalls buf (f .kind) (f .card) (f .sequence) (map handOver (f .items)) ≡ callsDone (accepted (length (encode f))) (encode f ++ drop (length (encode f)) buf)
 calls-written f l buf h = ap (writeAll buf (f .kind) (f .card) (f .sequence)) (all-handed (f .items)) ∙ written f l buf h
 
 pub calls-too-short : (f : Frame) → f .card ≤ 31 → f .sequence ≤ 0x0100 → Sound (f .kind) (f .card) [] (f .items) → (buf : List ℕ)
@@ -313,10 +313,10 @@ calls-too-short f c q l buf h =
     ap (λ (ts : List Token). writeAll buf (f .kind) (f .card) (f .sequence) ts .answer) (all-handed (f .items)) ∙ too-short f c q l buf h
 
 pub calls-wrote : (buf : List ℕ) (kind : Kind) (card sequence : ℕ) (cs : List Call) (m : ℕ) (left : List ℕ)
-    → writeCalls buf kind card sequence cs ≡ ran (accepted m) left → CallsWrote buf kind card sequence cs m left
+    → writeCalls buf kind card sequence cs ≡ callsDone (accepted m) left → CallsWrote buf kind card sequence cs m left
 unfolding readOf
 calls-wrote buf kind card sequence cs m left e =
-    let w = run-wrote buf kind card sequence (map tokenOfCall cs) m left e in
+    let w = writing-done buf kind card sequence (map tokenOfCall cs) m left e in
     let f : Frame = record { kind = kind; card = card; sequence = sequence; items = w .items } in
     let c : cs ≡ map handOver (w .items) = all-back cs (w .items) (w .added) in
     record {

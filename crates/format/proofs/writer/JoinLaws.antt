@@ -6,15 +6,15 @@ use mathlib.Core.List.{List, [], _∷_, _++_, append-nil}
 use Rattle.format.specs.Words.{bytes}
 use Rattle.format.specs.Items.{Item, wordsOf}
 use Rattle.format.specs.Rules.{Kind}
-use Rattle.format.specs.Frames.{behind, Allowed, Sound, allWords}
+use Rattle.format.specs.Frames.{earlierThen, Allowed, Sound, allWords}
 use Rattle.format.specs.Writing.{partialWords}
 use Rattle.format.proofs.items.WordLaws.{bytes-append}
 use Rattle.format.proofs.rules.SoundLaws.{behind-append}
 use Rattle.format.proofs.questions.ItemQuestions.{all-words}
 
 module _ (kind : Kind) (card : ℕ) where
-  pub sound-join : (p xs ys : List Item) → Sound kind card p xs → Sound kind card (behind p xs) ys → Sound kind card p (xs ++ ys)
-  unfolding Sound behind
+  pub sound-join : (p xs ys : List Item) → Sound kind card p xs → Sound kind card (earlierThen p xs) ys → Sound kind card p (xs ++ ys)
+  unfolding Sound earlierThen
   sound-join p [] ys s t = t
   sound-join p (x ∷ xs) ys s t = (s .0, sound-join (x ∷ p) xs ys (s .1) t)
 
@@ -31,8 +31,8 @@ module _ (kind : Kind) (card : ℕ) where
   sound-more p x xs a s = (a, s)
 
 -- one item more
-pub behind-one : (p xs : List Item) (x : Item) → behind p (xs ++ (x ∷ [])) ≡ x ∷ behind p xs
-unfolding behind
+pub behind-one : (p xs : List Item) (x : Item) → earlierThen p (xs ++ (x ∷ [])) ≡ x ∷ earlierThen p xs
+unfolding earlierThen
 behind-one p xs x = behind-append p xs (x ∷ [])
 
 pub words-one : (x : Item) → allWords (x ∷ []) ≡ wordsOf x

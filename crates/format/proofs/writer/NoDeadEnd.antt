@@ -14,8 +14,8 @@ use Rattle.format.specs.Words.{Bytes}
 use Rattle.format.specs.Answers.{accepted}
 use Rattle.format.specs.Book.{Class, startEvent, endEvent}
 use Rattle.format.specs.Items.{Item, Channel, Histogram, HitCount, Sample, Bin, LastCell, TimeBin, Text, StartEvent, EndEvent, classFor, wordsOf}
-use Rattle.format.specs.Rules.{Kind, dataKind, monitorKind, commandKind, same, since, count, total, gather, inEvent, time, among, allowed, latest, within, mayEnd, eventSize}
-use Rattle.format.specs.Frames.{behind, Allowed, Sound, allWords}
+use Rattle.format.specs.Rules.{Kind, dataKind, monitorKind, commandKind, same, since, count, total, gather, inEvent, time, among, allowed, latest, insideAfter, mayEnd, eventSize}
+use Rattle.format.specs.Frames.{earlierThen, Allowed, Sound, allWords}
 use Rattle.format.specs.Writing.{Partial, partialVerdict}
 use Rattle.format.specs.Tree.{Limits}
 use Rattle.format.specs.WriterCases.{Ends}
@@ -31,14 +31,14 @@ use Rattle.format.proofs.writer.JoinLaws.{sound-join, sound-one, sound-
 
 module _ (kind : Kind) (card : ℕ) where
   pub sound-keeps : (P : List Item → Type 0) → ((p : List Item) (x : Item) → P p → Allowed kind card p x → P (x ∷ p))
-      → (p xs : List Item) → P p → Sound kind card p xs → P (behind p xs)
-  unfolding Sound behind
+      → (p xs : List Item) → P p → Sound kind card p xs → P (earlierThen p xs)
+  unfolding Sound earlierThen
   sound-keeps P step p [] h s = h
   sound-keeps P step p (x ∷ xs) h s = sound-keeps P step (x ∷ p) xs (step p x h (s .0)) (s .1)
 
 -- the words of the items behind p
-pub total-behind : (p xs : List Item) → total (behind p xs) ≡ total p + length (allWords xs)
-unfolding behind total allWords
+pub total-behind : (p xs : List Item) → total (earlierThen p xs) ≡ total p + length (allWords xs)
+unfolding earlierThen total allWords
 total-behind p [] = omega arith
 total-behind p (x ∷ xs) = omega (arith, total-behind (x ∷ p) xs, length-append (wordsOf x) (allWords xs))
 
@@ -54,9 +54,9 @@ part-total c (x ∷ p) =
 
 -- ---- no event opens in a frame of another kind
 
-unopened : (kind : Kind) → (kind ≡ dataKind → ⊥) → (card : ℕ) (xs : List Item) → Sound kind card [] xs → inEvent (behind [] xs) ≡ false
+unopened : (kind : Kind) → (kind ≡ dataKind → ⊥) → (card : ℕ) (xs : List Item) → Sound kind card [] xs → inEvent (earlierThen [] xs) ≡ false
 unfolding since count
-unopened kind d card xs s = tally-zero (inEvent (behind [] xs)) (omega (arith, balance kind card [] xs s, no-starts kind card d [] xs s))
+unopened kind d card xs s = tally-zero (inEvent (earlierThen [] xs)) (omega (arith, balance kind card [] xs s, no-starts kind card d [] xs s))
 
 -- ---- the continuation inside an event
 
@@ -67,9 +67,9 @@ ranged card (x ∷ p) = Limits card x
 
 module _ (card : ℕ) where
   Continued : List Item → Type 0
-  Continued p = (ys : List Item) × Sound dataKind card p ys × (mayEnd (behind p ys) ≡ true)
+  Continued p = (ys : List Item) × Sound dataKind card p ys × (mayEnd (earlierThen p ys) ≡ true)
 
-  end-allowed : (p : List Item) → inEvent p ≡ true → among endEvent (allowed (within (latest p))) ≡ true → total p ≤ 5000
+  end-allowed : (p : List Item) → inEvent p ≡ true → among endEvent (allowed (insideAfter (latest p))) ≡ true → total p ≤ 5000
       → Allowed dataKind card p (EndEvent (eventSize p))
   end-allowed p e h b =
       record {
@@ -82,22 +82,22 @@ module _ (card : ℕ) where
   unfolding since count
   ended n p = refl
 
-  at-once : (p : List Item) → inEvent p ≡ true → among endEvent (allowed (within (latest p))) ≡ true → total p ≤ 5000 → Continued p
-  unfolding behind Continued
+  at-once : (p : List Item) → inEvent p ≡ true → among endEvent (allowed (insideAfter (latest p))) ≡ true → total p ≤ 5000 → Continued p
+  unfolding earlierThen Continued
   at-once p e h b = (EndEvent (eventSize p) ∷ [], sound-one dataKind card p _ (end-allowed p e h b), ended (eventSize p) p)
 
   -- one item, and then the rest
   then-more : (p : List Item) (x : Item) → Allowed dataKind card p x → Continued (x ∷ p) → Continued p
-  unfolding behind Continued
+  unfolding earlierThen Continued
   then-more p x a (ys, s, e) = (x ∷ ys, sound-more dataKind card p x ys a s, e)
 
   -- a Sample or a Time bin leaves the event open
   sample-kept : (v : ℕ) (p : List Item) → inEvent p ≡ true → inEvent (Sample v ∷ p) ≡ true
-  unfolding behind count
+  unfolding earlierThen count
   sample-kept v p e = stays-open p (Sample v ∷ []) e refl
 
   time-kept : (t : ℕ) (p : List Item) → inEvent p ≡ true → inEvent (TimeBin t ∷ p) ≡ true
-  unfolding behind count
+  unfolding earlierThen count
   time-kept t p e = stays-open p (TimeBin t ∷ []) e refl
 
   first-sample : (t : ℕ) (p : List Item) → t ≤ 511 → inEvent (TimeBin t ∷ p) ≡ true → Allowed dataKind card (TimeBin t ∷ p) (Sample 0)
@@ -140,12 +140,12 @@ module _ (card : ℕ) where
 -- ---- T16
 
 -- outside an event nothing need be added
-as-it-stands : (kind : Kind) (card : ℕ) (xs : List Item) → Sound kind card [] xs → inEvent (behind [] xs) ≡ false → Ends kind card xs
+as-it-stands : (kind : Kind) (card : ℕ) (xs : List Item) → Sound kind card [] xs → inEvent (earlierThen [] xs) ≡ false → Ends kind card xs
 as-it-stands kind card xs s e =
     let i = sym (append-nil xs) in
-    record { more = []; sound = subst (Sound kind card []) i s; ended = ap (λ (l : List Item). mayEnd (behind [] l)) (sym i) ∙ rw e }
+    record { more = []; sound = subst (Sound kind card []) i s; ended = ap (λ (l : List Item). mayEnd (earlierThen [] l)) (sym i) ∙ rw e }
 
-in-range : (card : ℕ) (xs : List Item) → Sound dataKind card [] xs → ranged card (behind [] xs)
+in-range : (card : ℕ) (xs : List Item) → Sound dataKind card [] xs → ranged card (earlierThen [] xs)
 unfolding ranged
 in-range card xs s = sound-keeps dataKind card (ranged card) (λ p x h a. allowed-limits dataKind card p x a) [] xs tt s
 
@@ -153,21 +153,21 @@ ends : (kind : Kind) (card : ℕ) (xs : List Item) → Sound kind card [] xs →
 unfolding Continued
 ends monitorKind card xs s b = as-it-stands monitorKind card xs s (unopened monitorKind (λ e. let z : _≡_ {A = ℕ} 0 1 = cc in omega arith) card xs s)
 ends commandKind card xs s b = as-it-stands commandKind card xs s (unopened commandKind (λ e. let z : _≡_ {A = ℕ} 0 1 = cc in omega arith) card xs s)
-ends dataKind card xs s b = go (inEvent (behind [] xs)) refl
+ends dataKind card xs s b = go (inEvent (earlierThen [] xs)) refl
   where
-    go : (t : Bool) → inEvent (behind [] xs) ≡ t → Ends dataKind card xs
+    go : (t : Bool) → inEvent (earlierThen [] xs) ≡ t → Ends dataKind card xs
     go false e = as-it-stands dataKind card xs s e
     go true e =
-        let (ys, t, m) = continued card (behind [] xs) (in-range card xs s) e (omega (arith, total-behind [] xs, total-nil)) in
+        let (ys, t, m) = continued card (earlierThen [] xs) (in-range card xs s) e (omega (arith, total-behind [] xs, total-nil)) in
         record { more = ys; sound = sound-join dataKind card [] xs ys s t; ended = ap mayEnd (behind-append [] xs ys) ∙ m }
 
 pub no-dead-end : (kind : Kind) (card : ℕ) (xs : List Item) → length (allWords xs) ≤ 4092 → Sound kind card [] xs ↔ Ends kind card xs
 no-dead-end kind card xs b = (λ s. ends kind card xs s b, λ e. sound-left kind card [] xs (e .more) (e .sound))
 
 -- an accepted partial frame is short enough for that
-pub partial-ends : (buf : List ℕ) → Bytes buf → (n : ℕ) (f : Partial) → partialVerdict buf n ≡ accepted f → Ends (f .kind) (f .card) (behind [] (f .earlier))
+pub partial-ends : (buf : List ℕ) → Bytes buf → (n : ℕ) (f : Partial) → partialVerdict buf n ≡ accepted f → Ends (f .kind) (f .card) (earlierThen [] (f .earlier))
 partial-ends buf bs n f e =
     let (xs, b) = partial-sound buf bs n f e in
     let l = begun-length buf n f xs b in
     let m = b .most in
-    subst (Ends (f .kind) (f .card)) (sym (ap (behind []) (b .earlier) ∙ in-order xs)) (ends (f .kind) (f .card) xs (b .sound) (omega arith))
+    subst (Ends (f .kind) (f .card)) (sym (ap (earlierThen []) (b .earlier) ∙ in-order xs)) (ends (f .kind) (f .card) xs (b .sound) (omega arith))

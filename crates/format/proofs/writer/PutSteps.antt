@@ -13,8 +13,8 @@ use Rattle.format.specs.Words.{pick, Bytes}
 use Rattle.format.specs.Answers.{Outcome, accepted, refused, andThen}
 use Rattle.format.specs.Items.{classFor, Token, whole, broken, flawed}
 use Rattle.format.specs.Rules.{Kind, Checked, good, bad, check}
-use Rattle.format.specs.Frames.{behind}
-use Rattle.format.specs.Steps.{St, start, stateOf, placeBy, valueBy, orderBy, stateAfter, checkBy}
+use Rattle.format.specs.Frames.{earlierThen}
+use Rattle.format.specs.Steps.{ReaderState, start, stateOf, placeBy, valueBy, orderBy, stateAfter, checkBy}
 use Rattle.format.specs.Writing.{Partial, beginAnswer, beginLeft, partialVerdict, tokenBytes, roomFor, addAnswer, addLeft}
 use Rattle.format.specs.WriterCases.{content, withItem, oneOf, handed}
 use Rattle.format.specs.PartialSteps.{PartialOverview, partialOverview, partialReadOf, Put, putChecked, putAnswer, putLeft}
@@ -22,12 +22,12 @@ use Rattle.format.proofs.reader.StateLaws.{states, start-state}
 use Rattle.format.proofs.verdict.WalkLaws.{passes}
 use Rattle.format.proofs.writer.PartialLaws.{accepted-is}
 use Rattle.format.proofs.writer.StoreLaws.{as-found, as-written, either-way}
-use Rattle.format.proofs.StoringLaws.{sets-other}
+use Rattle.format.proofs.items.StoringLaws.{sets-other}
 use Rattle.format.proofs.writer.WriterLaws.{Added, add-accepted}
 use Rattle.format.proofs.writer.WriterSteps.{begin-judged, add-judged}
 use Rattle.format.proofs.reader.PartialJudging.{contained, view-is, by-state, add-put, add-put-left}
 
-module _ (buf : List ℕ) (n card : ℕ) (st : St) (t : Token) where
+module _ (buf : List ℕ) (n card : ℕ) (st : ReaderState) (t : Token) where
   -- T33
   pub put-found : (k p : ℕ) → putAnswer buf n card st t ≡ refused k p → putLeft buf n card st t ≡ buf
   unfolding putLeft
@@ -38,12 +38,12 @@ module _ (buf : List ℕ) (n card : ℕ) (st : St) (t : Token) where
   unfolding putAnswer
   put-accepted x e = go (checkBy card (n / 2) st t) refl e
     where
-      inside : (b : Bool) (r : St) → pick b (accepted (record { reached = n + length (tokenBytes t); state = r })) (refused 12 0) ≡ accepted x
+      inside : (b : Bool) (r : ReaderState) → pick b (accepted (record { reached = n + length (tokenBytes t); state = r })) (refused 12 0) ≡ accepted x
           → record { reached = n + length (tokenBytes t); state = r } ≡ x
       inside true r f = accepted-is _ _ f
       inside false r f = let z : _≡_ {A = ℕ} 0 1 = cc in absurd (omega arith)
 
-      go : (o : Checked St) → checkBy card (n / 2) st t ≡ o → putChecked buf n (tokenBytes t) o ≡ accepted x
+      go : (o : Checked ReaderState) → checkBy card (n / 2) st t ≡ o → putChecked buf n (tokenBytes t) o ≡ accepted x
           → (checkBy card (n / 2) st t ≡ good (x .state)) × (x .reached ≡ n + length (tokenBytes t))
       go (good r) c f =
           let i = inside (roomFor buf (n + length (tokenBytes t))) r f in
@@ -65,11 +65,11 @@ module _ (buf : List ℕ) (n card : ℕ) (st : St) (t : Token) where
   put-kept = either-way (λ l. length l ≡ length buf) (putAnswer buf n card st t) refl (length-sets buf n (tokenBytes t))
 
 -- T35: 8, 9 or 10 at the word where the item would start, or 12 at 0
-rule-number : (card at : ℕ) (st : St) (t : Token) → handed t ≡ true → (k : ℕ) → checkBy card at st t ≡ bad k → oneOf k (8 ∷ 9 ∷ 10 ∷ []) ≡ true
+rule-number : (card at : ℕ) (st : ReaderState) (t : Token) → handed t ≡ true → (k : ℕ) → checkBy card at st t ≡ bad k → oneOf k (8 ∷ 9 ∷ 10 ∷ []) ≡ true
 unfolding checkBy
 rule-number card at st (whole x) h k e = go (placeBy st (classFor x)) (valueBy card at st x) (orderBy st x) e
   where
-    is : (j : ℕ) → _≡_ {A = Checked St} (bad j) (bad k) → j ≡ k
+    is : (j : ℕ) → _≡_ {A = Checked ReaderState} (bad j) (bad k) → j ≡ k
     is j f = cc
 
     go : (a b c : Bool) → pick a (pick b (pick c (good (stateAfter at st x)) (bad 10)) (bad 9)) (bad 8) ≡ bad k → oneOf k (8 ∷ 9 ∷ 10 ∷ []) ≡ true
@@ -79,15 +79,15 @@ rule-number card at st (whole x) h k e = go (placeBy st (classFor x)) (valueBy c
     go false b c f = ap (λ (j : ℕ). oneOf j (8 ∷ 9 ∷ 10 ∷ [])) (sym (is 8 f))
 rule-number card at st (broken c) h k e = go (placeBy st c) e
   where
-    is : (j : ℕ) → _≡_ {A = Checked St} (bad j) (bad k) → j ≡ k
+    is : (j : ℕ) → _≡_ {A = Checked ReaderState} (bad j) (bad k) → j ≡ k
     is j f = cc
 
-    go : (a : Bool) → pick {A = Checked St} a (bad 9) (bad 8) ≡ bad k → oneOf k (8 ∷ 9 ∷ 10 ∷ []) ≡ true
+    go : (a : Bool) → pick {A = Checked ReaderState} a (bad 9) (bad 8) ≡ bad k → oneOf k (8 ∷ 9 ∷ 10 ∷ []) ≡ true
     go true f = ap (λ (j : ℕ). oneOf j (8 ∷ 9 ∷ 10 ∷ [])) (sym (is 9 f))
     go false f = ap (λ (j : ℕ). oneOf j (8 ∷ 9 ∷ 10 ∷ [])) (sym (is 8 f))
 rule-number card at st (flawed j) h k e = let z : _≡_ {A = ℕ} 0 1 = cc in absurd (omega arith)
 
-pub put-numbers : (buf : List ℕ) (n card : ℕ) (st : St) (t : Token) → handed t ≡ true → (k p : ℕ) → putAnswer buf n card st t ≡ refused k p
+pub put-numbers : (buf : List ℕ) (n card : ℕ) (st : ReaderState) (t : Token) → handed t ≡ true → (k p : ℕ) → putAnswer buf n card st t ≡ refused k p
     → ((oneOf k (8 ∷ 9 ∷ 10 ∷ []) ≡ true) × (p ≡ n / 2)) ⊎ ((k ≡ 12) × (p ≡ 0))
 unfolding putAnswer
 put-numbers buf n card st t h k p e = go (checkBy card (n / 2) st t) refl e
@@ -99,7 +99,7 @@ put-numbers buf n card st t h k p e = go (checkBy card (n / 2) st t) refl e
     room true x f = let z : _≡_ {A = ℕ} 0 1 = cc in absurd (omega arith)
     room false x f = let (a, b) = number 12 0 f in (sym a, sym b)
 
-    go : (o : Checked St) → checkBy card (n / 2) st t ≡ o → putChecked buf n (tokenBytes t) o ≡ refused k p
+    go : (o : Checked ReaderState) → checkBy card (n / 2) st t ≡ o → putChecked buf n (tokenBytes t) o ≡ refused k p
         → ((oneOf k (8 ∷ 9 ∷ 10 ∷ []) ≡ true) × (p ≡ n / 2)) ⊎ ((k ≡ 12) × (p ≡ 0))
     go (good r) c f = inr (room (roomFor buf (n + length (tokenBytes t))) _ f)
     go (bad j) c f =
@@ -110,12 +110,12 @@ put-numbers buf n card st t h k p e = go (checkBy card (n / 2) st t) refl e
 
 pub begin-read : (buf : List ℕ) (kind : Kind) (card sequence m : ℕ) → beginAnswer buf card sequence ≡ accepted m
     → partialReadOf (beginLeft buf kind card sequence) 6 ≡ accepted (record { kind = kind; card = card; sequence = sequence; state = start kind })
-unfolding partialReadOf behind
+unfolding partialReadOf earlierThen
 begin-read buf kind card sequence m e =
     ap (λ (o : Outcome Partial). andThen o (λ f. accepted (partialOverview f))) (begin-judged buf kind card sequence m e) ∙ behind-none
   where
     behind-none : accepted (partialOverview (content kind card sequence [])) ≡ accepted (record { kind = kind; card = card; sequence = sequence; state = start kind })
-    behind-none = ap (λ (s : St). accepted (record { kind = kind; card = card; sequence = sequence; state = s })) (sym (start-state kind))
+    behind-none = ap (λ (s : ReaderState). accepted (record { kind = kind; card = card; sequence = sequence; state = s })) (sym (start-state kind))
 
 module _ (buf : List ℕ) (bs : Bytes buf) (n : ℕ) (v : PartialOverview) (e : partialReadOf buf n ≡ accepted v) where
   pub put-read : (t : Token) (x : Put) → putAnswer buf n (v .card) (v .state) t ≡ accepted x
@@ -133,7 +133,7 @@ module _ (buf : List ℕ) (bs : Bytes buf) (n : ℕ) (v : PartialOverview) (e : 
           ap (λ (b : List ℕ). partialVerdict b (x .reached)) (sym (add-put-left buf n v e bs t) ∙ ap (addLeft buf n) (d .token))
           ∙ add-judged buf bs n (d .item) (x .reached) (d .content) (d .judged) (ap (addAnswer buf n) (sym (d .token)) ∙ l)
 
-      good-is : (a b : St) → good a ≡ good b → a ≡ b
+      good-is : (a b : ReaderState) → good a ≡ good b → a ≡ b
       good-is a b f = cc
 
       same : (d : Added buf n t (x .reached)) → partialOverview (withItem (d .content) (d .item)) ≡ record { kind = v .kind; card = v .card; sequence = v .sequence; state = x .state }

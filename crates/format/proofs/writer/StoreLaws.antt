@@ -15,7 +15,7 @@ use Rattle.format.specs.Frames.{startWord, allWords, frameWords, encode}
 use Rattle.format.specs.Writing.{Partial, partialWords, beginAnswer, beginLeft, tokenBytes, addAnswer, addLeft, closeAnswer, closeLeft}
 use Rattle.format.specs.WriterCases.{Begun, framed}
 use Rattle.format.proofs.items.WordLaws.{bytes-append, length-bytes}
-use Rattle.format.proofs.StoringLaws.{sets-other, sets-front, sets-at, word-outside}
+use Rattle.format.proofs.items.StoringLaws.{sets-other, sets-front, sets-at, word-outside}
 use Rattle.format.proofs.writer.PartialLaws.{begun-length}
 use Rattle.format.proofs.writer.WriterLaws.{begin-accepted, add-accepted, close-accepted}
 

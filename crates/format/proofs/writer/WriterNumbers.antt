@@ -13,7 +13,7 @@ use Rattle.format.specs.Answers.{Outcome, refused}
 use Rattle.format.specs.Book.{Class}
 use Rattle.format.specs.Items.{ItemOf, Item, Channel, Histogram, HitCount, Sample, Bin, LastCell, TimeBin, Text, StartEvent, EndEvent, Token, whole}
 use Rattle.format.specs.Rules.{Kind}
-use Rattle.format.specs.Frames.{behind}
+use Rattle.format.specs.Frames.{earlierThen}
 use Rattle.format.specs.Faults.{ItemBroken, noClass, cut, misplaced, misvalued, disordered, FirstFaulty, NewBroken, outOfPlace, wrongValue, outOfOrder, EmptyBroken, emptyOutOfPlace, noContent}
 use Rattle.format.specs.Writing.{Partial, partialVerdict, beginAnswer, given, addAnswer, closeAnswer}
 use Rattle.format.specs.WriterCases.{PartialAnswer, stands, wrongLength, wrongKind, wrongSize, wrongSequence, faulty, oneOf, headNumbers, itemNumbers, PartialRefused, byHead, byItem, handed, Begin, begins, cardWide, sequenceWide, beginShort, Add, adds, addPartial, addBreaks, addEmpty, addFlawed, addShort, Short, Close, closes, closePartial, closeOpen, closeShort}
@@ -69,7 +69,7 @@ partial-refused buf bs n k q e = go _ (partial-exactly buf bs n (refused k q) .0
 
     item : (j r : ℕ) → FirstFaulty buf (n / 2) j r → (j ≡ k) × (r ≡ q) → PartialRefused n k q
     item j r f (a, b) =
-        byItem (ap (λ (k : ℕ). oneOf k itemNumbers) (sym a) ∙ fault-number buf (n / 2) (behind [] (f .items)) r j (f .first .broken))
+        byItem (ap (λ (k : ℕ). oneOf k itemNumbers) (sym a) ∙ fault-number buf (n / 2) (earlierThen [] (f .items)) r j (f .first .broken))
         (omega (arith, f .begins)) (omega (arith, f .inside))
 
     go : (o : Outcome Partial) → PartialAnswer buf n o → o ≡ refused k q → PartialRefused n k q

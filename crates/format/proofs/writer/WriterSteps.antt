@@ -11,7 +11,7 @@ use Rattle.format.specs.Words.{Bytes, bytes}
 use Rattle.format.specs.Answers.{accepted}
 use Rattle.format.specs.Items.{Item, wordsOf, whole}
 use Rattle.format.specs.Rules.{Kind, mayEnd}
-use Rattle.format.specs.Frames.{Frame, behind, Allowed, Sound, allWords, encode, frameWords, Legal}
+use Rattle.format.specs.Frames.{Frame, earlierThen, Allowed, Sound, allWords, encode, frameWords, Legal}
 use Rattle.format.specs.Writing.{Partial, partialWords, partialVerdict, beginAnswer, beginLeft, addAnswer, addLeft, closeAnswer, closeLeft}
 use Rattle.format.specs.WriterCases.{Begun, content, withItem, framed, Holds}
 use Rattle.format.proofs.items.WordLaws.{length-bytes}
@@ -23,7 +23,7 @@ use Rattle.format.proofs.writer.StoreLaws.{begin-left, add-left, close-
 
 -- a partial frame that stands at the front
 pub begun-front : (f : Partial) (xs : List Item) (rest : List ℕ) (n : ℕ) → f .card ≤ 31 → f .sequence ≤ 0x0100 → Sound (f .kind) (f .card) [] xs
-    → f .earlier ≡ behind [] xs → n ≤ 8190 → length (bytes (partialWords (f .kind) (f .card) (f .sequence) xs)) ≡ n
+    → f .earlier ≡ earlierThen [] xs → n ≤ 8190 → length (bytes (partialWords (f .kind) (f .card) (f .sequence) xs)) ≡ n
     → Begun (bytes (partialWords (f .kind) (f .card) (f .sequence) xs) ++ rest) n f xs
 begun-front f xs rest n c q s e m l =
     let k = length-append (bytes (partialWords (f .kind) (f .card) (f .sequence) xs)) rest in
@@ -82,7 +82,7 @@ module _ (buf : List ℕ) (n : ℕ) (f : Partial) (xs : List Item) (b : Begun bu
       subst (λ (l : List ℕ). Begun l m (withItem f x) (xs ++ (x ∷ []))) (sym add-front)
       (begun-front (withItem f x) (xs ++ (x ∷ [])) (drop m buf) m (b .card) (b .sequence)
       (sound-join (f .kind) (f .card) [] xs (x ∷ []) (b .sound)
-      (sound-one (f .kind) (f .card) (behind [] xs) x (subst (λ (p : List Item). Allowed (f .kind) (f .card) p x) (b .earlier) add-allowed)))
+      (sound-one (f .kind) (f .card) (earlierThen [] xs) x (subst (λ (p : List Item). Allowed (f .kind) (f .card) p x) (b .earlier) add-allowed)))
       (ap (λ (p : List Item). x ∷ p) (b .earlier) ∙ sym (behind-one [] xs x)) (omega arith) front-length)
 
   -- and the bytes behind it are as they were
@@ -128,10 +128,10 @@ close-legal buf n f xs m b e =
     )
 
 pub close-frame : (buf : List ℕ) → Bytes buf → (n : ℕ) (f : Partial) (m : ℕ) → partialVerdict buf n ≡ accepted f → closeAnswer buf n ≡ accepted m
-    → Holds buf (closeLeft buf n) (framed f (behind [] (f .earlier))) m
+    → Holds buf (closeLeft buf n) (framed f (earlierThen [] (f .earlier))) m
 close-frame buf bs n f m j e =
     let (xs, b) = partial-sound buf bs n f j in
-    let i : xs ≡ behind [] (f .earlier) = sym (ap (behind []) (b .earlier) ∙ in-order xs) in
+    let i : xs ≡ earlierThen [] (f .earlier) = sym (ap (earlierThen []) (b .earlier) ∙ in-order xs) in
     let c = subst (Begun buf n f) i b in
-    let (l, r) = close-legal buf n f (behind [] (f .earlier)) m c e in
-    record { legal = l; reached = r; written = close-left buf n f (behind [] (f .earlier)) m c e }
+    let (l, r) = close-legal buf n f (earlierThen [] (f .earlier)) m c e in
+    record { legal = l; reached = r; written = close-left buf n f (earlierThen [] (f .earlier)) m c e }

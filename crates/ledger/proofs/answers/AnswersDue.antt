@@ -25,8 +25,8 @@ use Rattle.ledger.specs.Formats.{Entry, Correction}
 use Rattle.ledger.specs.Records.{lengthIn, countIn, frameIn, entryOf, numbered, entriesIn, headerRight, signed, atSpot, recordVerdict}
 use Rattle.ledger.specs.Calls.{newValue, entryFor, openAnswer, editTests, editAnswer, restoreAnswer, entryAnswer}
 use Rattle.ledger.specs.Chains.{Header, Chain}
-use Rattle.ledger.specs.First.{first, nothing}
-use Rattle.ledger.specs.House.{house, house-judge}
+use Rattle.ledger.specs.VersionOne.{versionOne, noExtra}
+use Rattle.ledger.specs.PlaneFrames.{planeFrames, plane-frames-judge}
 use Rattle.ledger.specs.Layout.{totalLength, frameOf, entryFrom}
 use Rattle.ledger.specs.Reasons.{HeaderBroken, Back, NewestUnfit, RecordRefused, ofHeader, ofFrame, ofEntry, OpenBroken, OpenRefused, EditBroken, target, illegal, present, signer, full, EditRefused, RestoreBroken, RestoreRefused, EntryBroken, EntryRefused}
 use Rattle.ledger.specs.Reasons as reasons
@@ -35,8 +35,8 @@ use Rattle.ledger.proofs.records.Codecs.{bytes-part}
 use Rattle.ledger.proofs.answers.Due.{same-refusal, Agrees, no-more, asked-first, tested, none-due, behind}
 use Rattle.ledger.proofs.records.Headers.{header-words, header-right}
 use Rattle.ledger.proofs.records.Judging.{entry-place, chain-unique, parts-verdict, record-chain, header-refused, frame-refused, entry-refused}
-use Rattle.ledger.proofs.house.FirstLaws.{full-limit}
-use Rattle.ledger.proofs.house.House.{judged}
+use Rattle.ledger.proofs.plane.VersionOneLaws.{full-limit}
+use Rattle.ledger.proofs.plane.PlaneFrames.{judged}
 use Rattle.ledger.proofs.answers.EntryReasons.{spot-kind, illegal-value, value-illegal, unsigned, signed-not, broken-header, header-broken, whole-header, unfit-not, fit-or-unfit}
 
 -- ---- frames
@@ -44,10 +44,10 @@ done-refused : (o : Outcome Frame) (n p : ℕ) → (done o ≡ refused n p) ↔ 
 done-refused (accepted f) n p = (λ e. let z : _≡_ {A = ℕ} 0 1 = cc in absurd (omega arith), λ e. let z : _≡_ {A = ℕ} 0 1 = cc in absurd (omega arith))
 done-refused (refused m q) n p = (λ e. let i : m ≡ n = cc in let j : q ≡ p = cc in rw (i, j), λ e. let i : m ≡ n = cc in let j : q ≡ p = cc in rw (i, j))
 
-pub frame-refusals : (f : List ℕ) → Bytes f → (n p : ℕ) → (house .judge f ≡ refused n p) ↔ Refused f n p
+pub frame-refusals : (f : List ℕ) → Bytes f → (n p : ℕ) → (planeFrames .judge f ≡ refused n p) ↔ Refused f n p
 frame-refusals f y n p = (
-  λ e. frames.refusals f y n p .0 (done-refused (verdict f) n p .0 (sym (house-judge f) ∙ e)),
-  λ r. house-judge f ∙ done-refused (verdict f) n p .1 (frames.refusals f y n p .1 r),
+  λ e. frames.refusals f y n p .0 (done-refused (verdict f) n p .0 (sym (plane-frames-judge f) ∙ e)),
+  λ r. plane-frames-judge f ∙ done-refused (verdict f) n p .1 (frames.refusals f y n p .1 r),
 )
 
 entry-refusal : (m q n p : ℕ) → _≡_ {A = Outcome Entry} (refused m q) (refused n p) → (m ≡ n) × (q ≡ p)
@@ -66,7 +66,7 @@ at-item : (o : Option Spot) (p : Spot) → o ≡ some p → (f : Spot → Bool) 
 at-item o p q f t e = ap (λ (i : Option Spot). atSpot i f) (sym q) ∙ e
 
 -- this format has nothing after the reason
-without : (a : Bool) (x : List ℕ) → x ≡ [] → (t : Bool) → (a && nothing x) ≡ t → a ≡ t
+without : (a : Bool) (x : List ℕ) → x ≡ [] → (t : Bool) → (a && noExtra x) ≡ t → a ≡ t
 without a x q t e = sym (rw q (and-true a)) ∙ e
   where
     and-true : (a : Bool) → (a && true) ≡ a
@@ -75,82 +75,82 @@ without a x q t e = sym (rw q (and-true a)) ∙ e
 
 -- ---- records
 module _ (b : List ℕ) where
-  pub chain-back : (j : ℕ) (f : ℕ → List ℕ) → Chain house first b j f ↔ Back b j f
-  unfolding numbered entryOf lengthIn countIn house first
+  pub chain-back : (j : ℕ) (f : ℕ → List ℕ) → Chain planeFrames versionOne b j f ↔ Back b j f
+  unfolding numbered entryOf lengthIn countIn planeFrames versionOne
   chain-back j f = (
     λ C. record { standing = C .standing; fit = λ m l h. unfit-not (f (suc m)) (entryFrom b (suc m)) (C .fit m l h); old = C .back },
     λ r. record { standing = r .standing; fit = λ m l h. ⊎-elim (λ t. t) (λ u. absurd (r .fit m l h u)) (fit-or-unfit (f (suc m)) (entryFrom b (suc m))); back = r .old },
   )
 
   -- accepted: a header that is not broken, an accepted frame, and frames back to the first
-  pub record-stands : (recordVerdict house first b ≡ accepted tt)
+  pub record-stands : (recordVerdict planeFrames versionOne b ≡ accepted tt)
       ↔ ((HeaderBroken b → ⊥) × ((g : Frame) × (verdict (frameOf b) ≡ accepted g)) × ((f : ℕ → List ℕ) × Back b 0 f))
   unfolding lengthIn
   record-stands =
-      let x = record-chain house first b in (
+      let x = record-chain planeFrames versionOne b in (
         λ e.
             let w = x .0 e in
-            (header-broken b (w .0), judged (verdict (frameOf b)) (sym (house-judge (frameOf b)) ∙ w .1), (w .2 .0, chain-back 0 (w .2 .0) .0 (w .2 .1))),
-        λ w. x .1 (whole-header b (w .0), house-judge (frameOf b) ∙ ap (λ (o : Outcome Frame). done o) (w .1 .1), (w .2 .0, chain-back 0 (w .2 .0) .1 (w .2 .1))),
+            (header-broken b (w .0), judged (verdict (frameOf b)) (sym (plane-frames-judge (frameOf b)) ∙ w .1), (w .2 .0, chain-back 0 (w .2 .0) .0 (w .2 .1))),
+        λ w. x .1 (whole-header b (w .0), plane-frames-judge (frameOf b) ∙ ap (λ (o : Outcome Frame). done o) (w .1 .1), (w .2 .0, chain-back 0 (w .2 .0) .1 (w .2 .1))),
       )
 
   pub back-unique : (j : ℕ) (f g : ℕ → List ℕ) → Back b j f → Back b j g → (m : ℕ) → j ≤ m → m ≤ wordAt b 5 → f m ≡ g m
   unfolding countIn
-  back-unique j f g r q = chain-unique house first b j f g (chain-back j f .1 r) (chain-back j g .1 q)
+  back-unique j f g r q = chain-unique planeFrames versionOne b j f g (chain-back j f .1 r) (chain-back j g .1 q)
 
   module _ (y : Bytes b) where
     frame-bytes : Bytes (frameIn b)
     frame-bytes = bytes-part b 16 (lengthIn b) y
 
-    frame-due : (n p : ℕ) → (house .judge (frameIn b) ≡ refused n p) ↔ Refused (frameOf b) n p
+    frame-due : (n p : ℕ) → (planeFrames .judge (frameIn b) ≡ refused n p) ↔ Refused (frameOf b) n p
     unfolding lengthIn
     frame-due = frame-refusals (frameIn b) frame-bytes
 
     -- 21: the numbers of the chain, as document 01 says them
-    entry-due : (j : ℕ) → Header first b → house .judge (frameIn b) ≡ accepted tt → (recordVerdict house first b ≡ refused 21 j) ↔ NewestUnfit b j
-    unfolding numbered entryOf lengthIn countIn first
+    entry-due : (j : ℕ) → Header versionOne b → planeFrames .judge (frameIn b) ≡ accepted tt → (recordVerdict planeFrames versionOne b ≡ refused 21 j) ↔ NewestUnfit b j
+    unfolding numbered entryOf lengthIn countIn versionOne
     entry-due j h a =
-        let x = entry-refused house first b j h a in (
+        let x = entry-refused planeFrames versionOne b j h a in (
           λ e.
               let w = x .0 e in
               record { least = w .0; most = w .1; frames = w .2 .0; back = chain-back j (w .2 .0) .0 (w .2 .1); unfit = ⊎-elim (λ t. absurd (w .2 .2 t)) (λ u. u) (fit-or-unfit (w .2 .0 j) (entryFrom b j)) },
           λ u. x .1 (u .least, u .most, (u .frames, chain-back j (u .frames) .1 (u .back), λ t. unfit-not (u .frames j) (entryFrom b j) t (u .unfit))),
         )
 
-    due : (n p : ℕ) → recordVerdict house first b ≡ refused n p → RecordRefused b n p
-    due n p e = go (headerRight first b) refl
+    due : (n p : ℕ) → recordVerdict planeFrames versionOne b ≡ refused n p → RecordRefused b n p
+    due n p e = go (headerRight versionOne b) refl
       where
-        by-frame : Header first b → (o : Done) → house .judge (frameIn b) ≡ o → RecordRefused b n p
+        by-frame : Header versionOne b → (o : Done) → planeFrames .judge (frameIn b) ≡ o → RecordRefused b n p
         by-frame h (accepted u) q =
-            let k : n ≡ 21 = entry-place house first (frameIn b) (entriesIn first b) n p (sym (parts-verdict house first b (header-right first b h) q) ∙ e) .0 in
+            let k : n ≡ 21 = entry-place planeFrames versionOne (frameIn b) (entriesIn versionOne b) n p (sym (parts-verdict planeFrames versionOne b (header-right versionOne b h) q) ∙ e) .0 in
             subst (λ (m : ℕ). RecordRefused b m p) (sym k)
             (ofEntry p (header-broken b h) (none-due _ _ frame-due .0 q) (entry-due p h q .0 (e ∙ ap (λ (m : ℕ). refused m p) k)))
         by-frame h (refused m r) q =
-            let v = sym (frame-refused house first b m r h q) ∙ e in
+            let v = sym (frame-refused planeFrames versionOne b m r h q) ∙ e in
             ofFrame n p (header-broken b h) (frame-due n p .0 (q ∙ v))
 
-        go : (t : Bool) → headerRight first b ≡ t → RecordRefused b n p
-        go true q = by-frame (header-words first b q) (house .judge (frameIn b)) refl
+        go : (t : Bool) → headerRight versionOne b ≡ t → RecordRefused b n p
+        go true q = by-frame (header-words versionOne b q) (planeFrames .judge (frameIn b)) refl
         go false q =
             let k = broken-header b q in
-            let (i, j) = same-refusal 20 0 n p (sym (header-refused house first b (λ h. header-broken b h k)) ∙ e) in
+            let (i, j) = same-refusal 20 0 n p (sym (header-refused planeFrames versionOne b (λ h. header-broken b h k)) ∙ e) in
             subst (λ (m : ℕ). RecordRefused b m p) i (subst (RecordRefused b 20) j (ofHeader k))
 
-    given : (n p : ℕ) → RecordRefused b n p → recordVerdict house first b ≡ refused n p
-    given n p (ofHeader k) = header-refused house first b (λ h. header-broken b h k)
-    given n p (ofFrame m q k r) = frame-refused house first b m q (whole-header b k) (frame-due m q .1 r)
+    given : (n p : ℕ) → RecordRefused b n p → recordVerdict planeFrames versionOne b ≡ refused n p
+    given n p (ofHeader k) = header-refused planeFrames versionOne b (λ h. header-broken b h k)
+    given n p (ofFrame m q k r) = frame-refused planeFrames versionOne b m q (whole-header b k) (frame-due m q .1 r)
     given n p (ofEntry j k free u) = entry-due j (whole-header b k) (none-due _ _ frame-due .1 free) .1 u
 
     -- a record: 20, then the frame's refusals, then 21 at the newest entry that does not fit
-    pub record-refused : (n p : ℕ) → (recordVerdict house first b ≡ refused n p) ↔ RecordRefused b n p
+    pub record-refused : (n p : ℕ) → (recordVerdict planeFrames versionOne b ≡ refused n p) ↔ RecordRefused b n p
     record-refused n p = (due n p, given n p)
 
     -- of an accepted frame under a header of which nothing is broken: 21 at j exactly where entry j is the newest that does not fit
-    pub newest-unfit : (j : ℕ) → (HeaderBroken b → ⊥) → ((n p : ℕ) → Refused (frameOf b) n p → ⊥) → (recordVerdict house first b ≡ refused 21 j) ↔ NewestUnfit b j
+    pub newest-unfit : (j : ℕ) → (HeaderBroken b → ⊥) → ((n p : ℕ) → Refused (frameOf b) n p → ⊥) → (recordVerdict planeFrames versionOne b ≡ refused 21 j) ↔ NewestUnfit b j
     newest-unfit j h r = entry-due j (whole-header b h) (none-due _ _ frame-due .1 r)
 
-    pub record-accepted : (recordVerdict house first b ≡ accepted tt) ↔ ((n p : ℕ) → RecordRefused b n p → ⊥)
-    record-accepted = none-due (recordVerdict house first b) (RecordRefused b) record-refused
+    pub record-accepted : (recordVerdict planeFrames versionOne b ≡ accepted tt) ↔ ((n p : ℕ) → RecordRefused b n p → ⊥)
+    record-accepted = none-due (recordVerdict planeFrames versionOne b) (RecordRefused b) record-refused
 
     -- ---- restoring: record refusals, 26, 12
     restore-agrees : (k : ℕ) (out : List ℕ) → Agrees (RestoreBroken b k out) (need (leb k (countIn b)) 26 0 ∷ need (leb (lengthIn b) (length out)) 12 0 ∷ []) (26 ∷ 12 ∷ [])
@@ -165,7 +165,7 @@ module _ (b : List ℕ) where
         room-not : (b : List ℕ) (k : ℕ) (out : List ℕ) → wordAt b 3 ≤ length out → RestoreBroken b k out 12 → ⊥
         room-not b k out h (reasons.room l) = omega arith
 
-    pub restore-refused : (k : ℕ) (out : List ℕ) (n p : ℕ) → (restoreAnswer house first b k out ≡ refused n p) ↔ RestoreRefused b k out n p
+    pub restore-refused : (k : ℕ) (out : List ℕ) (n p : ℕ) → (restoreAnswer planeFrames versionOne b k out ≡ refused n p) ↔ RestoreRefused b k out n p
     unfolding restoreAnswer
     restore-refused k out = behind (RecordRefused b) (RestoreBroken b k out) (26 ∷ 12 ∷ []) _ _ record-refused (λ a. restore-agrees k out)
 
@@ -190,25 +190,25 @@ module _ (b : List ℕ) where
     as-tests (accepted u) false e n p = (λ h. let q = entry-refusal 26 0 n p h in rw (q .0, q .1), λ h. let q = same-refusal 26 0 n p h in rw (q .0, q .1))
     as-tests (refused m q) t e n p = (λ h. let r = entry-refusal m q n p h in rw (r .0, r .1), λ h. let r = same-refusal m q n p h in rw (r .0, r .1))
 
-    pub entry-refused-by : (j n p : ℕ) → (entryAnswer house first b j ≡ refused n p) ↔ EntryRefused b j n p
+    pub entry-refused-by : (j n p : ℕ) → (entryAnswer planeFrames versionOne b j ≡ refused n p) ↔ EntryRefused b j n p
     unfolding entryAnswer
     entry-refused-by j n p =
-        let x = as-tests (recordVerdict house first b) (leb 1 j && leb j (countIn b)) (numbered first b j) n p in
+        let x = as-tests (recordVerdict planeFrames versionOne b) (leb 1 j && leb j (countIn b)) (numbered versionOne b j) n p in
         let y = behind (RecordRefused b) (EntryBroken b j) (26 ∷ []) _ _ record-refused (λ a. entry-agrees j) n p in
         (λ e. y .0 (x .0 e), λ r. x .1 (y .1 r))
 
     -- ---- an edit: record refusals, 22, 23, 24, 25, 12
     module _ (c : Correction) (x : c .extra ≡ []) where
-      value-broken : (p : Spot) → spot (frameOf b) (c .word) ≡ some p → newValue house c p ≡ false → EditBroken b c 23
-      unfolding newValue house
+      value-broken : (p : Spot) → spot (frameOf b) (c .word) ≡ some p → newValue planeFrames c p ≡ false → EditBroken b c 23
+      unfolding newValue planeFrames
       value-broken p s e = go (legalValue (p .kind) (c .value)) refl e
         where
           go : (t : Bool) → legalValue (p .kind) (c .value) ≡ t → (t && not (eqb (p .value) (c .value))) ≡ false → EditBroken b c 23
           go true q h = present p s (eqb-true _ _ (not-false _ h))
           go false q h = illegal p s (illegal-value (p .kind) (c .value) (spot-kind (frameOf b) (c .word) p s) q)
 
-      value-not : (p : Spot) → spot (frameOf b) (c .word) ≡ some p → newValue house c p ≡ true → EditBroken b c 23 → ⊥
-      unfolding newValue house
+      value-not : (p : Spot) → spot (frameOf b) (c .word) ≡ some p → newValue planeFrames c p ≡ true → EditBroken b c 23 → ⊥
+      unfolding newValue planeFrames
       value-not p s e (illegal q t h) =
           let k : p ≡ q = some-is p q (sym s ∙ t) in
           value-illegal (q .kind) (c .value) (ap (λ (r : Spot). legalValue (r .kind) (c .value)) (sym k) ∙ and-left _ _ e) h
@@ -219,11 +219,11 @@ module _ (b : List ℕ) where
       signer-not : signed (c .operator) (c .reason) ≡ true → EditBroken b c 24 → ⊥
       signer-not e (signer h) = signed-not _ _ e h
 
-      full-broken : (e : Entry) → first .limit (e ∷ entriesIn first b) ≡ false → EditBroken b c 25
+      full-broken : (e : Entry) → versionOne .limit (e ∷ entriesIn versionOne b) ≡ false → EditBroken b c 25
       unfolding countIn
       full-broken e h = by-cases (decLt (countIn b) 512) (λ l. absurd (true≢false (sym (full-limit b e .1 l) ∙ h))) (λ m. let k : wordAt b 5 < 512 → ⊥ = m in full (omega arith))
 
-      full-not : (e : Entry) → first .limit (e ∷ entriesIn first b) ≡ true → EditBroken b c 25 → ⊥
+      full-not : (e : Entry) → versionOne .limit (e ∷ entriesIn versionOne b) ≡ true → EditBroken b c 25 → ⊥
       unfolding countIn
       full-not e h (full l) = let k = full-limit b e .0 h in omega arith
 
@@ -233,22 +233,22 @@ module _ (b : List ℕ) where
       target-not : (p : Spot) → spot (frameOf b) (c .word) ≡ some p → EditBroken b c 22 → ⊥
       target-not p s (target h) = h p s
 
-      pub edit-refused-by : (n p : ℕ) → (editAnswer house first b c ≡ refused n p) ↔ EditRefused b c n p
-      unfolding editAnswer editTests house first lengthIn countIn
+      pub edit-refused-by : (n p : ℕ) → (editAnswer planeFrames versionOne b c ≡ refused n p) ↔ EditRefused b c n p
+      unfolding editAnswer editTests planeFrames versionOne lengthIn countIn
       edit-refused-by =
           behind (RecordRefused b) (EditBroken b c) (22 ∷ 23 ∷ 24 ∷ 25 ∷ 12 ∷ []) _ _ record-refused
           (λ a. asked-first _ _ _
           (tested _ _ 22 _ _ (λ e. target (no-spot _ e)) (λ e. let s = has-spot _ e in target-not (s .0) (s .1))
           (λ e.
           let s = has-spot _ e in
-          tested _ _ 23 _ _ (λ h. value-broken (s .0) (s .1) (at-item _ (s .0) (s .1) (newValue house c) false h)) (λ h. value-not (s .0) (s .1) (at-item _ (s .0) (s .1) (newValue house c) true h))
+          tested _ _ 23 _ _ (λ h. value-broken (s .0) (s .1) (at-item _ (s .0) (s .1) (newValue planeFrames c) false h)) (λ h. value-not (s .0) (s .1) (at-item _ (s .0) (s .1) (newValue planeFrames c) true h))
           (λ h. tested _ _ 24 _ _ (λ g. signer (unsigned _ _ (without _ (c .extra) x false g))) (λ g. signer-not (without _ (c .extra) x true g))
-          (λ h. tested _ _ 25 _ _ (full-broken (entryFor house (frameIn b) c)) (full-not (entryFor house (frameIn b) c))
+          (λ h. tested _ _ 25 _ _ (full-broken (entryFor planeFrames (frameIn b) c)) (full-not (entryFor planeFrames (frameIn b) c))
           (λ h. tested _ _ 12 _ _ (λ g. reasons.room (leb-false _ _ g)) (λ g. room-not (leb-true _ _ g))
           (λ h. no-more _)))))))
 
 -- ---- opening: frame refusals, 12
-pub open-refused-by : (f b : List ℕ) → Bytes f → (n p : ℕ) → (openAnswer house first f b ≡ refused n p) ↔ OpenRefused f b n p
+pub open-refused-by : (f b : List ℕ) → Bytes f → (n p : ℕ) → (openAnswer planeFrames versionOne f b ≡ refused n p) ↔ OpenRefused f b n p
 unfolding openAnswer
 open-refused-by f b y =
     behind (Refused f) (OpenBroken f b) (12 ∷ []) _ _ (frame-refusals f y)

@@ -20,14 +20,14 @@ use Rattle.format.proofs.spots.PutLaws.{stands}
 use Rattle.format.proofs.front.Stability as stability
 use Rattle.ledger.specs.Records.{lengthIn, countIn, entryOf, entriesTo, length-entries, headerRight, signed, atSpot, fitsItem, fits}
 use Rattle.ledger.specs.Chains.{Header, Fits}
-use Rattle.ledger.specs.First.{first}
-use Rattle.ledger.specs.House.{house}
+use Rattle.ledger.specs.VersionOne.{versionOne}
+use Rattle.ledger.specs.PlaneFrames.{planeFrames}
 use Rattle.ledger.specs.Reasons.{Illegal, over, nought, wide, NotSigned, noOperator, highOperator, noReason, highReason, HeaderBroken, short, version, frames, offset, history, count, total, zero, cut, Unfit, noItem, otherKind, otherValue, oldIllegal, unchanged, signer}
 use Rattle.ledger.proofs.answers.Due.{caught}
 use Rattle.ledger.proofs.records.Headers.{header-words}
 use Rattle.ledger.proofs.records.Judging.{signed-right, right-signed, fits-right}
-use Rattle.ledger.proofs.house.FirstLaws.{count-limit}
-use Rattle.ledger.proofs.house.House.{stands-there}
+use Rattle.ledger.proofs.plane.VersionOneLaws.{count-limit}
+use Rattle.ledger.proofs.plane.PlaneFrames.{stands-there}
 
 -- ---- values: the kind of an item is 1 or 2
 kind-of : (k : spots.Header) (x : Item) (p : Spot) → spotOf k x ≡ some p → (p .kind ≡ 1) ⊎ (p .kind ≡ 2)
@@ -78,8 +78,8 @@ signed-not o r e (noReason h) = let s = signed-right o r e .1 in omega arith
 signed-not o r e (highReason h) = let s = signed-right o r e .1 in omega arith
 
 -- ---- headers
-pub broken-header : (b : List ℕ) → headerRight first b ≡ false → HeaderBroken b
-unfolding headerRight lengthIn countIn first
+pub broken-header : (b : List ℕ) → headerRight versionOne b ≡ false → HeaderBroken b
+unfolding headerRight lengthIn countIn versionOne
 broken-header b e =
     caught (HeaderBroken b) _ e
     (λ h. short (leb-false 16 (length b) h))
@@ -90,10 +90,10 @@ broken-header b e =
     (λ h. total (eqb-false _ _ h))
     (λ h. zero (eqb-false _ _ h))
     (λ h. cut (leb-false _ (length b) h))
-    (λ h. count (rw (length-entries first b (wordAt b 5)) at (leb-false (length (entriesTo first b (wordAt b 5))) 512 h)))
+    (λ h. count (rw (length-entries versionOne b (wordAt b 5)) at (leb-false (length (entriesTo versionOne b (wordAt b 5))) 512 h)))
 
-pub header-broken : (b : List ℕ) → Header first b → HeaderBroken b → ⊥
-unfolding lengthIn countIn first
+pub header-broken : (b : List ℕ) → Header versionOne b → HeaderBroken b → ⊥
+unfolding lengthIn countIn versionOne
 header-broken b r (short h) = let l = r .long in omega arith
 header-broken b r (version h) = h (r .version)
 header-broken b r (frames h) = h (r .one)
@@ -105,17 +105,17 @@ header-broken b r (zero h) = h (r .nought)
 header-broken b r (cut h) = let l = r .room in omega arith
 
 -- a header that is not broken is right
-pub whole-header : (b : List ℕ) → (HeaderBroken b → ⊥) → Header first b
-whole-header b h = go (headerRight first b) refl
+pub whole-header : (b : List ℕ) → (HeaderBroken b → ⊥) → Header versionOne b
+whole-header b h = go (headerRight versionOne b) refl
   where
-    go : (t : Bool) → headerRight first b ≡ t → Header first b
-    go true q = header-words first b q
+    go : (t : Bool) → headerRight versionOne b ≡ t → Header versionOne b
+    go true q = header-words versionOne b q
     go false q = absurd (h (broken-header b q))
 
 -- ---- entries
 module _ (f e : List ℕ) where
-  item-unfit : (p : Spot) → spot f (wordAt e 0) ≡ some p → fitsItem house first (entryOf first e) p ≡ false → Unfit f e
-  unfolding fitsItem entryOf house first
+  item-unfit : (p : Spot) → spot f (wordAt e 0) ≡ some p → fitsItem planeFrames versionOne (entryOf versionOne e) p ≡ false → Unfit f e
+  unfolding fitsItem entryOf planeFrames versionOne
   item-unfit p s h =
       caught (Unfit f e) _ h
       (λ q. otherKind p s (eqb-false _ _ q))
@@ -136,15 +136,15 @@ module _ (f e : List ℕ) where
               oldIllegal (illegal-value (wordAt e 1) (longAt e 2) (⊎-elim (λ i. inl (sym same ∙ i)) (λ i. inr (sym same ∙ i)) (spot-kind f (wordAt e 0) p s)) q)
           go false k = otherKind p s (eqb-false (p .kind) (wordAt e 1) k)
 
-  not-fits : fits house first f (entryOf first e) ≡ false → Unfit f e
-  unfolding fits entryOf house
+  not-fits : fits planeFrames versionOne f (entryOf versionOne e) ≡ false → Unfit f e
+  unfolding fits entryOf planeFrames
   not-fits h = go (spot f (wordAt e 0)) refl h
     where
-      go : (o : Option Spot) → spot f (wordAt e 0) ≡ o → atSpot o (fitsItem house first (entryOf first e)) ≡ false → Unfit f e
+      go : (o : Option Spot) → spot f (wordAt e 0) ≡ o → atSpot o (fitsItem planeFrames versionOne (entryOf versionOne e)) ≡ false → Unfit f e
       go none q k = noItem (λ p s. no-some p (sym q ∙ s))
       go (some p) q k = item-unfit p q k
 
-  module _ (r : Fits house first f (entryOf first e)) where
+  module _ (r : Fits planeFrames versionOne f (entryOf versionOne e)) where
     there : spot f (wordAt e 0) ≡ some (r .spot)
     unfolding entryOf
     there = stands-there f (wordAt e 0) (r .spot) (r .stands)
@@ -153,7 +153,7 @@ module _ (f e : List ℕ) where
     one p s = some-is (r .spot) p (sym there ∙ s)
 
     pub unfit-not : Unfit f e → ⊥
-    unfolding entryOf house
+    unfolding entryOf planeFrames
     unfit-not (noItem h) = h (r .spot) there
     unfit-not (otherKind p s h) = h (sym (ap (λ (q : Spot). q .kind) (one p s)) ∙ r .kind)
     unfit-not (otherValue p s h) = h (sym (ap (λ (q : Spot). q .value) (one p s)) ∙ r .new)
@@ -162,9 +162,9 @@ module _ (f e : List ℕ) where
     unfit-not (signer h) = signed-not (wordAt e 6) (wordAt e 7) (right-signed _ _ (r .operator) (r .reason)) h
 
   -- one of the two
-  pub fit-or-unfit : Fits house first f (entryOf first e) ⊎ Unfit f e
-  fit-or-unfit = go (fits house first f (entryOf first e)) refl
+  pub fit-or-unfit : Fits planeFrames versionOne f (entryOf versionOne e) ⊎ Unfit f e
+  fit-or-unfit = go (fits planeFrames versionOne f (entryOf versionOne e)) refl
     where
-      go : (t : Bool) → fits house first f (entryOf first e) ≡ t → Fits house first f (entryOf first e) ⊎ Unfit f e
-      go true q = inl (fits-right house first f (entryOf first e) q)
+      go : (t : Bool) → fits planeFrames versionOne f (entryOf versionOne e) ≡ t → Fits planeFrames versionOne f (entryOf versionOne e) ⊎ Unfit f e
+      go true q = inl (fits-right planeFrames versionOne f (entryOf versionOne e) q)
       go false q = inr (not-fits q)

@@ -24,7 +24,7 @@ use Rattle.ledger.specs.Records.{header, totalIn, frameIn, entryBytes, e
 use Rattle.ledger.specs.Calls.{entryFor, newValue, setWord, editTests, editAnswer, editWritten, editExit}
 use Rattle.ledger.specs.Chains.{Allowed}
 use Rattle.ledger.proofs.answers.Answering.{need-holds, first-at, refused-first, first-refused}
-use Rattle.format.proofs.StoringLaws.{sets-mid}
+use Rattle.format.proofs.items.StoringLaws.{sets-mid}
 use Rattle.ledger.proofs.records.Codecs.{header-length, entriesBytes, entry-length}
 use Rattle.ledger.proofs.records.Judging.{signed-right, right-signed, at-spot}
 use Rattle.ledger.proofs.histories.Edits.{frameOf, entriesMade, Legal, valid-more, settable, frame-accepted, frame-same}

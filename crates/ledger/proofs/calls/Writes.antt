@@ -14,7 +14,7 @@ use Rattle.ledger.specs.Formats.{Correction, Format, Lawful, size}
 use Rattle.ledger.specs.Records.{header, lengthIn, countIn, totalIn, frameIn, entryBytes, recordVerdict}
 use Rattle.ledger.specs.Calls.{entryFor, setWord, openAnswer, openExit, editAnswer, editWritten, editExit, restored, restoreAnswer, restoreExit}
 use Rattle.ledger.specs.Chains.{Header, Allowed}
-use Rattle.format.proofs.StoringLaws.{sets-outside, sets-inside}
+use Rattle.format.proofs.items.StoringLaws.{sets-outside, sets-inside}
 use Rattle.ledger.proofs.records.Codecs.{bytes-part, entry-length, header-length}
 use Rattle.ledger.proofs.records.Headers.{header-words, frame-length}
 use Rattle.ledger.proofs.records.Judging.{verdict-parts}

@@ -20,7 +20,7 @@ use Rattle.ledger.specs.Formats.{Entry, Correction, Format, Lawful, size
 use Rattle.ledger.specs.Records.{header, lengthIn, countIn, totalIn, frameIn, entryBytes, numbered, entriesIn, recordVerdict}
 use Rattle.ledger.specs.Calls.{entryFor, recordAnswer, entryAnswer, openAnswer, openExit, editTests, editAnswer, editExit, restored, restoreAnswer, restoreExit}
 use Rattle.ledger.specs.Chains.{Header, Fits, Chain, Allowed}
-use Rattle.ledger.specs.Histories.{oldestFirst, bytesOf, correctionOf, frameAfter, entriesOf, run, recordAfter, acceptedEdits, Point, Sequence}
+use Rattle.ledger.specs.Histories.{oldestFirst, bytesOf, correctionOf, frameAfter, entriesOf, editAll, recordAfter, acceptedEdits, Point, Sequence}
 use Rattle.ledger.proofs.calls.Opening as opening
 use Rattle.ledger.proofs.calls.Editing as editing
 use Rattle.ledger.proofs.calls.Changing as changing
@@ -183,7 +183,7 @@ module _ (B : FrameBook) (F : Format) (L : Lawful B F) where
 
   -- so calls on any accepted record are calls that follow its own history, and every sentence above holds of them too
   pub continued : (b : List ℕ) → Bytes b → recordVerdict B F b ≡ accepted tt → (cs : List Correction)
-      → run B F b cs ≡ recordAfter B F (restored B F b 0) b (map correctionOf (oldestFirst (entriesIn F b)) ++ cs)
+      → editAll B F b cs ≡ recordAfter B F (restored B F b 0) b (map correctionOf (oldestFirst (entriesIn F b)) ++ cs)
   continued b y e cs = backward.backward-continues B F L b y e cs
 
   -- and no other frame and no other accepted edits make it

@@ -4,19 +4,19 @@ use mathlib.Core.Path.{_≡_, refl}
 use mathlib.Core.List.{[], _∷_}
 use Rattle.format.specs.Words.{bytes}
 use Rattle.ledger.specs.Records.{header, entryBytes}
-use Rattle.ledger.specs.First.{first}
+use Rattle.ledger.specs.VersionOne.{versionOne}
 
 -- case 3 has 34 bytes
-pub header-opened : header first 34 0 ≡ bytes (0x0001 ∷ 0x0001 ∷ 0x0010 ∷ 0x0022 ∷ 0x0032 ∷ 0x0000 ∷ 0x0032 ∷ 0x0000 ∷ [])
-unfolding header first
+pub header-opened : header versionOne 34 0 ≡ bytes (0x0001 ∷ 0x0001 ∷ 0x0010 ∷ 0x0022 ∷ 0x0032 ∷ 0x0000 ∷ 0x0032 ∷ 0x0000 ∷ [])
+unfolding header versionOne
 header-opened = refl
 
-pub header-edited : header first 34 1 ≡ bytes (0x0001 ∷ 0x0001 ∷ 0x0010 ∷ 0x0022 ∷ 0x0032 ∷ 0x0001 ∷ 0x0042 ∷ 0x0000 ∷ [])
-unfolding header first
+pub header-edited : header versionOne 34 1 ≡ bytes (0x0001 ∷ 0x0001 ∷ 0x0010 ∷ 0x0022 ∷ 0x0032 ∷ 0x0001 ∷ 0x0042 ∷ 0x0000 ∷ [])
+unfolding header versionOne
 header-edited = refl
 
 -- word 11, a sample, from 250 to 260, operator 9, reason 2
-pub entry-written : entryBytes first (record { word = 11; kind = 1; old = 250; new = 260; operator = 9; reason = 2; extra = [] })
+pub entry-written : entryBytes versionOne (record { word = 11; kind = 1; old = 250; new = 260; operator = 9; reason = 2; extra = [] })
     ≡ 0x0B ∷ 0x00 ∷ 0x01 ∷ 0x00 ∷ 0xFA ∷ 0x00 ∷ 0x00 ∷ 0x00 ∷ 0x04 ∷ 0x01 ∷ 0x00 ∷ 0x00 ∷ 0x09 ∷ 0x00 ∷ 0x02 ∷ 0x00 ∷ []
-unfolding entryBytes first bytes
+unfolding entryBytes versionOne bytes
 entry-written = refl

@@ -18,7 +18,7 @@ use Rattle.ledger.specs.Formats.{Entry, Correction, Format, Lawful, size
 use Rattle.ledger.specs.Records.{header, lengthIn, countIn, totalIn, frameIn, entryBytes, entriesIn, length-entries, before, historyVerdict, recordVerdict}
 use Rattle.ledger.specs.Calls.{entryFor, undone, restored, openAnswer, openExit, editAnswer, editExit}
 use Rattle.ledger.specs.Chains.{Fits}
-use Rattle.ledger.specs.Histories.{oldestFirst, correctionOf, run, made, Sequence}
+use Rattle.ledger.specs.Histories.{oldestFirst, correctionOf, editAll, made, Sequence}
 use Rattle.ledger.proofs.records.Codecs.{Good, entriesBytes, entry-length, bytes-part}
 use Rattle.ledger.proofs.records.Headers.{header-words, frame-length, record-bytes}
 use Rattle.ledger.proofs.records.Judging.{fits-right, step-accepted, verdict-parts}
@@ -26,8 +26,8 @@ use Rattle.ledger.proofs.histories.Edits.{frameOf, frame-none, entriesM
 use Rattle.ledger.proofs.histories.Holding.{Holds, holds-entries, holds-head, holds-length, holds-taken, holds-judged, holds-restored}
 use Rattle.ledger.proofs.calls.Opening.{open-exactly, open-whole}
 use Rattle.ledger.proofs.calls.Editing.{edit-holds, edit-rest, edit-exactly, legal-edit, exit-written}
-use Rattle.ledger.proofs.histories.Orders.{oldest-map, correction-back, gather, gathered, run-append, made-append}
-use Rattle.ledger.proofs.histories.Forward.{opened-stands, run-stands}
+use Rattle.ledger.proofs.histories.Orders.{oldest-map, correction-back, gather, gathered, edit-all-append, made-append}
+use Rattle.ledger.proofs.histories.Forward.{opened-stands, edit-all-stands}
 
 module _ (B : FrameBook) (F : Format) (L : Lawful B F) where
   -- ---- entries that fit, undone: the frame they lead back to, and their corrections as a history of it
@@ -112,7 +112,7 @@ module _ (B : FrameBook) (F : Format) (L : Lawful B F) where
 
   -- ---- and the calls make it
   pub record Replayed (f : List ℕ) (h : List Correction) (b r : List ℕ) : Type 0 where
-    pub bytes : run B F b (oldestFirst h) ≡ header F (length f) (length h) ++ (frameOf B f h ++ (entriesBytes F (entriesMade B f h) ++ r))
+    pub bytes : editAll B F b (oldestFirst h) ≡ header F (length f) (length h) ++ (frameOf B f h ++ (entriesBytes F (entriesMade B f h) ++ r))
     pub all : made B F b (oldestFirst h) ≡ oldestFirst h
 
   older-limit : (f : List ℕ) (c : Correction) (h : List Correction) → F .limit (entriesMade B f (c ∷ h)) ≡ true → F .limit (entriesMade B f h) ≡ true
@@ -124,9 +124,9 @@ module _ (B : FrameBook) (F : Format) (L : Lawful B F) where
   unfolding entriesMade entriesBytes
   entries-cons f c h = refl
 
-  run-one : (b : List ℕ) (c : Correction) → run B F b (c ∷ []) ≡ editExit B F b c
-  unfolding run
-  run-one b c = refl
+  edit-all-one : (b : List ℕ) (c : Correction) → editAll B F b (c ∷ []) ≡ editExit B F b c
+  unfolding editAll
+  edit-all-one b c = refl
 
   made-one : (b : List ℕ) (c : Correction) → editAnswer B F b c ≡ accepted tt → made B F b (c ∷ []) ≡ c ∷ []
   unfolding made
@@ -140,14 +140,14 @@ module _ (B : FrameBook) (F : Format) (L : Lawful B F) where
       let l = valid-newest B F f c h v in
       let lx : length x ≡ size F = entry-length F (L .format) (entryFor B (frameOf B f h) c) (l .good) in
       let lr : size F ≤ length (x ++ r) = rw (length-append x r) (omega arith) in
-      let b₂ = run B F b (oldestFirst h) in
+      let b₂ = editAll B F b (oldestFirst h) in
       let H : Holds B F f h b₂ = record { rest = x ++ r; is = R .bytes; first = j; valid = valid-older B F f c h v; limit = older-limit f c h m } in
       let D : editAnswer B F b₂ c ≡ accepted tt = legal-edit B F L f h b₂ H c l m lr in
       let a = edit-exactly B F b₂ c (holds-judged B F L f h b₂ H) .0 D in
       record {
         bytes =
-            run-append B F b (oldestFirst h) (c ∷ [])
-            ∙ run-one b₂ c
+            edit-all-append B F b (oldestFirst h) (c ∷ [])
+            ∙ edit-all-one b₂ c
             ∙ exit-written B F b₂ c D
             ∙ rw (edit-rest B F L f h b₂ H c a, drop-at x r (size F) lx) at (edit-holds B F L f h b₂ H c a .is);
         all = made-append B F b (oldestFirst h) (c ∷ []) ∙ rw (R .all) (ap (λ (d : List Correction). oldestFirst h ++ d) (made-one b₂ c D));
@@ -155,7 +155,7 @@ module _ (B : FrameBook) (F : Format) (L : Lawful B F) where
 
   replay : (f : List ℕ) (h : List Correction) (b r : List ℕ) → Accepted B f → Valid B F f h → F .limit (entriesMade B f h) ≡ true
       → b ≡ header F (length f) 0 ++ (f ++ (entriesBytes F (entriesMade B f h) ++ r)) → Replayed f h b r
-  unfolding oldestFirst run made frameOf
+  unfolding oldestFirst editAll made frameOf
   replay f [] b r j v m e = record { bytes = e; all = refl }
   replay f (c ∷ h) b r j v m e =
       let eb = entriesBytes F (entriesMade B f h) in
@@ -176,7 +176,7 @@ module _ (B : FrameBook) (F : Format) (L : Lawful B F) where
         let d : drop (16 + length f) b ≡ q = ap (drop (16 + length f)) (H .is ∙ sym (append-assoc hd g q)) ∙ drop-at (hd ++ g) q (16 + length f) (holds-head B F L f h b H) in
         replay f h (openExit B F f b) (H .rest) (H .first) (H .valid) (H .limit) (rw d at (open-whole B F f b holds-opens))
 
-    holds-makes : run B F (openExit B F f b) (oldestFirst h) ≡ b
+    holds-makes : editAll B F (openExit B F f b) (oldestFirst h) ≡ b
     holds-makes = holds-replays .bytes ∙ sym (H .is)
 
   module _ (b : List ℕ) (y : Bytes b) (e : recordVerdict B F b ≡ accepted tt) where
@@ -186,7 +186,7 @@ module _ (B : FrameBook) (F : Format) (L : Lawful B F) where
     pub backward-opens : openAnswer B F (restored B F b 0) b ≡ accepted tt
     backward-opens = holds-opens (restored B F b 0) (map correctionOf (entriesIn F b)) b (accepted-holds b y e)
 
-    pub backward-makes : run B F (openExit B F (restored B F b 0) b) (map correctionOf (oldestFirst (entriesIn F b))) ≡ b
+    pub backward-makes : editAll B F (openExit B F (restored B F b 0) b) (map correctionOf (oldestFirst (entriesIn F b))) ≡ b
     backward-makes = rw (← oldest-map correctionOf (entriesIn F b)) (holds-makes (restored B F b 0) (map correctionOf (entriesIn F b)) b (accepted-holds b y e))
 
     pub backward-all : made B F (openExit B F (restored B F b 0) b) (map correctionOf (oldestFirst (entriesIn F b))) ≡ map correctionOf (oldestFirst (entriesIn F b))
@@ -194,14 +194,14 @@ module _ (B : FrameBook) (F : Format) (L : Lawful B F) where
 
     -- all three at once
     pub backward-again : (openAnswer B F (restored B F b 0) b ≡ accepted tt)
-        × (run B F (openExit B F (restored B F b 0) b) (map correctionOf (oldestFirst (entriesIn F b))) ≡ b)
+        × (editAll B F (openExit B F (restored B F b 0) b) (map correctionOf (oldestFirst (entriesIn F b))) ≡ b)
         × (made B F (openExit B F (restored B F b 0) b) (map correctionOf (oldestFirst (entriesIn F b))) ≡ map correctionOf (oldestFirst (entriesIn F b)))
     backward-again = (backward-opens, backward-makes, backward-all)
 
     -- so calls on any accepted record are calls that follow its own
     pub backward-continues : (cs : List Correction)
-        → run B F b cs ≡ run B F (openExit B F (restored B F b 0) b) (map correctionOf (oldestFirst (entriesIn F b)) ++ cs)
-    backward-continues cs = sym (run-append B F (openExit B F (restored B F b 0) b) (map correctionOf (oldestFirst (entriesIn F b))) cs ∙ ap (λ (x : List ℕ). run B F x cs) backward-makes)
+        → editAll B F b cs ≡ editAll B F (openExit B F (restored B F b 0) b) (map correctionOf (oldestFirst (entriesIn F b)) ++ cs)
+    backward-continues cs = sym (edit-all-append B F (openExit B F (restored B F b 0) b) (map correctionOf (oldestFirst (entriesIn F b))) cs ∙ ap (λ (x : List ℕ). editAll B F x cs) backward-makes)
 
     pub backward-sequence : Sequence B F b
     backward-sequence = record {
@@ -219,9 +219,9 @@ module _ (B : FrameBook) (F : Format) (L : Lawful B F) where
   sequence-holds b S =
       let f = S .origin in
       let b₀ = openExit B F f (S .buffer) in
-      let b₂ = run B F b₀ (S .calls) in
+      let b₂ = editAll B F b₀ (S .calls) in
       let h = gather B F b₀ [] (S .calls) in
-      let H = run-stands B F L f [] (S .buffer) b₀ (S .calls) (opened-stands B F L f (S .buffer) (S .bytes) (S .opened)) .holds in
+      let H = edit-all-stands B F L f [] (S .buffer) b₀ (S .calls) (opened-stands B F L f (S .buffer) (S .bytes) (S .opened)) .holds in
       record {
         rest = drop (totalIn F b₂) b;
         is = sym (take-append-drop (totalIn F b₂) b) ∙ rw (S .same, holds-taken B F L f h b₂ H) (simp append-assoc);

@@ -15,7 +15,7 @@ use Rattle.ledger.specs.Frames.{FrameBook}
 use Rattle.ledger.specs.Formats.{Correction, Format, Lawful, size}
 use Rattle.ledger.specs.Records.{lengthIn, header, countIn, totalIn, frameIn, entriesIn, recordVerdict}
 use Rattle.ledger.specs.Calls.{openAnswer, openExit, editAnswer, editWritten, editExit, restoreAnswer, restoreExit}
-use Rattle.ledger.specs.Histories.{oldestFirst, keep, frameAfter, entriesOf, run, made, recordAfter, acceptedEdits, bytesOf, Point}
+use Rattle.ledger.specs.Histories.{oldestFirst, keep, frameAfter, entriesOf, editAll, made, recordAfter, acceptedEdits, bytesOf, Point}
 use Rattle.ledger.proofs.records.Codecs.{entriesBytes}
 use Rattle.ledger.proofs.histories.Edits.{frameOf, entriesMade}
 use Rattle.ledger.proofs.histories.Holding.{Holds, holds-reads, holds-frame, holds-entries, holds-total, holds-rest, holds-bytes, holds-judged, holds-restores, holds-no-entry, holds-no-room, holds-exit}
@@ -52,10 +52,10 @@ module _ (B : FrameBook) (F : Format) (L : Lawful B F) where
   unfolding editExit
   call-stands f h own b c S = edited-stands f h own b c (editAnswer B F b c) refl S
 
-  pub run-stands : (f : List ℕ) (h : List Correction) (own b : List ℕ) (cs : List Correction) → Stands f h own b → Stands f (gather B F b h cs) own (run B F b cs)
-  unfolding gather run
-  run-stands f h own b [] S = S
-  run-stands f h own b (c ∷ cs) S = run-stands f (keep (editAnswer B F b c) c h) own (editExit B F b c) cs (call-stands f h own b c S)
+  pub edit-all-stands : (f : List ℕ) (h : List Correction) (own b : List ℕ) (cs : List Correction) → Stands f h own b → Stands f (gather B F b h cs) own (editAll B F b cs)
+  unfolding gather editAll
+  edit-all-stands f h own b [] S = S
+  edit-all-stands f h own b (c ∷ cs) S = edit-all-stands f (keep (editAnswer B F b c) c h) own (editExit B F b c) cs (call-stands f h own b c S)
 
   -- ---- an accepted frame f, opened in a buffer; any calls cs
   module _ (f buf : List ℕ) (y : Bytes f) (e : openAnswer B F f buf ≡ accepted tt) (cs : List Correction) where
@@ -68,7 +68,7 @@ module _ (B : FrameBook) (F : Format) (L : Lawful B F) where
 
     stands : Stands f edits buf last
     unfolding edits last
-    stands = run-stands f [] buf (openExit B F f buf) cs (opened-stands f buf y e)
+    stands = edit-all-stands f [] buf (openExit B F f buf) cs (opened-stands f buf y e)
 
     in-order : oldestFirst edits ≡ acceptedEdits B F f buf cs
     unfolding edits oldestFirst
@@ -159,7 +159,7 @@ module _ (B : FrameBook) (F : Format) (L : Lawful B F) where
   stood f buf y e cs ds out room =
       let b = openExit B F f buf in
       let m = made B F b cs in
-      let t = made B F (run B F b cs) ds in
+      let t = made B F (editAll B F b cs) ds in
       let q : made B F b (cs ++ ds) ≡ m ++ t = made-append B F b cs ds in
       let l : length m ≤ length (made B F b (cs ++ ds)) = rw (q, length-append m t) (omega arith) in
       let k : take (length m) (made B F b (cs ++ ds)) ≡ m = rw q (take-append-seam m t) in

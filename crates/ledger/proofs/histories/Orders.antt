@@ -11,7 +11,7 @@ use Rattle.format.specs.Answers.{accepted, refused, Done}
 use Rattle.ledger.specs.Frames.{FrameBook}
 use Rattle.ledger.specs.Formats.{Entry, Correction, Format}
 use Rattle.ledger.specs.Calls.{entryFor, editAnswer, editExit}
-use Rattle.ledger.specs.Histories.{oldestFirst, bytesOf, keep, correctionOf, frameAfter, entriesOf, run, made}
+use Rattle.ledger.specs.Histories.{oldestFirst, bytesOf, keep, correctionOf, frameAfter, entriesOf, editAll, made}
 use Rattle.ledger.specs.Records.{entryBytes}
 use Rattle.ledger.proofs.records.Codecs.{entriesBytes}
 use Rattle.ledger.proofs.histories.Edits.{frameOf, entriesMade}
@@ -117,15 +117,15 @@ module _ (B : FrameBook) (F : Format) where
   unfolding oldestFirst
   gathered b cs = gather-order b [] cs
 
-  pub run-append : (b : List ℕ) (cs ds : List Correction) → run B F b (cs ++ ds) ≡ run B F (run B F b cs) ds
-  unfolding run
-  run-append b [] ds = refl
-  run-append b (c ∷ cs) ds = run-append (editExit B F b c) cs ds
+  pub edit-all-append : (b : List ℕ) (cs ds : List Correction) → editAll B F b (cs ++ ds) ≡ editAll B F (editAll B F b cs) ds
+  unfolding editAll
+  edit-all-append b [] ds = refl
+  edit-all-append b (c ∷ cs) ds = edit-all-append (editExit B F b c) cs ds
 
-  pub made-append : (b : List ℕ) (cs ds : List Correction) → made B F b (cs ++ ds) ≡ made B F b cs ++ made B F (run B F b cs) ds
-  unfolding made run
+  pub made-append : (b : List ℕ) (cs ds : List Correction) → made B F b (cs ++ ds) ≡ made B F b cs ++ made B F (editAll B F b cs) ds
+  unfolding made editAll
   made-append b [] ds = refl
-  made-append b (c ∷ cs) ds = rw (made-append (editExit B F b c) cs ds) (keep-append (editAnswer B F b c) c (made B F (editExit B F b c) cs) (made B F (run B F (editExit B F b c) cs) ds))
+  made-append b (c ∷ cs) ds = rw (made-append (editExit B F b c) cs ds) (keep-append (editAnswer B F b c) c (made B F (editExit B F b c) cs) (made B F (editAll B F (editExit B F b c) cs) ds))
     where
       keep-append : (o : Done) (c : Correction) (xs ys : List Correction) → keep o c (xs ++ ys) ≡ keep o c xs ++ ys
       keep-append (accepted u) c xs ys = refl

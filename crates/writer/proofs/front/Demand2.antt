@@ -29,8 +29,8 @@ use Rattle.frame.specs.Views.{viewKind, viewFrame}
 use Rattle.frame.specs.Promises.{ReadAs, ItemAnswered, TextAnswered}
 use Rattle.writer.specs.declared.answers.Written.{Written}
 use Rattle.writer.specs.declared.answers.Written.the-variants as written
-use Rattle.writer.specs.Runs.{Argument, callIn, Run, Copies, argumentFor, allTyped, ReadsBack}
-use Rattle.writer.proofs.RunLaws as runs
+use Rattle.writer.specs.FrameCalls.{Argument, callIn, FrameCalls, Copies, argumentFor, allTyped, ReadsBack}
+use Rattle.writer.proofs.FrameCallLaws as runs
 use Rattle.writer.proofs.CopyLaws as copies
 
 -- > "A frame is accepted exactly when it follows our word book and frame rules,"
@@ -72,7 +72,7 @@ module _ (s : RefT (List ℕ)) (f : Frame) (read : ReadAs (now s) (reading.Accep
   -- Begin, add, add_text and close are handed what read, item and text answered: all accept, the last answers the frame's length, and the buffer
   -- begins with the frame and is as it was beyond.
   pub same-bytes : Bytes (now s) → (gs : List Argument) → Copies s 0 gs → length gs ≡ f .items → (buf : List ℕ) → length (now s) ≤ length buf
-      → (r : Written) (left : List ℕ) → Run buf (f .kind) (f .card) (f .sequence) gs r left
+      → (r : Written) (left : List ℕ) → FrameCalls buf (f .kind) (f .card) (f .sequence) gs r left
       → (r ≡ written.Length (length (now s))) × (left ≡ now s ++ drop (length (now s)) buf)
   same-bytes = copies.copied s f read
 
@@ -85,11 +85,11 @@ pub every-kind : (kind : rules.Kind) → (k : Kind) × (viewKind k ≡ kind)
 every-kind = copies.some-kind
 
 -- There is a run of whatever is handed over, and
-pub every-run : (buf : List ℕ) (k : Kind) (card sequence : ℕ) (gs : List Argument) → (r : Written) × (left : List ℕ) × Run buf k card sequence gs r left
+pub every-run : (buf : List ℕ) (k : Kind) (card sequence : ℕ) (gs : List Argument) → (r : Written) × (left : List ℕ) × FrameCalls buf k card sequence gs r left
 every-run = runs.some-run
 
 module _ (f : frames.Frame) (k : Kind) (its-kind : viewKind k ≡ f .kind) (buf : List ℕ) (r : Written) (left : List ℕ)
-    (run : Run buf k (f .card) (f .sequence) (map argumentFor (f .items)) r left) where
+    (run : FrameCalls buf k (f .card) (f .sequence) (map argumentFor (f .items)) r left) where
   -- it writes the list,
   pub every-list-is-written : Legal f → length (encode f) ≤ length buf → (r ≡ written.Length (length (encode f))) × (left ≡ encode f ++ drop (length (encode f)) buf)
   every-list-is-written = copies.list-written f k its-kind buf r left run
@@ -100,10 +100,10 @@ module _ (f : frames.Frame) (k : Kind) (its-kind : viewKind k ≡ f .kind) (buf 
   only-room = copies.list-too-long f k its-kind buf r left run
 
 -- > "and reads back as itself;"
-module _ (buf : List ℕ) (k : Kind) (card sequence : ℕ) (gs : List Argument) (m : ℕ) (left : List ℕ) (run : Run buf k card sequence gs (written.Length m) left) where
+module _ (buf : List ℕ) (k : Kind) (card sequence : ℕ) (gs : List Argument) (m : ℕ) (left : List ℕ) (run : FrameCalls buf k card sequence gs (written.Length m) left) where
   -- Whatever a run accepts is a legal frame of just what was handed over, in the first m bytes, the rest of the buffer as it was;
   pub only-frames-are-written : CallsWrote buf (viewKind k) card sequence (map callIn gs) m left
-  only-frames-are-written = copies.run-wrote buf k card sequence gs m left run
+  only-frames-are-written = copies.writing-done buf k card sequence gs m left run
 
   -- of those m bytes read answers this kind, card, sequence word and number of items, and who copies them hands over the same again.
   pub reads-back : (s : RefT (List ℕ)) → now s ≡ take m left → (r : Reading) → ReadAs (now s) r → (hs : List Argument) → Copies s 0 hs → length hs ≡ length gs

@@ -6,7 +6,7 @@ use native.Mathlib.Omega.{arith}
 use native.Mathlib.Nat.{min-le-left}
 use lib.ListN.{length-take}
 use lib.Seq.{length-take-le}
-use Rattle.format.proofs.StoringLaws.{sets-room}
+use Rattle.format.proofs.items.StoringLaws.{sets-room}
 use borrow.Author.Needs.{needs}
 use Rattle.book.proofs.words.copy.Statement.{statement}
 use Rattle.book.proofs.words.copy.Tie as tie

@@ -1,7 +1,7 @@
 -- `editor::editing::edit` meets its contract.
 -- Assumes nothing.
 use mathlib.Core.Path.{sym, ap, _∙_}
-use Rattle.plane.specs.Views.{viewJudged}
+use Rattle.records.specs.Views.{viewJudged}
 use Rattle.editor.proofs.KnownLaws.{judged-known, judged-refused}
 use Rattle.editor.proofs.EditLaws.{edited-unknown}
 use borrow.Author.Needs.{needs}

@@ -13,8 +13,8 @@ use Rattle.book.specs.Views.{viewItem}
 use Rattle.book.specs.declared.items.Item.{Item}
 use Rattle.ledger.specs.Records.{frameIn}
 use Rattle.frame.specs.Views.{viewFoundItem, viewStanding}
-use Rattle.plane.specs.Views.{viewHeader, viewHeaderFound}
-use Rattle.plane.proofs.Scanning.{other-spot}
+use Rattle.records.specs.Views.{viewHeader, viewHeaderFound}
+use Rattle.records.proofs.Scanning.{other-spot}
 use Rattle.editor.proofs.KnownLaws.{sum, inside}
 use Rattle.editor.proofs.EditLaws.{not-headed, not-standing, other-item, item-holds, no-target, edited-refused}
 use borrow.Author.Needs.{needs}

@@ -1,7 +1,7 @@
 -- `editor::restoring::restore` meets its contract.
 -- Assumes nothing.
 use mathlib.Core.Path.{sym, ap, _∙_}
-use Rattle.plane.specs.Views.{viewRecord}
+use Rattle.records.specs.Views.{viewRecord}
 use Rattle.editor.proofs.KnownLaws.{record-known, record-refused}
 use Rattle.editor.proofs.RestoreLaws.{restored-unknown}
 use borrow.Author.Needs.{needs}

@@ -7,7 +7,7 @@ use mathlib.Core.Path.{_≡_, refl, _∙_}
 use lib.ListN.{length}
 use lib.Seq.{sets}
 use Rattle.format.specs.Words.{bytes}
-use Rattle.format.proofs.StoringLaws.{Left, words-start, words-next, words-end}
+use Rattle.format.proofs.items.StoringLaws.{Left, words-start, words-next, words-end}
 use Rattle.editor.proofs.stores.put_words.Statement.{statement}
 use Rattle.editor.proofs.stores.put_words.Tie as tie
 

@@ -4,7 +4,7 @@ use denote.Ref.{now}
 use mathlib.Core.Path.{sym, ap, _∙_}
 use Rattle.exports.specs.Flat.{flatWritten}
 use Rattle.exports.specs.Given.{viewGiven}
-use Rattle.exports.proofs.GivenLaws.{told, flawed-left}
+use Rattle.exports.proofs.GivenLaws.{answered-alike, flawed-left}
 use borrow.Author.Needs.{needs}
 use Rattle.exports.proofs.writing.plane_add.Statement.{statement}
 use Rattle.exports.proofs.writing.plane_add.Tie as tie
@@ -31,13 +31,13 @@ same-length : tie.Need-same-length
 same-length c = search needs
 
 returns : tie.Need-returns
-returns c = let a = c .before .before .before in let k = a .before .before .before in told (now (k .before .before .before .before .args .buffer)) _ _ _ (sym (ap viewGiven (k .said .given .1)) ∙ k .before .before .item-given .ensures) _ _ (record { answered = c .flat-written .ensures ∙ ap flatWritten (a .add .ensures .answered); written = a .add .ensures .written })
+returns c = let a = c .before .before .before in let k = a .before .before .before in answered-alike (now (k .before .before .before .before .args .buffer)) _ _ _ (sym (ap viewGiven (k .said .given .1)) ∙ k .before .before .item-given .ensures) _ _ (record { answered = c .flat-written .ensures ∙ ap flatWritten (a .add .ensures .answered); written = a .add .ensures .written })
 
 same-length-2 : tie.Need-same-length-2
 same-length-2 c = search needs
 
 returns-2 : tie.Need-returns-2
-returns-2 c = let k = c .before .before .before in told (now (k .before .before .before .before .args .buffer)) _ _ _ (sym (ap viewGiven (k .said2 .given .1)) ∙ k .before .before .item-given .ensures) _ _ (record { answered = c .refuse-item .ensures; written = sym (flawed-left _ _ _) })
+returns-2 c = let k = c .before .before .before in answered-alike (now (k .before .before .before .before .args .buffer)) _ _ _ (sym (ap viewGiven (k .said2 .given .1)) ∙ k .before .before .item-given .ensures) _ _ (record { answered = c .refuse-item .ensures; written = sym (flawed-left _ _ _) })
 
 pub plane-add-spec : {M : Type 1} → statement M
 plane-add-spec =

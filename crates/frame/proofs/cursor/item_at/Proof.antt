@@ -5,7 +5,7 @@ use native.Mathlib.Omega.{arith}
 use lib.Dec.{lit<}
 use Rattle.format.specs.Cursor.{shownBy}
 use Rattle.format.proofs.book.BookLaws.{in-range}
-use Rattle.format.proofs.CursorLaws.{standing-early, standing-late}
+use Rattle.format.proofs.reader.CursorLaws.{standing-early, standing-late}
 use Rattle.frame.proofs.Shows.{sample-shown}
 use borrow.Author.Needs.{needs}
 use Rattle.frame.proofs.cursor.item_at.Statement.{statement}

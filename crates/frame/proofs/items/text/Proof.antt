@@ -6,7 +6,7 @@ use native.Mathlib.Omega.{arith}
 use denote.Ref.{now, ptr}
 use Rattle.format.specs.Answers.{accepted}
 use Rattle.format.specs.Questions.{shownAt}
-use Rattle.frame.specs.Parts.{within}
+use Rattle.frame.specs.Parts.{partFrom}
 use Rattle.frame.specs.Views.{viewFound, viewFoundItem}
 use Rattle.frame.proofs.Finding.{text-refused, text-none, Part, text-part}
 use borrow.Author.Needs.{needs}
@@ -54,7 +54,7 @@ part-result-end-2 c = search needs
 returns : tie.Need-returns
 returns c =
     let p = text-none _ _ _ _ (told (c .before .before)) _ (c .before .before .text-count .ensures) (omega arith) in
-    (p .0, ap (within (ptr (c .before .before .before .before .before .before .before .before .args .s))) (p .1))
+    (p .0, ap (partFrom (ptr (c .before .before .before .before .before .before .before .before .args .s))) (p .1))
 
 add-from : tie.Need-add-from
 add-from c = let p = part (c .before) (omega arith) in omega (arith, p .after-word, p .inside)
@@ -80,12 +80,12 @@ part-result-end-3 c = let p = part (c .before .before) (omega arith) in omega (a
 returns-2 : tie.Need-returns-2
 returns-2 c =
     let p = text-refused (now (c .before .before .before .before .before .args .s)) (c .before .before .before .before .before .args .n) _ _ (sym (ap viewFound (c .before .enum-told .given .1)) ∙ c .before .before .before .item .ensures) in
-    (p .0, ap (within (ptr (c .before .before .before .before .before .args .s))) (p .1))
+    (p .0, ap (partFrom (ptr (c .before .before .before .before .before .args .s))) (p .1))
 
 returns-3 : tie.Need-returns-3
 returns-3 c =
     let p = part (c .before .before .before) (omega arith) in
-    (p .bytes-are (λ i. (c .before .before .before .before .before .before .before .before .shared-slice-known .given i) .fits), ap (within (ptr (c .before .before .before .before .before .before .before .before .before .args .s))) (p .from-is))
+    (p .bytes-are (λ i. (c .before .before .before .before .before .before .before .before .shared-slice-known .given i) .fits), ap (partFrom (ptr (c .before .before .before .before .before .before .before .before .before .args .s))) (p .from-is))
 
 pub text-spec : {M : Type 1} → statement M
 text-spec =

@@ -39,8 +39,8 @@ add-count c =
 ahead-requires : tie.Need-ahead-requires Inv-loop μ-loop
 ahead-requires c κs = search needs
 
-run-at-requires : tie.Need-run-at-requires Inv-loop μ-loop
-run-at-requires c κs =
+repeats-at-requires : tie.Need-repeats-at-requires Inv-loop μ-loop
+repeats-at-requires c κs =
     let d = c .before in
     let m = live-moved _ _ _ _ _ _ _ _ _ (d .before .before .before .before .before .before .loop .inv .1) (d .before .before .before .before .before .loop-test .taken) _ (d .before .before .before .step .ensures) _ _ _ (ap viewStep (d .before .turn .given .1)) (d .before .before .before .before .noted .ensures) in
     (m .1, d .before .before .before .before .before .before .loop .inv .0)
@@ -50,7 +50,7 @@ add-count-2 c =
     let q = c .before in
     let d = q .before .before in
     let m = live-moved _ _ _ _ _ _ _ _ _ (d .before .before .before .before .before .before .loop .inv .1) (d .before .before .before .before .before .loop-test .taken) _ (d .before .before .before .step .ensures) _ _ _ (ap viewStep (d .before .turn .given .1)) (d .before .before .before .before .noted .ensures) in
-    let e = q .run-at .ensures in
+    let e = q .repeats-at .ensures in
     let l = live-run _ _ _ _ _ _ _ _ _ (m .2) _ (λ i h. q .before .ahead .ensures .0 i (omega (arith, e .few))) _ _ (e .turns) in
     omega (arith, live-few _ _ _ _ _ _ _ _ _ l .0)
 
@@ -59,14 +59,14 @@ loop-less c =
     let q = c .before in
     let d = q .before .before in
     let m = live-moved _ _ _ _ _ _ _ _ _ (d .before .before .before .before .before .before .loop .inv .1) (d .before .before .before .before .before .loop-test .taken) _ (d .before .before .before .step .ensures) _ _ _ (ap viewStep (d .before .turn .given .1)) (d .before .before .before .before .noted .ensures) in
-    omega (arith, m .0, q .run-at .ensures .onwards)
+    omega (arith, m .0, q .repeats-at .ensures .onwards)
 
 loop-again : tie.Need-loop-again Inv-loop μ-loop
 loop-again c =
     let q = c .before in
     let d = q .before .before in
     let m = live-moved _ _ _ _ _ _ _ _ _ (d .before .before .before .before .before .before .loop .inv .1) (d .before .before .before .before .before .loop-test .taken) _ (d .before .before .before .step .ensures) _ _ _ (ap viewStep (d .before .turn .given .1)) (d .before .before .before .before .noted .ensures) in
-    let e = q .run-at .ensures in
+    let e = q .repeats-at .ensures in
     (d .before .before .before .before .before .before .loop .inv .0, live-run _ _ _ _ _ _ _ _ _ (m .2) _ (λ i h. q .before .ahead .ensures .0 i (omega (arith, e .few))) _ _ (e .turns))
 
 enum-known-turn-2 : tie.Need-enum-known-turn-2 Inv-loop μ-loop
@@ -92,7 +92,7 @@ walk-spec =
     enum-known-turn
     add-count
     ahead-requires
-    run-at-requires
+    repeats-at-requires
     add-count-2
     loop-less
     loop-again

@@ -5,7 +5,7 @@ use mathlib.Core.Path.{_≡_, refl}
 use native.Mathlib.Omega.{arith}
 use lib.ListN.{length}
 use Rattle.format.specs.Frames.{lastOf}
-use Rattle.format.proofs.CursorLaws.{on-range}
+use Rattle.format.proofs.reader.CursorLaws.{on-range}
 use Rattle.questions.proofs.CountFill.{Counting, counting-start, bin-room, counting-bin, counting-other, counting-end}
 use borrow.Author.Needs.{needs}
 use Rattle.questions.proofs.fill.fill_counts.Statement.{statement}

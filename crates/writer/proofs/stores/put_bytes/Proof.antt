@@ -4,7 +4,7 @@ use denote.Ref.{now}
 use Prim.Native.Nat.{_+_}
 use native.Mathlib.Omega.{arith}
 use lib.ListN.{length}
-use Rattle.format.proofs.StoringLaws.{part-stores}
+use Rattle.format.proofs.items.StoringLaws.{part-stores}
 use borrow.Author.Needs.{needs}
 use Rattle.writer.proofs.stores.put_bytes.Statement.{statement}
 use Rattle.writer.proofs.stores.put_bytes.Tie as tie

@@ -1,0 +1,256 @@
+-- The two loops over an accepted frame: the one that looks for the item at a word, and the one that notes the header of every item. Each turn is
+-- a case of the cursor's law (format's CursorLaws), and what it tells of the word is in format's ScanLaws.
+-- Assumes nothing.
+use Prim.Native.Nat.{ℕ, zero, suc, _+_, _-_, _*_, _/_, _<_, _≤_}
+use mathlib.Core.Path.{_≡_, refl, sym, ap, ap₂, subst, _∙_}
+use mathlib.Core.List.{List, [], _∷_}
+use denote.Enum.Declared.{tagOf}
+use types.Run.{OneOf, miss}
+use mathlib.Core.Bool.{Bool, true, false}
+use mathlib.Core.Option.{Option, none, some}
+use native.Mathlib.Omega.{arith}
+use lib.Dec.{eqb, ltb}
+use lib.ListN.{length, getD, set, length-set}
+use lib.Seq.{getD-set-same, getD-set-other}
+use borrow.Author.Tests.{eqb-true, eqb-false, ltb-true, ltb-false}
+use Rattle.format.specs.Words.{pick, wordAt}
+use Rattle.format.specs.Answers.{Outcome, accepted, refused}
+use Rattle.format.specs.Items.{ItemOf, Item}
+use Rattle.format.specs.Book.{classOf}
+use Rattle.format.specs.Frames.{Frame, lastOf, headFault, judged, verdict}
+use Rattle.format.specs.Questions.{done, shown}
+use Rattle.format.specs.Cursor.{standingAt, shownBy, On}
+use Rattle.format.specs.Spots.{Header, noHeader, Spot, spotOf, under, spot}
+use Rattle.format.specs.Scans.{headBy, head, headerBy, headerAt}
+use Rattle.format.proofs.book.RangeLaws.{bin-is, sample-is, hits-is, histogram-is, channel-is}
+use Rattle.format.proofs.verdict.HeadLaws.{head-of}
+use Rattle.format.proofs.reader.CursorLaws.{last-is, Turn, answered, nothing-answered, channel-turn, histogram-turn, hits-turn, sample-turn, bin-turn}
+use Rattle.format.proofs.spots.ScanLaws.{shown-head, shown-spot, Blank, Ahead, ahead-start, blank-first, Passed, pass, ahead-end}
+use Rattle.ledger.specs.Frames.{Accepted}
+use Rattle.ledger.specs.PlaneFrames.{planeFrames, plane-frames-judge}
+use Rattle.ledger.proofs.plane.PlaneFrames.{plane-frames-lawful}
+use Rattle.book.specs.Views.{viewItem}
+use Rattle.book.specs.declared.items.Item as declared
+use Rattle.book.proofs.items.Item.{the-type}
+use Rattle.book.specs.declared.items.Item.the-variants as item
+use Rattle.records.specs.Undoing.{Heads}
+
+-- ---- an item answer taken apart
+
+-- anything but a Sample or Bin is no spot
+pub other-spot : (z : declared.Item) → OneOf (0 ∷ 1 ∷ 2 ∷ 5 ∷ 6 ∷ 7 ∷ 8 ∷ 9 ∷ []) (tagOf the-type z) → (k : Header) → none ≡ spotOf k (viewItem z)
+other-spot (item.Channel x) o k = refl
+other-spot (item.Histogram x) o k = refl
+other-spot (item.HitCount x) o k = refl
+other-spot (item.Sample x) o k = absurd (miss (0 ∷ 1 ∷ 2 ∷ 5 ∷ 6 ∷ 7 ∷ 8 ∷ 9 ∷ []) 3 tt o)
+other-spot (item.Bin x) o k = absurd (miss (0 ∷ 1 ∷ 2 ∷ 5 ∷ 6 ∷ 7 ∷ 8 ∷ 9 ∷ []) 4 tt o)
+other-spot (item.LastCell x) o k = refl
+other-spot (item.TimeBin x) o k = refl
+other-spot (item.Text x) o k = refl
+other-spot (item.StartEvent x) o k = refl
+other-spot (item.EndEvent x) o k = refl
+
+-- anything but a Channel or Histogram is no header
+pub other-header : (z : declared.Item) → OneOf (2 ∷ 3 ∷ 4 ∷ 5 ∷ 6 ∷ 7 ∷ 8 ∷ 9 ∷ []) (tagOf the-type z) → noHeader ≡ under noHeader (viewItem z)
+other-header (item.Channel x) o = absurd (miss (2 ∷ 3 ∷ 4 ∷ 5 ∷ 6 ∷ 7 ∷ 8 ∷ 9 ∷ []) 0 tt o)
+other-header (item.Histogram x) o = absurd (miss (2 ∷ 3 ∷ 4 ∷ 5 ∷ 6 ∷ 7 ∷ 8 ∷ 9 ∷ []) 1 tt o)
+other-header (item.HitCount x) o = refl
+other-header (item.Sample x) o = refl
+other-header (item.Bin x) o = refl
+other-header (item.LastCell x) o = refl
+other-header (item.TimeBin x) o = refl
+other-header (item.Text x) o = refl
+other-header (item.StartEvent x) o = refl
+other-header (item.EndEvent x) o = refl
+
+-- ---- the frame of accepted bytes
+
+framed : (o : Outcome Frame) → done o ≡ accepted tt → (f : Frame) × (o ≡ accepted f)
+framed (accepted f) e = (f, refl)
+framed (refused n p) e = let z : _≡_ {A = ℕ} 0 1 = cc in absurd (omega arith)
+
+pub the-frame : (s : List ℕ) → Accepted planeFrames s → (f : Frame) × (verdict s ≡ accepted f)
+the-frame s a = framed (verdict s) (sym (plane-frames-judge s) ∙ a .judged)
+
+-- its last word
+pub record Sized (s : List ℕ) : Type 0 where
+  pub some-words : 4 ≤ length s / 2
+  pub few-words : lastOf s < 4096
+
+pub sized : (s : List ℕ) → Accepted planeFrames s → Sized s
+sized s a =
+    let (f, v) = the-frame s a in
+    let l = last-is s (a .bytes) f v in
+    let m = plane-frames-lawful .short s a in
+    record { some-words = omega arith; few-words = omega arith }
+
+-- the end word
+frame-end : (s : List ℕ) (f : Frame) → verdict s ≡ accepted f → wordAt s (lastOf s) ≡ 0x000F
+unfolding verdict
+frame-end s f v = go (eqb (headFault s) 0) refl v
+  where
+    go : (b : Bool) → eqb (headFault s) 0 ≡ b → pick b (judged s) (refused (headFault s) 0) ≡ accepted f → wordAt s (lastOf s) ≡ 0x000F
+    go true e q = head-of s (eqb-true (headFault s) 0 e) .ended
+    go false e q = let z : _≡_ {A = ℕ} 0 1 = cc in absurd (omega arith)
+
+-- the header at a word, by the item answered there
+pub header-nothing : (s : List ℕ) (h : ℕ) → none ≡ shownBy (standingAt s h) → noHeader ≡ headerAt s h
+unfolding headerAt
+header-nothing s h e = ap headerBy e
+
+pub header-shown : (s : List ℕ) (h : ℕ) (z : ItemOf ℕ) (n : ℕ) (k : Header) → k ≡ under noHeader z → some (record { item = z; next = n }) ≡ shownBy (standingAt s h) → k ≡ headerAt s h
+unfolding headerAt
+header-shown s h z n k i e = i ∙ ap headerBy e
+
+-- where nothing stands at a word that the cursor stops at, the last word is reached
+at-last : (s : List ℕ) (at : ℕ) → On s at → none ≡ shownBy (standingAt s at) → lastOf s ≤ at
+at-last s at g e = go (ltb at (lastOf s)) refl
+  where
+    go : (b : Bool) → ltb at (lastOf s) ≡ b → lastOf s ≤ at
+    go true q = absurd (nothing-answered s at g (ltb-true at (lastOf s) q) (sym e))
+    go false q = ltb-false at (lastOf s) q
+
+-- ---- looking for the item at word w
+
+pub record Seeking (s : List ℕ) (w at h : ℕ) : Type 0 where
+  pub few : lastOf s < 4096
+  pub ahead : Ahead s at h
+  pub passed : w < at → spot s w ≡ none
+
+pub seek-start : (s : List ℕ) (w : ℕ) → Accepted planeFrames s → Seeking s w 3 1
+seek-start s w a =
+    let (f, v) = the-frame s a in
+    record { few = sized s a .few-words; ahead = ahead-start s (a .bytes) f v; passed = λ h. blank-first s (a .bytes) f v w h .spot }
+
+module _ (s : List ℕ) (w at h : ℕ) (g : Seeking s w at h) where
+  pub seek-end : none ≡ shownBy (standingAt s at) → at ≤ w → none ≡ spot s w
+  seek-end e l = sym (ahead-end s at h (g .ahead) (at-last s at (g .ahead .on) e) w l .spot)
+
+  -- the item answered at the word
+  module _ (z : ItemOf ℕ) (n : ℕ) (e : some (record { item = z; next = n }) ≡ shownBy (standingAt s at)) where
+    pub seek-found : at ≡ w → (k : Header) (o : Option Spot) → k ≡ headerAt s h → o ≡ spotOf k z → o ≡ spot s w
+    seek-found q k o i r =
+        let (x, j, t) = answered s at (g .ahead .on) z n (sym e) in
+        r ∙ ap₂ (λ (k : Header) (y : ItemOf ℕ). spotOf k y) i (sym j) ∙ shown-spot (headerAt s h) x ∙ sym (pass s at h (g .ahead) x n t .spot) ∙ ap (spot s) q
+
+    pub seek-next : (at ≡ w → ⊥) → at ≤ w → (j : ℕ) → j ≡ headBy h at z → (at < n) × (n ≤ lastOf s) × Seeking s w n j
+    seek-next q l j r =
+        let (x, i, t) = answered s at (g .ahead .on) z n (sym e) in
+        let p = pass s at h (g .ahead) x n t in
+        let d : j ≡ headBy h at x = r ∙ ap (λ (y : ItemOf ℕ). headBy h at y) (sym i) ∙ shown-head h at x in
+        let m : at ≡ w → ⊥ = q in (
+          t .further,
+          t .within,
+          record { few = g .few; ahead = subst (Ahead s n) (sym d) (p .next); passed = λ b. p .between w (omega arith) b .spot },
+        )
+
+-- ---- noting the header of every item
+
+pub record Noting (s map : List ℕ) (at h : ℕ) : Type 0 where
+  pub few : lastOf s < 4096
+  pub long : 4096 ≤ length map
+  pub begun : 3 ≤ at
+  pub within : at ≤ lastOf s
+  pub ended : wordAt s (lastOf s) ≡ 0x000F
+  pub ahead : Ahead s at h
+  pub noted : (u : ℕ) → u < at → getD map u 0 ≡ head s u
+  pub blank : (u : ℕ) → at ≤ u → getD map u 0 ≡ 0
+
+pub note-start : (s map : List ℕ) → Accepted planeFrames s → 4096 ≤ length map → ((i : ℕ) → getD map i 0 ≡ 0) → Noting s map 3 1
+note-start s map a l z =
+    let (f, v) = the-frame s a in
+    let w = sized s a .some-words in
+    record {
+      few = sized s a .few-words;
+      long = l;
+      begun = omega arith;
+      within = omega arith;
+      ended = frame-end s f v;
+      ahead = ahead-start s (a .bytes) f v;
+      noted = λ u h. z u ∙ sym (blank-first s (a .bytes) f v u h .head);
+      blank = λ u h. z u;
+    }
+
+module _ (s map : List ℕ) (at h : ℕ) (g : Noting s map at h) where
+  -- an item passed, whichever it is
+  note-past : (x : Item) (n j : ℕ) → Turn s at (g .ahead .on) x n → j ≡ headBy h at x → Noting s (set map at j) n j
+  note-past x n j t e =
+      let p = pass s at h (g .ahead) x n t in
+      let i = t .further in
+      let b = g .begun in
+      record {
+        few = g .few;
+        long = rw (length-set map at j) (g .long);
+        begun = omega arith;
+        within = t .within;
+        ended = g .ended;
+        ahead = subst (Ahead s n) (sym e) (p .next);
+        noted = λ u l. go p u l (ltb u at) refl (eqb u at) refl;
+        blank = λ u l. getD-set-other map at u j 0 (λ y. omega arith) ∙ g .blank u (omega arith);
+      }
+    where
+      go : Passed s at h x n → (u : ℕ) → u < n → (a : Bool) → ltb u at ≡ a → (b : Bool) → eqb u at ≡ b → getD (set map at j) u 0 ≡ head s u
+      go p u l true a b y =
+          let m = ltb-true u at a in
+          getD-set-other map at u j 0 (λ w. omega arith) ∙ g .noted u m
+      go p u l false a true y =
+          let m = eqb-true u at y in
+          let r = g .long in
+          let q = g .few in
+          let z = g .within in
+          rw m (getD-set-same map at j 0 (omega arith) ∙ e ∙ sym (p .head))
+      go p u l false a false y =
+          let m = ltb-false u at a in
+          let w = eqb-false u at y in
+          getD-set-other map at u j 0 w ∙ g .blank u m ∙ sym (p .between u (omega arith) l .head)
+
+  -- a word from 0x2000 on is not the end word
+  pub note-before : (w : ℕ) → w ≡ wordAt s at → 0x2000 ≤ w → at < lastOf s
+  note-before w e a = go (ltb at (lastOf s)) refl
+    where
+      go : (b : Bool) → ltb at (lastOf s) ≡ b → at < lastOf s
+      go true q = ltb-true at (lastOf s) q
+      go false q =
+          let l = ltb-false at (lastOf s) q in
+          let m = g .within in
+          let i : at ≡ lastOf s = omega arith in
+          let z : w ≡ 0x000F = e ∙ ap (wordAt s) i ∙ g .ended in
+          absurd (omega arith)
+
+  -- an item of one word, told by the range of that word
+  pub note-one : (w : ℕ) → w ≡ wordAt s at → 0x3000 ≤ w → w < 65536 → (j : ℕ) → (0x8000 ≤ w → j ≡ at) → (w < 0x8000 → j ≡ h) → Noting s (set map at j) (at + 1) j
+  note-one w e a b j high low = go (ltb w 0x4000) refl (ltb w 0x8000) refl (ltb w 0xC000) refl
+    where
+      l : at < lastOf s
+      l = note-before w e (omega arith)
+
+      go : (x : Bool) → ltb w 0x4000 ≡ x → (y : Bool) → ltb w 0x8000 ≡ y → (z : Bool) → ltb w 0xC000 ≡ z → Noting s (set map at j) (at + 1) j
+      go true x y d z k = let i = ltb-true w 0x4000 x in note-past _ _ j (sample-turn s at (g .ahead .on) l (sample-is w a i ∙ ap classOf e)) (low (omega arith))
+      go false x true d z k = let i = ltb-true w 0x8000 d in note-past _ _ j (hits-turn s at (g .ahead .on) l (hits-is w (ltb-false w 0x4000 x) i ∙ ap classOf e)) (low i)
+      go false x false d true k = let i = ltb-false w 0x8000 d in note-past _ _ j (histogram-turn s at (g .ahead .on) l (histogram-is w i (ltb-true w 0xC000 k) ∙ ap classOf e)) (high i)
+      go false x false d false k = let i = ltb-false w 0xC000 k in note-past _ _ j (channel-turn s at (g .ahead .on) l (channel-is w i b ∙ ap classOf e)) (high (omega arith))
+
+  -- a Bin, told by the range of its first word
+  pub note-bin : (w : ℕ) → w ≡ wordAt s at → 0x2000 ≤ w → w < 0x3000 → Noting s (set map at h) (at + 3) h
+  note-bin w e a b = note-past _ _ h (bin-turn s at (g .ahead .on) (note-before w e a) (bin-is w a b ∙ ap classOf e)) refl
+
+  -- any other, by the item answered
+  pub note-item : (z : ItemOf ℕ) (n : ℕ) → some (record { item = z; next = n }) ≡ shownBy (standingAt s at) → (j : ℕ) → j ≡ headBy h at z
+      → (at < n) × (n ≤ lastOf s) × Noting s (set map at j) n j
+  note-item z n e j r =
+      let (x, i, t) = answered s at (g .ahead .on) z n (sym e) in
+      (t .further, t .within, note-past x n j t (r ∙ ap (λ (y : ItemOf ℕ). headBy h at y) (sym i) ∙ shown-head h at x))
+
+  pub note-end : none ≡ shownBy (standingAt s at) → Heads s map
+  note-end e u = go (ltb u at) refl
+    where
+      go : (b : Bool) → ltb u at ≡ b → getD map u 0 ≡ head s u
+      go true q = g .noted u (ltb-true u at q)
+      go false q =
+          let a = ltb-false u at q in
+          g .blank u a ∙ sym (ahead-end s at h (g .ahead) (at-last s at (g .ahead .on) e) u a .head)
+
+pub getD-past : (l : List ℕ) (i : ℕ) → length l ≤ i → 0 ≡ getD l i 0
+getD-past [] i h = refl
+getD-past (x ∷ l) zero h = absurd (omega arith)
+getD-past (x ∷ l) (suc i) h = getD-past l i (omega arith)

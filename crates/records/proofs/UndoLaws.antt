@@ -1,0 +1,202 @@
+-- Entries undone on a copy of the frame: an entry is tested against the map and the item answered at its word, and undoing one that fits leaves
+-- a frame that the map still tells the headers of.
+-- Assumes nothing.
+use Prim.Native.Nat.{ℕ, zero, suc, _+_, _-_, _*_, _<_, _≤_}
+use mathlib.Core.Path.{_≡_, refl, sym, ap, ap₂, subst, _∙_}
+use mathlib.Core.List.{List, []}
+use mathlib.Core.Logic.{_⊎_, ⊎-elim}
+use mathlib.Core.Bool.{Bool, true, false, not, _&&_}
+use mathlib.Core.Option.{Option, none, some}
+use native.Mathlib.Omega.{arith}
+use lib.Dec.{eqb}
+use lib.ListN.{length, getD, take, drop, length-drop}
+use lib.Seq.{sets, length-take-le}
+use borrow.Author.Tests.{eqb-true, eqb-false, eq-eqb, ne-eqb}
+use Rattle.format.specs.Words.{Bytes, bytes}
+use Rattle.format.specs.Answers.{Done}
+use Rattle.format.specs.Items.{ItemOf, Item, Channel, Histogram, HitCount, Sample, Bin, LastCell, TimeBin, Text, StartEvent, EndEvent, wordsOf}
+use Rattle.format.specs.Frames.{lastOf}
+use Rattle.format.specs.Questions.{Shown}
+use Rattle.format.specs.Cursor.{standingAt, shownBy}
+use Rattle.format.specs.Spots.{Header, noHeader, Spot, spotOf, underAll, spot, headed, put, legalValue}
+use Rattle.format.specs.Scans.{head, headerAt, headedBy, spotBy}
+use Rattle.format.proofs.spots.PutLaws.{stands, put-stores}
+use Rattle.format.proofs.questions.ItemQuestions.{no-some}
+use Rattle.format.proofs.reader.CursorLaws.{next-there}
+use Rattle.format.proofs.spots.ScanLaws.{headed-by, spot-by, put-heads}
+use Rattle.ledger.specs.Tests.{all}
+use Rattle.ledger.specs.Frames.{Accepted, Settable}
+use Rattle.ledger.specs.Formats.{Entry}
+use Rattle.ledger.specs.Records.{lengthIn, entryOf, numbered, entriesTo, signed, atSpot, before, fitsItem, fits, historyVerdict}
+use Rattle.ledger.specs.Chains.{Fits}
+use Rattle.ledger.specs.VersionOne.{versionOne}
+use Rattle.ledger.specs.PlaneFrames.{planeFrames, plane-frames-spot}
+use Rattle.ledger.proofs.records.Judging.{fits-right}
+use Rattle.format.proofs.items.StoringLaws.{sets-whole}
+use Rattle.ledger.proofs.records.Walking.{judge-none, judge-back, judge-stop}
+use Rattle.ledger.proofs.plane.PlaneFrames.{stands-there, plane-frames-lawful}
+use Rattle.records.specs.Views.{unfit}
+use Rattle.records.specs.Stored.{stored, Inside}
+use Rattle.records.specs.Undoing.{Heads, Undoing}
+use Rattle.records.proofs.RecordLaws.{entry-from}
+
+and-true : (a : Bool) → (a && true) ≡ a
+and-true true = refl
+and-true false = refl
+
+-- the words of an item that stands there lie in the frame
+item-inside : (s : List ℕ) → Bytes s → (w : ℕ) (p : Spot) → spot s w ≡ some p → Inside (p .kind) w s
+unfolding wordsOf
+item-inside s y w p e =
+    let h = stands s w p e in
+    let is = h .is in
+    let n = next-there s y (h .frame) (h .accepted) (is .before) (is .item) (is .after) (is .items) w (is .index) in
+    let i = n .wide in
+    let l = n .within in
+    by-item (is .item) (underAll noHeader (is .before)) (is .spot) (omega arith)
+  where
+    kind-of : (a b : Spot) → some a ≡ some b → b .kind ≡ a .kind
+    kind-of a b e = cc
+
+    by-item : (x : Item) (k : Header) → spotOf k x ≡ some p → w + length (wordsOf x) ≤ lastOf s → Inside (p .kind) w s
+    by-item (Sample v) k q b = record { sample = λ z. omega arith; bin = λ n. absurd (n (kind-of _ p q)) }
+    by-item (Bin i v) k q b = record { sample = λ z. omega arith; bin = λ n. omega arith }
+    by-item (Channel i j c) k q b = no-some p q
+    by-item (Histogram i j c) k q b = no-some p q
+    by-item (HitCount i j c) k q b = no-some p q
+    by-item (LastCell i j) k q b = no-some p q
+    by-item (TimeBin i) k q b = no-some p q
+    by-item (Text i) k q b = no-some p q
+    by-item (StartEvent i j c) k q b = no-some p q
+    by-item (EndEvent i) k q b = no-some p q
+
+-- an entry with nothing after the reason
+abbrev plain : ℕ → ℕ → ℕ → ℕ → ℕ → ℕ → Entry
+plain w k old new o r = record { word = w; kind = k; old = old; new = new; operator = o; reason = r; extra = [] }
+
+-- what the map and the item answered there tell of word w
+module _ (map f : List ℕ) (g : Undoing map f) (w : ℕ) where
+  header-here : headed f w ≡ headedBy f (getD map w 0)
+  header-here = headed-by f (g .frame .bytes) w ∙ ap (headedBy f) (sym (g .heads w))
+
+  -- no item begins there
+  pub none-headed : getD map w 0 ≡ 0 → none ≡ headed f w
+  none-headed z = sym (header-here ∙ ap (headedBy f) z)
+
+  -- the header of one that does
+  pub some-headed : (h : ℕ) → h ≡ getD map w 0 → (h ≡ 0 → ⊥) → (k : Header) → k ≡ headerAt f h → some k ≡ headed f w
+  some-headed zero e n k i = absurd (n refl)
+  some-headed (suc h) e n k i = ap some i ∙ sym (header-here ∙ ap (headedBy f) (sym e))
+
+  spot-here : planeFrames .spot f w ≡ spotBy (headed f w) (shownBy (standingAt f w))
+  spot-here = plane-frames-spot f w ∙ spot-by f (g .frame .bytes) w
+
+  no-spot : (o : Option Header) → spotBy o none ≡ none
+  no-spot none = refl
+  no-spot (some k) = refl
+
+  module _ (k old new o r : ℕ) where
+    pub unnoted-fits : getD map w 0 ≡ 0 → false ≡ fits planeFrames versionOne f (plain w k old new o r)
+    unfolding fits
+    unnoted-fits z = rw (spot-here, ← none-headed z)
+
+    pub nothing-fits : none ≡ shownBy (standingAt f w) → false ≡ fits planeFrames versionOne f (plain w k old new o r)
+    unfolding fits
+    nothing-fits e = rw (spot-here, ← e, no-spot (headed f w))
+
+    -- the item answered there
+    module _ (n : getD map w 0 ≡ 0 → ⊥) (z : ItemOf ℕ) (next : ℕ) (e : some (record { item = z; next = next }) ≡ shownBy (standingAt f w)) where
+      stands-here : planeFrames .spot f w ≡ spotOf (headerAt f (getD map w 0)) z
+      stands-here = spot-here ∙ ap₂ (λ (h : Option Header) (x : Option Shown). spotBy h x) (sym (some-headed (getD map w 0) refl n _ refl)) (sym e)
+
+      pub other-fits : ((h : Header) → none ≡ spotOf h z) → false ≡ fits planeFrames versionOne f (plain w k old new o r)
+      unfolding fits
+      other-fits i = rw (stands-here, ← i (headerAt f (getD map w 0)))
+
+      pub item-fits : (t : Bool) (kind value : ℕ) → ((h : Header) → some (record { kind = kind; value = value; header = h }) ≡ spotOf h z)
+          → ((h : Header) → t ≡ fitsItem planeFrames versionOne (plain w k old new o r) (record { kind = kind; value = value; header = h })) → t ≡ fits planeFrames versionOne f (plain w k old new o r)
+      unfolding fits
+      item-fits t kind value i q = q (headerAt f (getD map w 0)) ∙ sym (rw (stands-here, ← i (headerAt f (getD map w 0))))
+
+-- the tests of an entry at an item
+pub item-tests : (w k old new o r kind value : ℕ) (lawful named : Bool) → lawful ≡ legalValue k old → named ≡ signed o r → (h : Header)
+    → ((((eqb kind k && eqb value new) && lawful) && not (eqb old new)) && named) ≡ fitsItem planeFrames versionOne (plain w k old new o r) (record { kind = kind; value = value; header = h })
+unfolding fitsItem all versionOne planeFrames
+item-tests w k old new o r kind value lawful named l i h = rw (l, i) (sym (and-true _ ∙ and-true _))
+
+-- ---- undoing
+
+-- a legal value stored in an item that stands there is the value put
+pub stored-put : (f : List ℕ) (w v : ℕ) (s : Spot) → Settable planeFrames f w v s → stored f (s .kind) w v ≡ planeFrames .put f w v
+unfolding stored planeFrames
+stored-put f w v s h = rw (h .legal) (sym (put-stores f w v s (stands-there f w s (h .stands))))
+
+module _ (f : List ℕ) (a : Accepted planeFrames f) (e : Entry) (h : fits planeFrames versionOne f e ≡ true) where
+  fitting : Fits planeFrames versionOne f e
+  fitting = fits-right planeFrames versionOne f e h
+
+  settable : Settable planeFrames f (e .word) (e .old) (fitting .spot)
+  settable = record { frame = a; stands = fitting .stands; legal = ap (λ (k : ℕ). planeFrames .legal k (e .old)) (fitting .kind) ∙ fitting .old }
+
+  -- the old value of an entry that fits may be put, and its words lie in the frame
+  pub undo-inside : Inside (e .kind) (e .word) f
+  undo-inside = subst (λ (k : ℕ). Inside k (e .word) f) (fitting .kind) (item-inside f (a .bytes) (e .word) (fitting .spot) (stands-there f (e .word) (fitting .spot) (fitting .stands)))
+
+  pub undo-legal : legalValue (e .kind) (e .old) ≡ true
+  unfolding planeFrames
+  undo-legal = fitting .old
+
+  -- undoing an entry that fits gives the frame before it
+  pub stored-before : stored f (e .kind) (e .word) (e .old) ≡ before planeFrames f e
+  stored-before = ap (λ (k : ℕ). stored f k (e .word) (e .old)) (sym (fitting .kind)) ∙ stored-put f (e .word) (e .old) (fitting .spot) settable
+
+  -- T25 behind the map: every header stands at its word
+  heads-kept : (u : ℕ) → head (before planeFrames f e) u ≡ head f u
+  unfolding planeFrames
+  heads-kept u = put-heads f (a .bytes) (e .word) (fitting .spot) (stands-there f (e .word) (fitting .spot) (fitting .stands)) (e .old) (settable .legal) u
+
+  pub before-accepted : (g : List ℕ) → g ≡ before planeFrames f e → Accepted planeFrames g
+  before-accepted g i = subst (Accepted planeFrames) (sym i) (plane-frames-lawful .put-accepted f (e .word) (e .old) (fitting .spot) settable)
+
+  pub undoing-next : (map g : List ℕ) → Undoing map f → g ≡ before planeFrames f e → Undoing map g
+  undoing-next map g u i =
+      record { frame = before-accepted g i; heads = λ w. u .heads w ∙ sym (ap (λ (f : List ℕ). head f w) i ∙ heads-kept w) }
+
+-- ---- the loop from the newest entry back
+
+pub part-long : (b : List ℕ) (at : ℕ) → length (take (length b - at) (drop at b)) ≡ length b - at
+part-long b at = length-take-le (length b - at) (drop at b) (rw (length-drop at b) (omega arith))
+
+numbered-at : (b : List ℕ) (h p at : ℕ) → h ≡ 16 + lengthIn b → at ≡ h + 16 * (suc p - 1) → entryOf versionOne (drop at b) ≡ numbered versionOne b (suc p)
+unfolding numbered versionOne
+numbered-at b h p at e q = rw (q, e)
+
+module _ (f b : List ℕ) (h : ℕ) (k : h ≡ 16 + lengthIn b) (e : Entry) where
+  pub turn-back : (m at : ℕ) → 0 < m → e ≡ entryOf versionOne (take (length b - at) (drop at b)) → at ≤ length b → at ≡ h + 16 * (m - 1) → fits planeFrames versionOne f e ≡ true → (g : List ℕ) → g ≡ before planeFrames f e
+      → historyVerdict planeFrames versionOne g (entriesTo versionOne b (m - 1)) ≡ historyVerdict planeFrames versionOne f (entriesTo versionOne b m)
+  turn-back zero at l i v w t g q = absurd (omega arith)
+  turn-back (suc p) at l i v w t g q =
+      let n : suc p - 1 ≡ p = omega arith in
+      let j : e ≡ numbered versionOne b (suc p) = entry-from b at e i v ∙ numbered-at b h p at k w in
+      rw (n, q, j) (sym (judge-back planeFrames versionOne f b p (rw j at t)))
+
+  pub turn-stop : (m at : ℕ) → 0 < m → e ≡ entryOf versionOne (take (length b - at) (drop at b)) → at ≤ length b → at ≡ h + 16 * (m - 1) → fits planeFrames versionOne f e ≡ false → unfit m ≡ historyVerdict planeFrames versionOne f (entriesTo versionOne b m)
+  turn-stop zero at l i v w t = absurd (omega arith)
+  turn-stop (suc p) at l i v w t =
+      let j : e ≡ numbered versionOne b (suc p) = entry-from b at e i v ∙ numbered-at b h p at k w in
+      rw (ne-eqb (suc p) 0 (λ z. omega arith)) (sym (judge-stop planeFrames versionOne f b p (rw j at t)))
+
+pub turn-done : (f b : List ℕ) (m : ℕ) → m ≤ 0 → unfit 0 ≡ historyVerdict planeFrames versionOne f (entriesTo versionOne b m)
+turn-done f b m l = let z : m ≡ 0 = omega arith in rw z (sym (judge-none planeFrames versionOne f b))
+
+-- ---- a copy of the frame
+
+module _ (frame found g : List ℕ) (l : length found ≡ length frame) (e : g ≡ sets found 0 frame) where
+  copied : g ≡ frame
+  copied = e ∙ sets-whole found frame (sym l)
+
+  pub undoing-start : Accepted planeFrames frame → (map : List ℕ) → Heads frame map → Undoing map g
+  undoing-start a map k = subst (Undoing map) (sym copied) (record { frame = a; heads = k })
+
+  pub same-history : (es : List Entry) (o : Done) → o ≡ historyVerdict planeFrames versionOne g es → o ≡ historyVerdict planeFrames versionOne frame es
+  same-history es o q = q ∙ ap (λ (s : List ℕ). historyVerdict planeFrames versionOne s es) copied

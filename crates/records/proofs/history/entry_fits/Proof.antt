@@ -1,0 +1,103 @@
+-- `plane::history::entry_fits` meets its contract.
+-- Assumes nothing.
+use denote.Ref.{now}
+use mathlib.Core.Path.{refl, ap, sym, _∙_}
+use Rattle.format.specs.Spots.{spotOf}
+use Rattle.book.specs.Views.{viewItem}
+use Rattle.book.specs.declared.items.Item.{Item}
+use Rattle.frame.specs.Views.{viewStanding}
+use Rattle.records.proofs.Scanning.{other-spot}
+use Rattle.records.proofs.UndoLaws.{unnoted-fits, nothing-fits, other-fits, item-fits}
+use borrow.Author.Needs.{needs}
+use Rattle.records.proofs.history.entry_fits.Statement.{statement}
+use Rattle.records.proofs.history.entry_fits.Tie as tie
+
+cast-at : tie.Need-cast-at
+cast-at c = search needs
+
+head-at-requires : tie.Need-head-at-requires
+head-at-requires c κs = search needs
+
+returns : tie.Need-returns
+returns c =
+    let s = c .before .before .before .before .before in
+    unnoted-fits (now (s .args .map)) (now (s .args .f)) (s .pre) _ _ _ _ _ _ (sym (c .before .head-at .ensures) ∙ c .if1 .taken)
+
+item-at-requires : tie.Need-item-at-requires
+item-at-requires c κs = search needs
+
+enum-known-standing : tie.Need-enum-known-standing
+enum-known-standing c = search needs
+
+enum-told : tie.Need-enum-told
+enum-told c = search needs
+
+returns-2 : tie.Need-returns-2
+returns-2 c =
+    let i = c .before .before in
+    let s = i .before .before .before .before .before .before in
+    nothing-fits (now (s .args .map)) (now (s .args .f)) (s .pre) _ _ _ _ _ _ (sym (ap viewStanding (c .enum-told .given .1)) ∙ i .item-at .ensures)
+
+enum-known-item : tie.Need-enum-known-item
+enum-known-item c = search needs
+
+cast-fits-item : tie.Need-cast-fits-item
+cast-fits-item c = search needs
+
+fits-item-requires : tie.Need-fits-item-requires
+fits-item-requires c κs = search needs
+
+enum-known-item-2 : tie.Need-enum-known-item-2
+enum-known-item-2 c = search needs
+
+fits-item-requires-2 : tie.Need-fits-item-requires-2
+fits-item-requires-2 c κs = search needs
+
+returns-3 : tie.Need-returns-3
+returns-3 c =
+    let t = c .before .before .before in
+    let s = t .before .before .before in
+    let i = s .before .before in
+    let h = i .before in
+    let a = h .before .before .before .before .before in
+    item-fits (now (a .args .map)) (now (a .args .f)) (a .pre) _ _ _ _ _ _ (λ z. h .if1 .left (h .before .head-at .ensures ∙ z)) _ _ (sym (ap viewStanding (s .standing .given .1)) ∙ i .item-at .ensures) _ _ _
+    (λ k. ap (λ (z : Item). spotOf k (viewItem z)) (sym (t .item .given .1))) (c .fits-item .ensures)
+
+returns-4 : tie.Need-returns-4
+returns-4 c =
+    let t = c .before .before in
+    let s = t .before .before .before in
+    let i = s .before .before in
+    let h = i .before in
+    let a = h .before .before .before .before .before in
+    item-fits (now (a .args .map)) (now (a .args .f)) (a .pre) _ _ _ _ _ _ (λ z. h .if1 .left (h .before .head-at .ensures ∙ z)) _ _ (sym (ap viewStanding (s .standing .given .1)) ∙ i .item-at .ensures) _ _ _
+    (λ k. ap (λ (z : Item). spotOf k (viewItem z)) (sym (t .item2 .given .1))) (c .fits-item2 .ensures)
+
+returns-5 : tie.Need-returns-5
+returns-5 c =
+    let s = c .before .before in
+    let i = s .before .before in
+    let h = i .before in
+    let a = h .before .before .before .before .before in
+    other-fits (now (a .args .map)) (now (a .args .f)) (a .pre) _ _ _ _ _ _ (λ z. h .if1 .left (h .before .head-at .ensures ∙ z)) _ _ (sym (ap viewStanding (s .standing .given .1)) ∙ i .item-at .ensures)
+    (other-spot (s .standing .given .0 .0 .item) (c .match2 .keys3))
+
+pub entry-fits-spec : {M : Type 1} → statement M
+entry-fits-spec =
+    tie.close
+    (tie.spec
+    cast-at
+    head-at-requires
+    returns
+    item-at-requires
+    enum-known-standing
+    enum-told
+    returns-2
+    enum-known-item
+    cast-fits-item
+    fits-item-requires
+    enum-known-item-2
+    fits-item-requires-2
+    returns-3
+    returns-4
+    returns-5)

@@ -1,0 +1,68 @@
+-- What the answers of this crate say in document 01.
+-- Assumes nothing.
+use Prim.Native.Nat.{ℕ}
+use mathlib.Core.List.{List, []}
+use mathlib.Core.Option.{Option, none, some}
+use lib.Dec.{eqb}
+use Rattle.format.specs.Answers.{Outcome, accepted, refused, Done, need, andThen}
+use Rattle.format.specs.Spots as spots
+use Rattle.book.specs.Views.{refusal}
+use Rattle.ledger.specs.Formats as formats
+use Rattle.ledger.specs.Calls.{Summary}
+use Rattle.ledger.specs.Judged as judged
+use Rattle.ledger.specs.Records.{entriesTo, historyVerdict}
+use Rattle.ledger.specs.VersionOne.{versionOne}
+use Rattle.ledger.specs.PlaneFrames.{planeFrames}
+use Rattle.records.specs.declared.answers.Header.{Header}
+use Rattle.records.specs.declared.answers.SpotFound.{SpotFound}
+use Rattle.records.specs.declared.answers.SpotFound.the-variants as found
+use Rattle.records.specs.declared.answers.HeaderFound.{HeaderFound}
+use Rattle.records.specs.declared.answers.HeaderFound.the-variants as heading
+use Rattle.records.specs.declared.answers.Record.{Record}
+use Rattle.records.specs.declared.answers.RecordFound.{RecordFound}
+use Rattle.records.specs.declared.answers.RecordFound.the-variants as records
+use Rattle.records.specs.declared.answers.Judged.{Judged}
+use Rattle.records.specs.declared.answers.Judged.the-variants as judging
+use Rattle.records.specs.declared.answers.Entry.{Entry}
+use Rattle.records.specs.declared.answers.EntryFound.{EntryFound}
+use Rattle.records.specs.declared.answers.EntryFound.the-variants as entries
+
+abbrev pub viewHeader : Header → spots.Header
+viewHeader h = record { card = h .card; chip = h .chip; channel = h .channel }
+
+abbrev pub viewSpot : SpotFound → Option spots.Spot
+viewSpot (found.Spot p) = some (record { kind = p .kind; value = p .value; header = viewHeader (p .header) })
+viewSpot found.Nothing = none
+
+abbrev pub summaryOf : Record → Summary
+summaryOf r = record { length = r .length; count = r .count; total = r .total }
+
+abbrev pub viewRecord : RecordFound → Outcome Summary
+viewRecord (records.Record r) = accepted (summaryOf r)
+viewRecord (records.Refused r) = refusal r
+
+abbrev pub viewHeaderFound : HeaderFound → Option spots.Header
+viewHeaderFound (heading.Header h) = some (viewHeader h)
+viewHeaderFound heading.Nothing = none
+
+abbrev pub viewJudged : Judged → Outcome judged.Judged
+viewJudged (judging.Accepted r h) = accepted (record { length = r .length; count = r .count; total = r .total; header = viewHeaderFound h })
+viewJudged (judging.Refused r) = refusal r
+
+-- document 01's entries hold nothing after the reason
+abbrev pub asEntry : Entry → formats.Entry
+asEntry e = record { word = e .word; kind = e .kind; old = e .old; new = e .new; operator = e .operator; reason = e .reason; extra = [] }
+
+abbrev pub viewEntry : EntryFound → Outcome formats.Entry
+viewEntry (entries.Entry e) = accepted (asEntry e)
+viewEntry (entries.Refused r) = refusal r
+
+-- the number of the newest entry that does not fit, or 0, as an answer
+abbrev pub unfit : ℕ → Done
+unfit n = need (eqb n 0) 21 n
+
+-- what is told of a record with these lengths and this count whose header and frame f are right
+unfoldable pub historyJudged : List ℕ → List ℕ → Summary → ℕ → Outcome judged.Judged
+historyJudged f b x w =
+    andThen (historyVerdict planeFrames versionOne f (entriesTo versionOne b (x .count)))
+    (λ u. accepted (record { length = x .length; count = x .count; total = x .total; header = spots.headed f w }))

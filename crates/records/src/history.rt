@@ -1,0 +1,157 @@
+// The history of a record: its entries, tested and undone from the newest back on a copy of the frame.
+ghost use mathlib.Core.Path.{_≡_};
+ghost use Prim.Native.Nat.{ℕ, _+_, _*_, _≤_};
+ghost use lib.ListN.{length, getD};
+ghost use Rattle.ledger.specs.Frames.{Accepted};
+ghost use Rattle.ledger.specs.Records.{lengthIn, entriesTo, fitsItem, fits, historyVerdict};
+ghost use Rattle.ledger.specs.VersionOne.{versionOne};
+ghost use Rattle.ledger.specs.PlaneFrames.{planeFrames};
+ghost use Rattle.format.specs.Spots.{Header, headed};
+ghost use Rattle.records.specs.Views.{viewHeaderFound, asEntry, unfit};
+ghost use Rattle.records.specs.Undoing.{Heads, Undoing};
+ghost use Rattle.records.specs.Promises.{SignedBy, Undone, UndoneFrom};
+use crate::answers::Entry;
+use crate::answers::HeaderFound;
+use crate::answers::Record;
+use crate::answers::Spot;
+use crate::entries::entry_in;
+use crate::entries::entry_of;
+use crate::scan::NONE;
+use crate::scan::header_at;
+use crate::scan::long_in;
+use crate::scan::note_heads;
+use crate::scan::word_in;
+use crate::values::legal;
+use crate::values::put_in;
+use crate::values::put_value;
+use book::items::Item;
+use book::words::copy;
+use frame::cursor::Standing;
+use frame::cursor::item_at;
+
+// The word noted for a word.
+fn head_at(map: &[u16], w: usize) -> u16
+    ensures { λ r. ⌜ r ≡ getD (now (map .entry)) w 0 ⌝ }
+{
+    if w < map.len() {
+        return map[w];
+    }
+    NONE
+}
+
+// Operator 1 to 65,535, reason 1 to 5.
+pub fn signed(operator: u32, reason: u32) -> bool
+    ensures { λ r. ⌜ SignedBy operator reason r ⌝ }
+{
+    (1 <= operator)
+        & (operator <= Entry::LAST_OPERATOR)
+        & (1 <= reason)
+        & (reason <= Entry::LAST_REASON)
+}
+
+// Whether an entry fits an item of the kind with the value; none of its tests asks for the item's header.
+fn fits_item(e: Entry, kind: u16, value: u32) -> bool
+    ensures { λ r. ⌜ ((h : Header) → r ≡ fitsItem planeFrames versionOne (asEntry e) (record { kind = kind; value = value; header = h })) ⌝ }
+{
+    let named = signed(e.operator as u32, e.reason as u32);
+    (kind == e.kind) & (value == e.new) & legal(e.kind, e.old) & (e.old != e.new) & named
+}
+
+// Whether an entry fits a frame whose headers are noted in the map: the item answer at its word is taken apart, and anything but a Sample or
+// Bin leaves at once.
+fn entry_fits(f: &[u8], map: &[u16], e: Entry) -> bool
+    requires { ⌜ Undoing (now map) (now f) ⌝ }
+    ensures { λ r. ⌜ r ≡ fits planeFrames versionOne (now (f .entry)) (asEntry e) ⌝ }
+{
+    let at = e.word as usize;
+    if head_at(map, at) == NONE {
+        return false;
+    }
+    let standing = item_at(f, at);
+    let Standing::Item(found) = standing else {
+        return false;
+    };
+    let item = found.item;
+    match item {
+        Item::Sample(x) => fits_item(e, Spot::SAMPLE, x.value as u32),
+        Item::Bin(x) => fits_item(e, Spot::BIN, x.count),
+        _ => false,
+    }
+}
+
+// The header of word w of a frame whose headers are noted in the map.
+pub(crate) fn header_found(f: &[u8], map: &[u16], w: usize) -> HeaderFound
+    requires { ⌜ Undoing (now map) (now f) ⌝ }
+    ensures { λ r. ⌜ viewHeaderFound r ≡ headed (now (f .entry)) w ⌝ }
+{
+    let head = head_at(map, w);
+    if head == NONE {
+        return HeaderFound::Nothing;
+    }
+    HeaderFound::Header(header_at(f, head))
+}
+
+// Takes the old value of an entry as standing: an entry that fits says by its own kind where the value is, so the frame is not walked.
+pub fn undo(f: &mut [u8], e: Entry)
+    ensures { λ _. ⌜ Undone (now (f .entry)) e (now (f .exit)) ⌝ }
+{
+    put_value(f, e.kind, e.word as usize, e.old);
+}
+
+// Undoes the entry that a slice begins with; of one that is whole no more is read than that takes.
+pub fn undo_from(f: &mut [u8], s: &[u8])
+    ensures { λ _. ⌜ UndoneFrom (now (f .entry)) (now (s .entry)) (now (f .exit)) ⌝ }
+{
+    if s.len() < Entry::SIZE {
+        undo(f, entry_of(s));
+        return;
+    }
+    let kind = word_in(s, 1);
+    let at = word_in(s, 0) as usize;
+    let old = long_in(s, 2);
+    put_value(f, kind, at, old);
+}
+
+// The number of the newest entry that does not fit, or 0: the entries from number n down, undone in f.
+fn walk_back(f: &mut [u8], map: &[u16], b: &[u8], h: usize, n: usize) -> usize
+    requires { ⌜ Undoing (now map) (now f) × (h ≡ 16 + lengthIn (now b)) × (h + 16 * n ≤ length (now b)) ⌝ }
+    ensures { λ r. ⌜ unfit r ≡ historyVerdict planeFrames versionOne (now (f .entry)) (entriesTo versionOne (now (b .entry)) n) ⌝ }
+{
+    let mut m = n;
+    while 0 < m {
+        let at = h + Entry::SIZE * (m - 1);
+        let e = entry_in(&b[at..]);
+        if entry_fits(f, map, e) {
+            put_in(f, e.kind, e.word as usize, e.old);
+            m -= 1;
+        } else {
+            return m;
+        }
+    }
+    0
+}
+
+// The same over a copy of the frame, made in f, with its headers noted in a map of zeros.
+fn unwind(f: &mut [u8], map: &mut [u16], frame: &[u8], b: &[u8], n: usize) -> usize
+    requires { ⌜ Accepted planeFrames (now frame) × (length (now f) ≡ length (now frame)) × (4096 ≤ length (now map)) × ((i : ℕ) → getD (now map) i 0 ≡ 0) × (length (now frame) ≡ lengthIn (now b)) × (16 + lengthIn (now b) + 16 * n ≤ length (now b)) ⌝ }
+    ensures { λ r. ⌜ (unfit r ≡ historyVerdict planeFrames versionOne (now (frame .entry)) (entriesTo versionOne (now (b .entry)) n)) × Heads (now (frame .entry)) (now (map .exit)) ⌝ }
+{
+    note_heads(frame, map);
+    copy(frame, f);
+    walk_back(f, map, b, Record::HEADER + frame.len(), n)
+}
+
+// In lent memory: a map of 4,096 zeros, in which the frame's headers are noted, and room for the copy.
+pub(crate) fn history_in(
+    map: &mut [u16],
+    scratch: &mut [u8],
+    frame: &[u8],
+    b: &[u8],
+    n: usize,
+) -> usize
+    requires { ⌜ Accepted planeFrames (now frame) × (length (now frame) ≤ length (now scratch)) × (4096 ≤ length (now map)) × ((i : ℕ) → getD (now map) i 0 ≡ 0) × (length (now frame) ≡ lengthIn (now b)) × (16 + lengthIn (now b) + 16 * n ≤ length (now b)) ⌝ }
+    ensures { λ r. ⌜ (unfit r ≡ historyVerdict planeFrames versionOne (now (frame .entry)) (entriesTo versionOne (now (b .entry)) n)) × Heads (now (frame .entry)) (now (map .exit)) ⌝ }
+{
+    let len = frame.len();
+    unwind(&mut scratch[..len], map, frame, b, n)
+}

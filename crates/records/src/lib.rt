@@ -1,0 +1,144 @@
+// The plane record, a frame with its edit history, is judged: record, entry, and what stands at a word of its frame.
+ghost use mathlib.Core.Path.{_≡_};
+ghost use Prim.Native.Nat.{ℕ, _+_, _*_, _≤_};
+ghost use lib.ListN.{length, getD};
+ghost use Rattle.ledger.specs.Frames.{Accepted};
+ghost use Rattle.ledger.specs.Records.{lengthIn};
+ghost use Rattle.ledger.specs.PlaneFrames.{planeFrames};
+ghost use Rattle.records.specs.Views.{viewJudged, summaryOf, historyJudged};
+ghost use Rattle.records.specs.Promises.{SpotTold, JudgedTo, Recorded, EntryTold};
+
+pub mod answers;
+pub mod entries;
+pub mod header;
+pub mod history;
+pub mod scan;
+pub mod values;
+
+use answers::Entry;
+use answers::EntryFound;
+use answers::Judged;
+use answers::Record;
+use answers::RecordFound;
+use answers::SpotFound;
+use book::refusal::Refusal;
+use book::words::word;
+use entries::entry_of;
+use frame::head::MOST;
+use frame::reading::Reading;
+use frame::reading::read;
+use header::header_right;
+use history::header_found;
+use history::history_in;
+use scan::spot_in;
+
+// The Sample or Bin that begins at word w of a frame, with its kind, value and header; nothing where another item or none begins there, and
+// where the bytes are no frame.
+pub fn spot(f: &[u8], w: usize) -> SpotFound
+    ensures { λ r. ⌜ SpotTold (now (f .entry)) w r ⌝ }
+{
+    let reading = read(f);
+    match reading {
+        Reading::Refused(_refusal) => SpotFound::Nothing,
+        Reading::Accepted(_frame) => spot_in(f, w),
+    }
+}
+
+// What is answered of a record whose header and frame are right, in lent memory: a map of 4,096 zeros, and room for a copy of the frame.
+fn judge_history_in(
+    map: &mut [u16],
+    scratch: &mut [u8],
+    frame: &[u8],
+    b: &[u8],
+    x: Record,
+    w: usize,
+) -> Judged
+    requires { ⌜ Accepted planeFrames (now frame) × (length (now frame) ≤ length (now scratch)) × (4096 ≤ length (now map)) × ((i : ℕ) → getD (now map) i 0 ≡ 0) × (length (now frame) ≡ lengthIn (now b)) × (16 + lengthIn (now b) + 16 * x .count ≤ length (now b)) ⌝ }
+    ensures { λ r. ⌜ viewJudged r ≡ historyJudged (now (frame .entry)) (now (b .entry)) (summaryOf x) w ⌝ }
+{
+    let bad = history_in(map, scratch, frame, b, x.count);
+    if bad == 0 {
+        return Judged::Accepted(x, header_found(frame, map, w));
+    }
+    Judged::Refused(Refusal {
+        number: Refusal::ENTRY,
+        place: bad,
+    })
+}
+
+// The most words of a frame.
+const WORDS: usize = MOST / 2;
+
+// The same with memory of its own. The arrays stand here and are lent on: in the function that works on them every goal would show all their zeros.
+fn judge_history(frame: &[u8], b: &[u8], x: Record, w: usize) -> Judged
+    requires { ⌜ Accepted planeFrames (now frame) × (length (now frame) ≡ lengthIn (now b)) × (16 + lengthIn (now b) + 16 * x .count ≤ length (now b)) ⌝ }
+    ensures { λ r. ⌜ viewJudged r ≡ historyJudged (now (frame .entry)) (now (b .entry)) (summaryOf x) w ⌝ }
+{
+    let mut map = [0u16; WORDS];
+    let mut scratch = [0u8; MOST];
+    judge_history_in(&mut map, &mut scratch, frame, b, x, w)
+}
+
+// Whether a buffer begins with a record, as `record` answers, and the header of the item that begins at word w of its frame.
+pub fn judge(buf: &[u8], w: usize) -> Judged
+    ensures { λ r. ⌜ JudgedTo (now (buf .entry)) w r ⌝ }
+{
+    if header_right(buf) {
+        let length = word(buf, Record::LENGTH_WORD) as usize;
+        let count = word(buf, Record::COUNT_WORD) as usize;
+        let start = Record::HEADER;
+        let end = start + length;
+        let part = &buf[start..end];
+        let reading = read(part);
+        match reading {
+            Reading::Refused(r) => Judged::Refused(r),
+            Reading::Accepted(_frame) => {
+                let total = end + Entry::SIZE * count;
+                let x = Record {
+                    length,
+                    count,
+                    total,
+                };
+                judge_history(part, buf, x, w)
+            }
+        }
+    } else {
+        Judged::Refused(Refusal {
+            number: Refusal::HEADER,
+            place: 0,
+        })
+    }
+}
+
+// Whether a buffer begins with a record, and of what frame length, entry count and total length. Refuses by 20, then as the frame is refused,
+// then by 21 with the number of the newest entry that does not fit.
+pub fn record(buf: &[u8]) -> RecordFound
+    ensures { λ r. ⌜ Recorded (now (buf .entry)) r ⌝ }
+{
+    // Any word will do; what stands there is left aside.
+    let judged = judge(buf, 0);
+    match judged {
+        Judged::Refused(r) => RecordFound::Refused(r),
+        Judged::Accepted(x, _header) => RecordFound::Record(x),
+    }
+}
+
+// Entry j of a record, from 1 as the oldest. Refuses as `record` does, then by 26 where j is 0 or above the entry count.
+pub fn entry(buf: &[u8], j: usize) -> EntryFound
+    ensures { λ r. ⌜ EntryTold (now (buf .entry)) j r ⌝ }
+{
+    let found = record(buf);
+    match found {
+        RecordFound::Refused(r) => EntryFound::Refused(r),
+        RecordFound::Record(x) => {
+            if (1 <= j) & (j <= x.count) {
+                let at = Record::HEADER + x.length + Entry::SIZE * (j - 1);
+                return EntryFound::Entry(entry_of(&buf[at..]));
+            }
+            EntryFound::Refused(Refusal {
+                number: Refusal::NO_ENTRY,
+                place: 0,
+            })
+        }
+    }
+}

@@ -1,0 +1,196 @@
+// An accepted frame scanned along the cursor, with no rules again: the header of every item, and what stands at a word.
+ghost use mathlib.Core.Path.{_≡_};
+ghost use mathlib.Core.List.{_∷_, []};
+ghost use Prim.Native.Nat.{ℕ, _+_, _*_, _≤_, _<_};
+ghost use lib.ListN.{length, getD};
+ghost use Rattle.format.specs.Words.{wordAt, longAt};
+ghost use Rattle.format.specs.Spots as spots;
+ghost use Rattle.format.specs.Scans.{headBy, headerAt};
+ghost use Rattle.book.specs.Views.{viewItem};
+ghost use Rattle.ledger.specs.Frames.{Accepted};
+ghost use Rattle.ledger.specs.PlaneFrames.{planeFrames};
+ghost use Rattle.records.specs.Views.{viewHeader, viewSpot};
+ghost use Rattle.records.specs.Undoing.{Heads};
+use crate::answers::Header;
+use crate::answers::Spot;
+use crate::answers::SpotFound;
+use book::class::Class;
+use book::items::Item;
+use frame::cursor::Standing;
+use frame::cursor::item_at;
+
+// The index of a frame's first item.
+const FIRST: usize = 3;
+
+// Taken as the header's word before any header: no item stands there.
+const UNHEADED: u16 = 1;
+
+// Noted where no item begins.
+pub(crate) const NONE: u16 = 0;
+
+// The word of the header that the next item stands under: a header's own, after any other item still `head`.
+fn head_behind(item: Item, at: u16, head: u16) -> u16
+    ensures { λ r. ⌜ r ≡ headBy head at (viewItem item) ⌝ }
+{
+    match item {
+        Item::Channel(_) => at,
+        Item::Histogram(_) => at,
+        Item::HitCount(_) => head,
+        Item::Sample(_) => head,
+        Item::Bin(_) => head,
+        Item::LastCell(_) => head,
+        Item::TimeBin(_) => head,
+        Item::Text(_) => head,
+        Item::StartEvent(_) => head,
+        Item::EndEvent(_) => head,
+    }
+}
+
+// What a header says; zeros of any other item.
+fn header_of(item: Item) -> Header
+    ensures { λ r. ⌜ viewHeader r ≡ spots.under spots.noHeader (viewItem item) ⌝ }
+{
+    match item {
+        Item::Channel(x) => Header {
+            card: x.card,
+            chip: x.chip,
+            channel: x.channel,
+        },
+        Item::Histogram(x) => Header {
+            card: x.card,
+            chip: x.chip,
+            channel: x.channel,
+        },
+        _ => Header {
+            card: 0,
+            chip: 0,
+            channel: 0,
+        },
+    }
+}
+
+// The header at the word noted; zeros where none stands.
+pub(crate) fn header_at(f: &[u8], head: u16) -> Header
+    ensures { λ r. ⌜ viewHeader r ≡ headerAt (now (f .entry)) head ⌝ }
+{
+    let standing = item_at(f, head as usize);
+    let Standing::Item(found) = standing else {
+        return Header {
+            card: 0,
+            chip: 0,
+            channel: 0,
+        };
+    };
+    let item = found.item;
+    header_of(item)
+}
+
+// An item under a header as a spot: anything but a Sample or Bin is nothing.
+fn spot_of(item: Item, header: Header) -> SpotFound
+    ensures { λ r. ⌜ viewSpot r ≡ spots.spotOf (viewHeader header) (viewItem item) ⌝ }
+{
+    match item {
+        Item::Sample(x) => SpotFound::Spot(Spot {
+            kind: Spot::SAMPLE,
+            value: x.value as u32,
+            header,
+        }),
+        Item::Bin(x) => SpotFound::Spot(Spot {
+            kind: Spot::BIN,
+            value: x.count,
+            header,
+        }),
+        _ => SpotFound::Nothing,
+    }
+}
+
+fn wide(x: u8) -> u16
+    ensures { λ r. ⌜ (r ≡ x) × (r < 256) ⌝ }
+{
+    x as u16
+}
+
+// The word at index i, which is there.
+pub(crate) fn word_in(s: &[u8], i: usize) -> u16
+    requires { ⌜ 2 * i + 1 < length (now s) ⌝ }
+    ensures { λ r. ⌜ r ≡ wordAt (now (s .entry)) i ⌝ }
+{
+    let low = wide(s[2 * i]);
+    let high = wide(s[2 * i + 1]);
+    low + 256 * high
+}
+
+// The number of 32 bits whose words at i and i + 1 are there.
+pub(crate) fn long_in(s: &[u8], i: usize) -> u32
+    requires { ⌜ 2 * i + 3 < length (now s) ⌝ }
+    ensures { λ r. ⌜ r ≡ longAt (now (s .entry)) i ⌝ }
+{
+    let low = word_in(s, i) as u32;
+    let high = word_in(s, i + 1) as u32;
+    low + 65536 * high
+}
+
+// What stands at word w of an accepted frame.
+pub(crate) fn spot_in(f: &[u8], w: usize) -> SpotFound
+    requires { ⌜ Accepted planeFrames (now f) ⌝ }
+    ensures { λ r. ⌜ viewSpot r ≡ spots.spot (now (f .entry)) w ⌝ }
+{
+    let mut at = FIRST;
+    let mut head = UNHEADED;
+    while at <= w {
+        let standing = item_at(f, at);
+        let Standing::Item(found) = standing else {
+            return SpotFound::Nothing;
+        };
+        let item = found.item;
+        if at == w {
+            return spot_of(item, header_at(f, head));
+        }
+        head = head_behind(item, at as u16, head);
+        at = found.next;
+    }
+    SpotFound::Nothing
+}
+
+// Most words of a frame are told by their class's range alone: from the first Sample's on items have one word, and from the first Histogram's
+// on they are headers.
+fn head_high(w: u16, at: u16, head: u16) -> u16
+    ensures { λ r. ⌜ (0x8000 ≤ w → r ≡ at) × (w < 0x8000 → r ≡ head) ⌝ }
+{
+    if Class::HISTOGRAM <= w {
+        return at;
+    }
+    head
+}
+
+// Notes in a map of zeros, for each word of an accepted frame where an item begins, the word of the header that it stands under. The end word
+// is below all that the first two branches take, so that they need not ask whether it is reached; the cursor tells it.
+pub(crate) fn note_heads(f: &[u8], map: &mut [u16])
+    requires { ⌜ Accepted planeFrames (now f) × (4096 ≤ length (now map)) × ((i : ℕ) → getD (now map) i 0 ≡ 0) ⌝ }
+    ensures { λ _. ⌜ Heads (now (f .entry)) (now (map .exit)) ⌝ }
+{
+    let mut at = FIRST;
+    let mut head = UNHEADED;
+    loop {
+        let w = word_in(f, at);
+        if Class::SAMPLE <= w {
+            head = head_high(w, at as u16, head);
+            map[at] = head;
+            at += 1;
+            continue;
+        }
+        if Class::BIN <= w {
+            map[at] = head;
+            at += 3;
+            continue;
+        }
+        let standing = item_at(f, at);
+        let Standing::Item(found) = standing else {
+            return;
+        };
+        let item = found.item;
+        head = head_behind(item, at as u16, head);
+        map[at] = head;
+        at = found.next;
+    }
+}
