@@ -84,8 +84,8 @@ module _ (map f : List ℕ) (g : Undoing map f) (w : ℕ) where
   none-headed z = sym (header-here ∙ ap (headedBy f) z)
 
   -- the header of one that does
-  pub some-headed : (h : ℕ) → h ≡ getD map w 0 → (h ≡ 0 → ⊥) → (k : Header) → k ≡ headerAt f h → some k ≡ headed f w
-  some-headed zero e n k i = absurd (n refl)
+  pub some-headed : (h : ℕ) → h ≡ getD map w 0 → 1 ≤ h → (k : Header) → k ≡ headerAt f h → some k ≡ headed f w
+  some-headed zero e n k i = absurd (omega arith)
   some-headed (suc h) e n k i = ap some i ∙ sym (header-here ∙ ap (headedBy f) (sym e))
 
   spot-here : planeFrames .spot f w ≡ spotBy (headed f w) (shownBy (standingAt f w))
@@ -105,7 +105,7 @@ module _ (map f : List ℕ) (g : Undoing map f) (w : ℕ) where
     nothing-fits e = rw (spot-here, ← e, no-spot (headed f w))
 
     -- the item answered there
-    module _ (n : getD map w 0 ≡ 0 → ⊥) (z : ItemOf ℕ) (next : ℕ) (e : some (record { item = z; next = next }) ≡ shownBy (standingAt f w)) where
+    module _ (n : 1 ≤ getD map w 0) (z : ItemOf ℕ) (next : ℕ) (e : some (record { item = z; next = next }) ≡ shownBy (standingAt f w)) where
       stands-here : planeFrames .spot f w ≡ spotOf (headerAt f (getD map w 0)) z
       stands-here = spot-here ∙ ap₂ (λ (h : Option Header) (x : Option Shown). spotBy h x) (sym (some-headed (getD map w 0) refl n _ refl)) (sym e)
 

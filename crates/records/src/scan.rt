@@ -46,26 +46,24 @@ fn head_behind(item: Item, at: u16, head: u16) -> u16
     }
 }
 
+fn header(card: u16, chip: u16, channel: u16) -> Header
+    ensures { λ r. ⌜ viewHeader r ≡ record { card = card; chip = chip; channel = channel } ⌝ }
+{
+    Header {
+        card,
+        chip,
+        channel,
+    }
+}
+
 // What a header says; zeros of any other item.
 fn header_of(item: Item) -> Header
     ensures { λ r. ⌜ viewHeader r ≡ spots.under spots.noHeader (viewItem item) ⌝ }
 {
     match item {
-        Item::Channel(x) => Header {
-            card: x.card,
-            chip: x.chip,
-            channel: x.channel,
-        },
-        Item::Histogram(x) => Header {
-            card: x.card,
-            chip: x.chip,
-            channel: x.channel,
-        },
-        _ => Header {
-            card: 0,
-            chip: 0,
-            channel: 0,
-        },
+        Item::Channel(x) => header(x.card, x.chip, x.channel),
+        Item::Histogram(x) => header(x.card, x.chip, x.channel),
+        _ => header(0, 0, 0),
     }
 }
 
@@ -75,11 +73,7 @@ pub(crate) fn header_at(f: &[u8], head: u16) -> Header
 {
     let standing = item_at(f, head as usize);
     let Standing::Item(found) = standing else {
-        return Header {
-            card: 0,
-            chip: 0,
-            channel: 0,
-        };
+        return header(0, 0, 0);
     };
     let item = found.item;
     header_of(item)

@@ -1,6 +1,7 @@
 -- `plane::history::entry_fits` meets its contract.
 -- Assumes nothing.
 use denote.Ref.{now}
+use native.Mathlib.Omega.{arith}
 use mathlib.Core.Path.{refl, ap, sym, _∙_}
 use Rattle.format.specs.Spots.{spotOf}
 use Rattle.book.specs.Views.{viewItem}
@@ -21,7 +22,7 @@ head-at-requires c κs = search needs
 returns : tie.Need-returns
 returns c =
     let s = c .before .before .before .before .before in
-    unnoted-fits (now (s .args .map)) (now (s .args .f)) (s .pre) _ _ _ _ _ _ (sym (c .before .head-at .ensures) ∙ c .if1 .taken)
+    unnoted-fits (now (s .args .map)) (now (s .args .f)) (s .pre) _ _ _ _ _ _ (omega (arith, c .before .head-at .ensures))
 
 item-at-requires : tie.Need-item-at-requires
 item-at-requires c κs = search needs
@@ -60,7 +61,7 @@ returns-3 c =
     let i = s .before .before in
     let h = i .before in
     let a = h .before .before .before .before .before in
-    item-fits (now (a .args .map)) (now (a .args .f)) (a .pre) _ _ _ _ _ _ (λ z. h .if1 .left (h .before .head-at .ensures ∙ z)) _ _ (sym (ap viewStanding (s .standing .given .1)) ∙ i .item-at .ensures) _ _ _
+    item-fits (now (a .args .map)) (now (a .args .f)) (a .pre) _ _ _ _ _ _ (omega (arith, h .before .head-at .ensures)) _ _ (sym (ap viewStanding (s .standing .given .1)) ∙ i .item-at .ensures) _ _ _
     (λ k. ap (λ (z : Item). spotOf k (viewItem z)) (sym (t .item .given .1))) (c .fits-item .ensures)
 
 returns-4 : tie.Need-returns-4
@@ -70,7 +71,7 @@ returns-4 c =
     let i = s .before .before in
     let h = i .before in
     let a = h .before .before .before .before .before in
-    item-fits (now (a .args .map)) (now (a .args .f)) (a .pre) _ _ _ _ _ _ (λ z. h .if1 .left (h .before .head-at .ensures ∙ z)) _ _ (sym (ap viewStanding (s .standing .given .1)) ∙ i .item-at .ensures) _ _ _
+    item-fits (now (a .args .map)) (now (a .args .f)) (a .pre) _ _ _ _ _ _ (omega (arith, h .before .head-at .ensures)) _ _ (sym (ap viewStanding (s .standing .given .1)) ∙ i .item-at .ensures) _ _ _
     (λ k. ap (λ (z : Item). spotOf k (viewItem z)) (sym (t .item2 .given .1))) (c .fits-item2 .ensures)
 
 returns-5 : tie.Need-returns-5
@@ -79,7 +80,7 @@ returns-5 c =
     let i = s .before .before in
     let h = i .before in
     let a = h .before .before .before .before .before in
-    other-fits (now (a .args .map)) (now (a .args .f)) (a .pre) _ _ _ _ _ _ (λ z. h .if1 .left (h .before .head-at .ensures ∙ z)) _ _ (sym (ap viewStanding (s .standing .given .1)) ∙ i .item-at .ensures)
+    other-fits (now (a .args .map)) (now (a .args .f)) (a .pre) _ _ _ _ _ _ (omega (arith, h .before .head-at .ensures)) _ _ (sym (ap viewStanding (s .standing .given .1)) ∙ i .item-at .ensures)
     (other-spot (s .standing .given .0 .0 .item) (c .match2 .keys3))
 
 pub entry-fits-spec : {M : Type 1} → statement M

@@ -1,7 +1,6 @@
 -- `plane::scan::header_at` meets its contract.
 -- Assumes nothing.
 use mathlib.Core.Path.{ap, sym, _∙_}
-use Rattle.format.specs.Scans.{headerBy, headerAt}
 use Rattle.frame.specs.Views.{viewStanding}
 use Rattle.records.proofs.Scanning.{header-shown, header-nothing}
 use borrow.Author.Needs.{needs}
@@ -17,8 +16,13 @@ enum-known-standing c = search needs
 enum-told : tie.Need-enum-told
 enum-told c = search needs
 
+header-requires : tie.Need-header-requires
+header-requires c κs = search needs
+
 returns : tie.Need-returns
-returns c = header-nothing _ _ (sym (ap viewStanding (c .enum-told .given .1)) ∙ c .before .before .item-at .ensures)
+returns c =
+    let t = c .before in
+    c .header .ensures ∙ header-nothing _ _ (sym (ap viewStanding (t .enum-told .given .1)) ∙ t .before .before .item-at .ensures)
 
 header-of-requires : tie.Need-header-of-requires
 header-of-requires c κs = search needs
@@ -31,4 +35,11 @@ returns-2 c =
 pub header-at-spec : {M : Type 1} → statement M
 header-at-spec =
     tie.close
-    (tie.spec item-at-requires enum-known-standing enum-told returns header-of-requires returns-2)
+    (tie.spec
+    item-at-requires
+    enum-known-standing
+    enum-told
+    header-requires
+    returns
+    header-of-requires
+    returns-2)
