@@ -29,7 +29,7 @@ use Rattle.book.specs.declared.items.TimeBin.{TimeBin}
 use Rattle.book.specs.declared.items.Text.{Text}
 use Rattle.book.specs.declared.items.StartEvent.{StartEvent}
 use Rattle.book.specs.declared.items.EndEvent.{EndEvent}
-use Rattle.book.specs.Fields.{channelOf, histogramOf, hitsOf, sampleOf, binOf, cellOf, timeBinOf, textOf, typeOf, threeCut, channelWord, histogramWord, hitsWord, sampleWord, binWord, cellWord, timeBinWord, textWord, startWord, channelItem, histogramItem, hitsItem, sampleItem, binItem, cellItem, timeItem, startItem, endItem}
+use Rattle.book.specs.Fields.{channelOf, histogramOf, hitsOf, sampleOf, binOf, cellOf, timeBinOf, textOf, typeOf, headerBitsCut, channelWord, histogramWord, hitsWord, sampleWord, binWord, cellWord, timeBinWord, textWord, startWord, channelItem, histogramItem, hitsItem, sampleItem, binItem, cellItem, timeItem, startItem, endItem}
 
 -- values of A lie in words as fields of the widths ns below a head
 pub record Laid (A : Type 0) (ns : List ℕ) (head : ℕ) : Type 0 where
@@ -70,7 +70,7 @@ module _ {A : Type 0} (n head : ℕ) (get : A → ℕ) (make : ℕ → A) (made 
 pub cell-puts : (a b : ℕ) → a < 4 → b < 512 → 0x1800 + (a % 4 * 512 + b % 512) ≡ pack (2 ∷ 9 ∷ []) 3 (a ∷ b ∷ [])
 cell-puts a b p q = omega arith
 
-pub three-puts : (head a b c : ℕ) → a < 32 → b < 4 → c < 128 → head * 16384 + threeCut a b c ≡ pack (5 ∷ 2 ∷ 7 ∷ []) head (a ∷ b ∷ c ∷ [])
+pub three-puts : (head a b c : ℕ) → a < 32 → b < 4 → c < 128 → head * 16384 + headerBitsCut a b c ≡ pack (5 ∷ 2 ∷ 7 ∷ []) head (a ∷ b ∷ c ∷ [])
 three-puts head a b c p q r = omega arith
 
 module _ {A : Type 0} (head : ℕ) (card chip low : A → ℕ) (make : ℕ → ℕ → ℕ → A) (made : (x : A) → make (card x) (chip x) (low x) ≡ x)
@@ -79,7 +79,7 @@ module _ {A : Type 0} (head : ℕ) (card chip low : A → ℕ) (make : ℕ → �
   three-fields = record {
     fields = λ (x : A). card x ∷ chip x ∷ low x ∷ [];
     ofWord = λ (w : ℕ). make (w / 512 % 32) (w / 128 % 4) (w % 128);
-    word = λ (x : A). head * 16384 + threeCut (card x) (chip x) (low x);
+    word = λ (x : A). head * 16384 + headerBitsCut (card x) (chip x) (low x);
     same = λ x y e. sym (made x) ∙ ap (λ (l : List ℕ). make (getD l 0 0) (getD l 1 0) (getD l 2 0)) e ∙ made y;
     lists = λ w. got (w / 512 % 32) (w / 128 % 4) (w % 128) ∙ ap (λ (v : ℕ). (w / 512 % 32) ∷ (w / 128 % 4) ∷ (v % 128) ∷ []) (sym (div-one w));
     puts = λ x f. three-puts head (card x) (chip x) (low x) (f .0) (f .1 .0) (f .1 .1 .0);

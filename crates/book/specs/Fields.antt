@@ -45,18 +45,18 @@ abbrev pub typeOf : ℕ → ℕ
 typeOf w = w % 16
 
 -- three fields, each cut to its width, put together
-abbrev pub threeCut : ℕ → ℕ → ℕ → ℕ
-threeCut a b c = items.headerBits (a % 32) (b % 4) (c % 128)
+abbrev pub headerBitsCut : ℕ → ℕ → ℕ → ℕ
+headerBitsCut a b c = items.headerBits (a % 32) (b % 4) (c % 128)
 
 -- the first word of each item, its fields cut to their widths
 abbrev pub channelWord : Channel → ℕ
-channelWord x = 0xC000 + threeCut (x .card) (x .chip) (x .channel)
+channelWord x = 0xC000 + headerBitsCut (x .card) (x .chip) (x .channel)
 
 abbrev pub histogramWord : Histogram → ℕ
-histogramWord x = 0x8000 + threeCut (x .card) (x .chip) (x .channel)
+histogramWord x = 0x8000 + headerBitsCut (x .card) (x .chip) (x .channel)
 
 abbrev pub hitsWord : HitCount → ℕ
-hitsWord x = 0x4000 + threeCut (x .card) (x .chip) (x .count)
+hitsWord x = 0x4000 + headerBitsCut (x .card) (x .chip) (x .count)
 
 abbrev pub sampleWord : Sample → ℕ
 sampleWord x = 0x3000 + x .value % 4096

@@ -2,7 +2,7 @@
 // enough that a content too wide for the word can be handed to the writer, which refuses it. Each limit is named in its item, once; that of a
 // card, which a frame start has too, before them.
 ghost use mathlib.Core.Path.{_≡_};
-ghost use Rattle.book.specs.Fields.{threeCut};
+ghost use Rattle.book.specs.Fields.{headerBitsCut};
 ghost use Rattle.book.specs.Promises.{KeyTold, ChannelRead, ChannelWord, ChannelValid, HistogramRead, HistogramWord, HistogramValid, HitCountRead, HitCountWord, HitCountValid, SampleRead, SampleWord, SampleValid, BinRead, BinWord, BinValid, LastCellRead, LastCellWord, LastCellValid, TimeBinRead, TimeBinWord, TimeBinValid, TextRead, TextWord, StartEventRead, StartEventWord, StartEventValid, EndEventLow};
 use crate::class::Class;
 
@@ -81,8 +81,8 @@ pub enum Item {
 
 // The low 14 bits of a word that three items share: card 5, chip 2 and 7 bits more, each cut to its width. The items put their prefix right of the
 // `|`: on its left the prover computes with it, and shows a screenful.
-fn three(card: u16, chip: u16, low: u16) -> u16
-    ensures { λ r. ⌜ r ≡ threeCut card chip low ⌝ }
+fn header_bits(card: u16, chip: u16, low: u16) -> u16
+    ensures { λ r. ⌜ r ≡ headerBitsCut card chip low ⌝ }
 {
     (card & 0x1F) << 9 | (chip & 3) << 7 | low & 0x7F
 }
@@ -117,7 +117,7 @@ impl Channel {
     pub fn word(self) -> u16
         ensures { λ r. ⌜ ChannelWord self r ⌝ }
     {
-        three(self.card, self.chip, self.channel) | Class::CHANNEL
+        header_bits(self.card, self.chip, self.channel) | Class::CHANNEL
     }
 
     // The value rules in a frame of the card. Here and in the two items below the card has a branch of its own: it costs less than all the
@@ -156,7 +156,7 @@ impl Histogram {
     pub fn word(self) -> u16
         ensures { λ r. ⌜ HistogramWord self r ⌝ }
     {
-        three(self.card, self.chip, self.channel) | Class::HISTOGRAM
+        header_bits(self.card, self.chip, self.channel) | Class::HISTOGRAM
     }
 
     // The value rules in a frame of the card.
@@ -194,7 +194,7 @@ impl HitCount {
     pub fn word(self) -> u16
         ensures { λ r. ⌜ HitCountWord self r ⌝ }
     {
-        three(self.card, self.chip, self.count) | Class::HIT_COUNT
+        header_bits(self.card, self.chip, self.count) | Class::HIT_COUNT
     }
 
     // The value rules in a frame of the card.

@@ -1,4 +1,4 @@
--- `probe::fill` is safe and ends: the measure is the number of frames that are left; the buffer keeps its length.
+-- `filler::fill` is safe and ends: the measure is the number of frames that are left; the buffer keeps its length.
 -- Assumes nothing.
 use Prim.Native.Nat.{_-_}
 use mathlib.Core.Path.{_≡_}

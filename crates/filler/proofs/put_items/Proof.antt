@@ -1,4 +1,4 @@
--- `probe::put_items` is safe and ends: the measure is the number of items that are left; the buffer keeps its length.
+-- `filler::put_items` is safe and ends: the measure is the number of items that are left; the buffer keeps its length.
 -- Assumes nothing.
 use Prim.Native.Nat.{_-_, _<_}
 use mathlib.Core.Path.{_≡_}

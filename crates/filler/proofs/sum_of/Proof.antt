@@ -1,4 +1,4 @@
--- `probe::sum_of` is safe and ends: the measure is the number of bytes that are left.
+-- `filler::sum_of` is safe and ends: the measure is the number of bytes that are left.
 -- Assumes nothing.
 use Prim.Native.Nat.{_-_, _≤_}
 use mathlib.Core.Path.{_≡_}

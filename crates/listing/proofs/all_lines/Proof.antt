@@ -1,4 +1,4 @@
--- `lines::all_lines` meets its contract.
+-- `listing::all_lines` meets its contract.
 -- Assumes nothing.
 use mathlib.Core.Path.{ap, sym, _∙_}
 use native.Mathlib.Omega.{arith}

@@ -1,4 +1,4 @@
--- `lines::listing_in` meets its contract.
+-- `listing::listing_in` meets its contract.
 -- Assumes nothing.
 use mathlib.Core.Path.{ap, sym, _∙_}
 use native.Mathlib.Omega.{arith}

@@ -1,4 +1,4 @@
--- `lines::record_lines` meets its contract.
+-- `listing::record_lines` meets its contract.
 -- Assumes nothing.
 use denote.Ref.{now}
 use Prim.Native.Nat.{_+_, _*_, _≤_}

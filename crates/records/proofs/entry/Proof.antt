@@ -1,4 +1,4 @@
--- `plane::entry` meets its contract.
+-- `records::entry` meets its contract.
 -- Assumes nothing.
 use denote.Ref.{now}
 use Prim.Native.Nat.{_+_, _-_, _*_, _≤_}

@@ -1,4 +1,4 @@
--- `plane::judge` meets its contract: the header, the frame, then the history.
+-- `records::judge` meets its contract: the header, the frame, then the history.
 -- Assumes nothing.
 use denote.Ref.{now}
 use Prim.Native.Nat.{_+_, _-_}

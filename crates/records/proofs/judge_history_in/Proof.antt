@@ -1,4 +1,4 @@
--- `plane::judge_history_in` meets its contract.
+-- `records::judge_history_in` meets its contract.
 -- Assumes nothing.
 use Rattle.records.proofs.RecordLaws.{told-accepted, told-refused}
 use borrow.Author.Needs.{needs}

@@ -1,4 +1,4 @@
--- `plane::record` meets its contract.
+-- `records::record` meets its contract.
 -- Assumes nothing.
 use mathlib.Core.Path.{ap, sym, _∙_}
 use Rattle.records.specs.Views.{viewJudged}

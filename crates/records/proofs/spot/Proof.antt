@@ -1,4 +1,4 @@
--- `plane::spot` meets its contract.
+-- `records::spot` meets its contract.
 -- Assumes nothing.
 use mathlib.Core.Path.{ap, sym, _∙_}
 use Rattle.frame.specs.Views.{viewReading}

@@ -1,4 +1,4 @@
--- `lines::pieces::field` meets its contract.
+-- `listing::pieces::field` meets its contract.
 -- Assumes nothing.
 use Rattle.listing.proofs.Putting.{joined}
 use borrow.Author.Needs.{needs}

@@ -1,4 +1,4 @@
--- `lines::pieces::hex` meets its contract.
+-- `listing::pieces::hex` meets its contract.
 -- Assumes nothing.
 use Rattle.listing.specs.Text.{hex}
 use borrow.Author.Needs.{needs}

@@ -1,4 +1,4 @@
--- `lines::pieces::hex_digit` meets its contract.
+-- `listing::pieces::hex_digit` meets its contract.
 -- Assumes nothing.
 use borrow.Author.Tests.{lt-ltb, le-ltb}
 use borrow.Author.Needs.{needs}

@@ -1,4 +1,4 @@
--- `lines::pieces::number` meets its contract.
+-- `listing::pieces::number` meets its contract.
 -- Assumes nothing.
 use Rattle.listing.proofs.Decimals.{twenty}
 use native.Mathlib.Omega.{arith}

@@ -1,4 +1,4 @@
--- `lines::pieces::text` meets its contract.
+-- `listing::pieces::text` meets its contract.
 -- Assumes nothing.
 use native.Mathlib.Omega.{arith}
 use Rattle.listing.proofs.Putting.{copied}

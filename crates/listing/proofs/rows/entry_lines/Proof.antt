@@ -1,4 +1,4 @@
--- `lines::rows::entry_lines` meets its contract: the lines of the first j entries stand, and `next` is behind them.
+-- `listing::rows::entry_lines` meets its contract: the lines of the first j entries stand, and `next` is behind them.
 -- Assumes nothing.
 use Prim.Native.Nat.{_+_, _*_, _-_, _≤_}
 use mathlib.Core.Path.{_≡_, refl, _∙_}

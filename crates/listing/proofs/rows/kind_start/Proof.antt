@@ -1,4 +1,4 @@
--- `lines::rows::kind_start` meets its contract.
+-- `listing::rows::kind_start` meets its contract.
 -- Assumes nothing.
 use borrow.Author.Needs.{needs}
 use Rattle.listing.proofs.rows.kind_start.Statement.{statement}

@@ -1,4 +1,4 @@
--- `lines::rows::old_value` meets its contract.
+-- `listing::rows::old_value` meets its contract.
 -- Assumes nothing.
 use native.Mathlib.Omega.{arith}
 use borrow.Author.Tests.{eq-eqb, ne-eqb}

@@ -1,4 +1,4 @@
--- `lines::rows::refused_line` meets its contract.
+-- `listing::rows::refused_line` meets its contract.
 -- Assumes nothing.
 use native.Mathlib.Omega.{arith}
 use Rattle.listing.proofs.Putting.{joined, wider}

@@ -1,4 +1,4 @@
--- `lines::rows::signer` meets its contract.
+-- `listing::rows::signer` meets its contract.
 -- Assumes nothing.
 use Rattle.listing.proofs.Putting.{joined}
 use Rattle.listing.specs.Listing.{signerText}

@@ -1,4 +1,4 @@
--- `plane::entries::entry_in` meets its contract.
+-- `records::entries::entry_in` meets its contract.
 -- Assumes nothing.
 use Rattle.records.proofs.RecordLaws.{entry-read}
 use borrow.Author.Needs.{needs}

@@ -1,4 +1,4 @@
--- `plane::entries::put_entry` meets its contract.
+-- `records::entries::put_entry` meets its contract.
 -- Assumes nothing.
 use native.Mathlib.Omega.{arith}
 use Rattle.records.specs.Views.{asEntry}

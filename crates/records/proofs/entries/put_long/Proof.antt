@@ -1,4 +1,4 @@
--- `plane::entries::put_long` meets its contract.
+-- `records::entries::put_long` meets its contract.
 -- Assumes nothing.
 use Rattle.records.proofs.Storing.{long-stored}
 use borrow.Author.Needs.{needs}

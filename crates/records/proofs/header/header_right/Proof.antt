@@ -1,4 +1,4 @@
--- `plane::header::header_right` meets its contract.
+-- `records::header::header_right` meets its contract.
 -- Assumes nothing.
 use denote.Ref.{now}
 use Rattle.records.proofs.RecordLaws.{header-tests}

@@ -1,4 +1,4 @@
--- `plane::history::entry_fits` meets its contract.
+-- `records::history::entry_fits` meets its contract.
 -- Assumes nothing.
 use denote.Ref.{now}
 use native.Mathlib.Omega.{arith}

@@ -1,4 +1,4 @@
--- `plane::history::fits_item` meets its contract.
+-- `records::history::fits_item` meets its contract.
 -- Assumes nothing.
 use Rattle.records.proofs.UndoLaws.{item-tests}
 use borrow.Author.Needs.{needs}

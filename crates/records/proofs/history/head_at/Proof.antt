@@ -1,4 +1,4 @@
--- `plane::history::head_at` meets its contract.
+-- `records::history::head_at` meets its contract.
 -- Assumes nothing.
 use Rattle.records.proofs.Scanning.{getD-past}
 use denote.Ref.{now}

@@ -1,4 +1,4 @@
--- `plane::history::header_found` meets its contract.
+-- `records::history::header_found` meets its contract.
 -- Assumes nothing.
 use denote.Ref.{now}
 use native.Mathlib.Omega.{arith}

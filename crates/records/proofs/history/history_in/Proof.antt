@@ -1,4 +1,4 @@
--- `plane::history::history_in` meets its contract.
+-- `records::history::history_in` meets its contract.
 -- Assumes nothing.
 use mathlib.Core.Path.{sym}
 use lib.Seq.{length-take-le}

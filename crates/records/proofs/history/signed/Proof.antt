@@ -1,4 +1,4 @@
--- `plane::history::signed` meets its contract.
+-- `records::history::signed` meets its contract.
 -- Assumes nothing.
 use mathlib.Core.Path.{refl}
 use Rattle.ledger.specs.Tests.{all}

@@ -1,4 +1,4 @@
--- `plane::history::undo_from` meets its contract.
+-- `records::history::undo_from` meets its contract.
 -- Assumes nothing.
 use denote.Ref.{now}
 use mathlib.Core.Path.{ap, _∙_}

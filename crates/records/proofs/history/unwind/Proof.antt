@@ -1,4 +1,4 @@
--- `plane::history::unwind` meets its contract.
+-- `records::history::unwind` meets its contract.
 -- Assumes nothing.
 use denote.Ref.{now}
 use Prim.Native.Nat.{ℕ, _+_}

@@ -1,4 +1,4 @@
--- `plane::history::walk_back` meets its contract: what the entries left do to the frame at hand is what all of them do to the first.
+-- `records::history::walk_back` meets its contract: what the entries left do to the frame at hand is what all of them do to the first.
 -- Assumes nothing.
 use Prim.Native.Nat.{_+_, _*_, _≤_}
 use mathlib.Core.Path.{_≡_, refl, sym, _∙_}

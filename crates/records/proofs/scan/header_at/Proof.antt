@@ -1,4 +1,4 @@
--- `plane::scan::header_at` meets its contract.
+-- `records::scan::header_at` meets its contract.
 -- Assumes nothing.
 use mathlib.Core.Path.{ap, sym, _∙_}
 use Rattle.frame.specs.Views.{viewStanding}

@@ -1,4 +1,4 @@
--- `plane::scan::header_of` meets its contract.
+-- `records::scan::header_of` meets its contract.
 -- Assumes nothing.
 use mathlib.Core.Path.{sym, ap, _∙_}
 use Rattle.format.specs.Spots.{noHeader, under}

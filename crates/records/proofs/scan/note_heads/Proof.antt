@@ -1,4 +1,4 @@
--- `plane::scan::note_heads` meets its contract: the words passed are noted, the others still blank.
+-- `records::scan::note_heads` meets its contract: the words passed are noted, the others still blank.
 -- Assumes nothing.
 use Prim.Native.Nat.{_-_}
 use mathlib.Core.Path.{_≡_, refl, ap, sym, _∙_}

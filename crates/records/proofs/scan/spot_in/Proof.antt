@@ -1,4 +1,4 @@
--- `plane::scan::spot_in` meets its contract: what it has passed is not the word asked for.
+-- `records::scan::spot_in` meets its contract: what it has passed is not the word asked for.
 -- Assumes nothing.
 use Prim.Native.Nat.{_-_}
 use mathlib.Core.Path.{refl, ap, sym, _∙_}

@@ -1,4 +1,4 @@
--- `plane::scan::spot_of` meets its contract.
+-- `records::scan::spot_of` meets its contract.
 -- Assumes nothing.
 use Rattle.records.proofs.Scanning.{other-spot}
 use borrow.Author.Needs.{needs}

@@ -1,4 +1,4 @@
--- `plane::values::legal` meets its contract.
+-- `records::values::legal` meets its contract.
 -- Assumes nothing.
 use native.Mathlib.Omega.{arith}
 use Rattle.records.proofs.RecordLaws.{legal-sample, legal-bin}

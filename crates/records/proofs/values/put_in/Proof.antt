@@ -1,4 +1,4 @@
--- `plane::values::put_in` meets its contract.
+-- `records::values::put_in` meets its contract.
 -- Assumes nothing.
 use native.Mathlib.Omega.{arith}
 use Rattle.records.proofs.Storing.{sample-fits, sample-stored, bin-stored}

@@ -1,4 +1,4 @@
--- `plane::values::put_value` meets its contract.
+-- `records::values::put_value` meets its contract.
 -- Assumes nothing.
 use mathlib.Core.Path.{sym, _∙_}
 use native.Mathlib.Omega.{arith}

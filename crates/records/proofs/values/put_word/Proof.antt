@@ -1,4 +1,4 @@
--- `plane::values::put_word` meets its contract.
+-- `records::values::put_word` meets its contract.
 -- Assumes nothing.
 use native.Mathlib.Omega.{arith}
 use lib.ListN.{length-set}

@@ -1,4 +1,4 @@
--- `plane::values::word_put` meets its contract.
+-- `records::values::word_put` meets its contract.
 -- Assumes nothing.
 use native.Mathlib.Numerals.{add-one}
 use Rattle.format.specs.Words.{bytes}

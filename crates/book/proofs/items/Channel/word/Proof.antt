@@ -7,11 +7,11 @@ use Rattle.book.proofs.Bits.{head}
 use Rattle.book.proofs.items.Channel.word.Statement.{statement}
 use Rattle.book.proofs.items.Channel.word.Tie as tie
 
-three-requires : tie.Need-three-requires
-three-requires c κs = search needs
+header-bits-requires : tie.Need-header-bits-requires
+header-bits-requires c κs = search needs
 
 returns : tie.Need-returns
-returns c = rw (c .three .ensures) (head 14 _ 0xC000 refl (omega arith))
+returns c = rw (c .header-bits .ensures) (head 14 _ 0xC000 refl (omega arith))
 
 pub word-spec : {M : Type 1} → statement M
-word-spec = tie.close (tie.spec three-requires returns)
+word-spec = tie.close (tie.spec header-bits-requires returns)
