@@ -4,5 +4,5 @@ pub mod answers;
 pub mod asking;
 pub mod following;
 pub mod reading;
-pub mod records;
+pub mod recording;
 pub mod writing;

@@ -1,10 +1,10 @@
--- `exports::records::plane_record` meets its contract.
+-- `exports::recording::plane_record` meets its contract.
 -- Assumes nothing.
 use mathlib.Core.Path.{ap, _∙_}
 use Rattle.exports.specs.Flat.{flatRecord}
 use borrow.Author.Needs.{needs}
-use Rattle.exports.proofs.records.plane_record.Statement.{statement}
-use Rattle.exports.proofs.records.plane_record.Tie as tie
+use Rattle.exports.proofs.recording.plane_record.Statement.{statement}
+use Rattle.exports.proofs.recording.plane_record.Tie as tie
 
 record-requires : tie.Need-record-requires
 record-requires c κs = search needs

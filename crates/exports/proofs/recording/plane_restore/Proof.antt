@@ -1,10 +1,10 @@
--- `exports::records::plane_restore` meets its contract.
+-- `exports::recording::plane_restore` meets its contract.
 -- Assumes nothing.
 use mathlib.Core.Path.{ap, _∙_}
 use Rattle.exports.specs.Flat.{flatDone}
 use borrow.Author.Needs.{needs}
-use Rattle.exports.proofs.records.plane_restore.Statement.{statement}
-use Rattle.exports.proofs.records.plane_restore.Tie as tie
+use Rattle.exports.proofs.recording.plane_restore.Statement.{statement}
+use Rattle.exports.proofs.recording.plane_restore.Tie as tie
 
 restore-requires : tie.Need-restore-requires
 restore-requires c κs = search needs

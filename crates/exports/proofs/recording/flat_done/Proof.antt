@@ -1,8 +1,8 @@
--- `exports::records::flat_done` meets its contract.
+-- `exports::recording::flat_done` meets its contract.
 -- Assumes nothing.
 use borrow.Author.Needs.{needs}
-use Rattle.exports.proofs.records.flat_done.Statement.{statement}
-use Rattle.exports.proofs.records.flat_done.Tie as tie
+use Rattle.exports.proofs.recording.flat_done.Statement.{statement}
+use Rattle.exports.proofs.recording.flat_done.Tie as tie
 
 enum-told : tie.Need-enum-told
 enum-told c = search needs

@@ -1,9 +1,9 @@
--- `exports::records::flat_entry` meets its contract.
+-- `exports::recording::flat_entry` meets its contract.
 -- Assumes nothing.
 use Rattle.exports.specs.Flat.{flatEntry}
 use borrow.Author.Needs.{needs}
-use Rattle.exports.proofs.records.flat_entry.Statement.{statement}
-use Rattle.exports.proofs.records.flat_entry.Tie as tie
+use Rattle.exports.proofs.recording.flat_entry.Statement.{statement}
+use Rattle.exports.proofs.recording.flat_entry.Tie as tie
 
 enum-known-found : tie.Need-enum-known-found
 enum-known-found c = search needs

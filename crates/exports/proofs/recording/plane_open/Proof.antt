@@ -1,10 +1,10 @@
--- `exports::records::plane_open` meets its contract.
+-- `exports::recording::plane_open` meets its contract.
 -- Assumes nothing.
 use mathlib.Core.Path.{ap, _∙_}
 use Rattle.exports.specs.Flat.{flatDone}
 use borrow.Author.Needs.{needs}
-use Rattle.exports.proofs.records.plane_open.Statement.{statement}
-use Rattle.exports.proofs.records.plane_open.Tie as tie
+use Rattle.exports.proofs.recording.plane_open.Statement.{statement}
+use Rattle.exports.proofs.recording.plane_open.Tie as tie
 
 open-requires : tie.Need-open-requires
 open-requires c κs = search needs

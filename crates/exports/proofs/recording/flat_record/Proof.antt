@@ -1,9 +1,9 @@
--- `exports::records::flat_record` meets its contract.
+-- `exports::recording::flat_record` meets its contract.
 -- Assumes nothing.
 use Rattle.exports.specs.Flat.{flatRecord}
 use borrow.Author.Needs.{needs}
-use Rattle.exports.proofs.records.flat_record.Statement.{statement}
-use Rattle.exports.proofs.records.flat_record.Tie as tie
+use Rattle.exports.proofs.recording.flat_record.Statement.{statement}
+use Rattle.exports.proofs.recording.flat_record.Tie as tie
 
 enum-known-found : tie.Need-enum-known-found
 enum-known-found c = search needs

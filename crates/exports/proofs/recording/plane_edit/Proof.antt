@@ -1,10 +1,10 @@
--- `exports::records::plane_edit` meets its contract.
+-- `exports::recording::plane_edit` meets its contract.
 -- Assumes nothing.
 use mathlib.Core.Path.{ap, _∙_}
 use Rattle.exports.specs.Flat.{flatDone}
 use borrow.Author.Needs.{needs}
-use Rattle.exports.proofs.records.plane_edit.Statement.{statement}
-use Rattle.exports.proofs.records.plane_edit.Tie as tie
+use Rattle.exports.proofs.recording.plane_edit.Statement.{statement}
+use Rattle.exports.proofs.recording.plane_edit.Tie as tie
 
 edit-requires : tie.Need-edit-requires
 edit-requires c κs = search needs

@@ -1,10 +1,10 @@
--- `exports::records::plane_entry` meets its contract.
+-- `exports::recording::plane_entry` meets its contract.
 -- Assumes nothing.
 use mathlib.Core.Path.{ap, _∙_}
 use Rattle.exports.specs.Flat.{flatEntry}
 use borrow.Author.Needs.{needs}
-use Rattle.exports.proofs.records.plane_entry.Statement.{statement}
-use Rattle.exports.proofs.records.plane_entry.Tie as tie
+use Rattle.exports.proofs.recording.plane_entry.Statement.{statement}
+use Rattle.exports.proofs.recording.plane_entry.Tie as tie
 
 entry-requires : tie.Need-entry-requires
 entry-requires c κs = search needs
