@@ -19,7 +19,7 @@ pub record Header : Type 0 where
   pub chip : ℕ
   pub channel : ℕ
 
--- before any header, where by the rules of place no Sample or Bin stands
+-- before any header; no Sample or Bin of an accepted frame stands there (proofs/SpotKeys.antt `spot-headed`)
 abbrev pub noHeader : Header
 noHeader = record { card = 0; chip = 0; channel = 0 }
 
