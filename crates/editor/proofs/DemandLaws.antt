@@ -1,5 +1,5 @@
 -- Demand 3 at the code: the laws of proofs/front/Demand3.antt. Each goes from what the contracts say (`Opened`, `Edited`, `Restored`, `Recorded`,
--- `EntryTold`) to one theorem of ledger's HouseDemand3, and back from document 01's answers to those of the code.
+-- `EntryTold`) to one theorem of ledger's PlaneDemand3, and back from document 01's answers to those of the code.
 -- Assumes nothing.
 use Prim.Native.Nat.{ℕ, suc, _+_, _*_, _≤_, _<_}
 use mathlib.Core.Path.{_≡_, refl, sym, ap, ap₂, subst, _∙_}
