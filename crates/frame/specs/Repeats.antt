@@ -24,7 +24,7 @@ Turns card s last k mode key next opener at next′ at′ =
     turnsOf card s last k at (record { mode = mode; key = key; next = next; opener = opener })
     ≡ moved (record { mode = mode; key = key; next = next′; opener = opener }) at′
 
--- a run of at most so many items
+-- repeats, at most so many
 pub record Repeated (card : ℕ) (s : List ℕ) (last at : ℕ) (mode : ReaderMode) (key next opener most : ℕ) (at′ count next′ : ℕ) : Type 0 where
   pub turns : Turns card s last count mode key next opener at next′ at′
   pub few : count ≤ most

@@ -142,7 +142,7 @@ fn any_standing(s: &[u8], last: usize, at: usize, w: u16) -> Standing
 }
 
 // The item at word `at` of some bytes, where one stands whole between their first three words and their last, and the index of the word behind
-// it. Samples and Bins come in runs: they are told here, where a caller's loop has the test in it.
+// it. Samples and Bins come one behind the other: they are told here, where a caller's loop has the test in it.
 pub fn item_at(s: &[u8], at: usize) -> Standing
     ensures { λ r. ⌜ StandingAnswered (now (s .entry)) at r ⌝ }
 {

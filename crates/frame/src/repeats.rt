@@ -1,5 +1,5 @@
-// Runs: items of one manner, one behind the other. Most words of a frame stand in them, so the walk takes a run at once, behind an item that
-// leaves the frame where the run's items stand. Each item of a run is one that `step` would take, and the run ends before any other. By `step`
+// Repeats: items of one manner, one behind the other. Most words of a frame stand in them, so the walk takes them at once, behind an item that
+// leaves the frame where they stand. Each of them is one that `step` would take, and they end before any other. By `step`
 // alone each word would pay for its class, its rule and a new state; here it pays for a comparison or two (bench/README.md).
 ghost use mathlib.Core.Path.{_≡_};
 ghost use Prim.Native.Nat.{ℕ, _+_, _-_, _*_, _/_, _%_, _≤_, _<_, max, min};
@@ -25,11 +25,11 @@ const TIMES: u32 = TimeBin::LAST as u32 + 1;
 // The words of a Bin.
 const BIN_WORDS: usize = 3;
 
-// The most items of a run, where none is asked for: a frame has no more words.
+// The most repeats, where no item is asked for: a frame has no more words.
 const MANY: usize = MOST / 2;
 
-// A run: the index behind it, how many items it has, and the state's `next` behind it; nothing else of the state is changed by a run.
-pub(crate) struct Run {
+// Some repeats: the index behind them, how many they are, and the state's `next` behind them; nothing else of the state is changed by them.
+pub(crate) struct Repeats {
     pub at: usize,
     pub count: usize,
     pub next: u32,
@@ -182,7 +182,7 @@ fn past_bins(s: &[u8], at: usize, stop: usize, past: u64) -> Binned
     }
 }
 
-fn repeated_samples(s: &[u8], last: usize, at: usize, next: u32, most: usize) -> Run
+fn repeated_samples(s: &[u8], last: usize, at: usize, next: u32, most: usize) -> Repeats
     requires { ⌜ (at ≤ last) × (2 * last ≤ length (now s)) ⌝ }
     ensures { λ r. ⌜ ((card key opener : ℕ) → Repeated card (now (s .entry)) last at afterSample key next opener most (r .at) (r .count) (r .next)) ⌝ }
 {
@@ -190,28 +190,28 @@ fn repeated_samples(s: &[u8], last: usize, at: usize, next: u32, most: usize) ->
     let end = past_samples(s, at, at + room);
     let count = end - at;
     let time = next + count as u32;
-    Run {
+    Repeats {
         at: end,
         count,
         next: time,
     }
 }
 
-fn repeated_hits(s: &[u8], last: usize, card: u16, at: usize, next: u32, most: usize) -> Run
+fn repeated_hits(s: &[u8], last: usize, card: u16, at: usize, next: u32, most: usize) -> Repeats
     requires { ⌜ (at ≤ last) × (2 * last ≤ length (now s)) ⌝ }
     ensures { λ r. ⌜ ((key opener : ℕ) → Repeated card (now (s .entry)) last at inside key next opener most (r .at) (r .count) (r .next)) ⌝ }
 {
     let room = least(last - at, most);
     let end = past_hits(s, at, at + room, card);
     let count = end - at;
-    Run {
+    Repeats {
         at: end,
         count,
         next,
     }
 }
 
-fn repeated_bins(s: &[u8], last: usize, at: usize, next: u32, most: usize) -> Run
+fn repeated_bins(s: &[u8], last: usize, at: usize, next: u32, most: usize) -> Repeats
     requires { ⌜ (at ≤ last) × (2 * last ≤ length (now s)) ⌝ }
     ensures { λ r. ⌜ ((card key opener : ℕ) → Repeated card (now (s .entry)) last at headed key next opener most (r .at) (r .count) (r .next)) ⌝ }
 {
@@ -220,20 +220,27 @@ fn repeated_bins(s: &[u8], last: usize, at: usize, next: u32, most: usize) -> Ru
     let binned = past_bins(s, at, at + BIN_WORDS * room, past);
     let count = (binned.at - at) / BIN_WORDS;
     let number = (binned.word - BEFORE_BINS) as u32;
-    Run {
+    Repeats {
         at: binned.at,
         count,
         next: number,
     }
 }
 
-// The run of at most so many items that begins at the word `at`, of the words before word `last`.
-pub(crate) fn repeats_at(s: &[u8], last: usize, card: u16, at: usize, st: State, most: usize) -> Run
+// The repeats, at most so many, that begin at the word `at`, of the words before word `last`.
+pub(crate) fn repeats_at(
+    s: &[u8],
+    last: usize,
+    card: u16,
+    at: usize,
+    st: State,
+    most: usize,
+) -> Repeats
     requires { ⌜ (at ≤ last) × (2 * last ≤ length (now s)) ⌝ }
     ensures { λ r. ⌜ Repeated card (now (s .entry)) last at (viewState st .mode) (st .key) (st .next) (st .opener) most (r .at) (r .count) (r .next) ⌝ }
 {
     let mode = st.mode;
-    let none = Run {
+    let none = Repeats {
         at,
         count: 0,
         next: st.next,

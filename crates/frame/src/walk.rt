@@ -152,7 +152,7 @@ fn noted(count: usize, n: usize, at: usize, index: usize) -> usize
     index
 }
 
-// Item by item from the left, over the words before word `last`, and run by run where items come in runs; the index of item n is noted on the
+// Item by item from the left, over the words before word `last`, and many at once where they repeat; the index of item n is noted on the
 // way.
 pub(crate) fn walk(s: &[u8], last: usize, kind: Kind, card: u16, n: usize) -> Walked
     requires { ⌜ 2 * last ≤ length (now s) ⌝ }
