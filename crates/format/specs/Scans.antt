@@ -1,7 +1,7 @@
 -- What a scan of an accepted frame notes where an item begins: the word of the header that the item stands under, by its index. The rules of a
 -- frame are not asked again. That spots and headers are what this and the cursor tell is in proofs/spots/ScanLaws.
 -- Assumes nothing.
-use Prim.Native.Nat.{ℕ, zero, suc, _+_}
+use Prim.Native.Nat.{ℕ, zero, suc, _+_, _<_, _≤_}
 use mathlib.Core.List.{List, [], _∷_}
 use mathlib.Core.Option.{Option, none, some}
 use lib.ListN.{length}
@@ -9,7 +9,8 @@ use lib.Dec.{eqb}
 use Rattle.format.specs.Words.{pick}
 use Rattle.format.specs.Answers.{Outcome, accepted, refused}
 use Rattle.format.specs.Items.{ItemOf, Item, Channel, Histogram, HitCount, Sample, Bin, LastCell, TimeBin, Text, StartEvent, EndEvent, wordsOf}
-use Rattle.format.specs.Frames.{Frame, verdict}
+use Rattle.format.specs.Frames.{Frame, lastOf, verdict}
+use Rattle.format.specs.Steps.{nextAt}
 use Rattle.format.specs.Questions.{Shown}
 use Rattle.format.specs.Cursor.{standingAt, shownBy}
 use Rattle.format.specs.Spots.{Header, noHeader, Spot, spotOf, under}
@@ -58,3 +59,9 @@ abbrev pub spotBy : Option Header → Option Shown → Option Spot
 spotBy none o = none
 spotBy (some k) none = none
 spotBy (some k) (some r) = spotOf k (r .item)
+
+-- an item that begins at word w lies between the first three words and the last
+pub record Noted (s : List ℕ) (w : ℕ) : Type 0 where
+  pub late : 3 ≤ w
+  pub early : w < lastOf s
+  pub whole : nextAt s w ≤ lastOf s

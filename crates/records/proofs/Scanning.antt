@@ -1,31 +1,35 @@
 -- The two loops over an accepted frame: the one that looks for the item at a word, and the one that notes the header of every item. Each turn is
 -- a case of the cursor's law (format's CursorLaws), and what it tells of the word is in format's ScanLaws.
 -- Assumes nothing.
-use Prim.Native.Nat.{ℕ, zero, suc, _+_, _-_, _*_, _/_, _<_, _≤_}
+use Prim.Native.Nat.{ℕ, zero, suc, _+_, _-_, _*_, _/_, _%_, _<_, _≤_}
 use mathlib.Core.Path.{_≡_, refl, sym, ap, ap₂, subst, _∙_}
 use mathlib.Core.List.{List, [], _∷_}
 use denote.Enum.Declared.{tagOf}
 use types.Run.{OneOf, miss}
-use mathlib.Core.Bool.{Bool, true, false}
+use mathlib.Core.Bool.{Bool, true, false, _&&_, true≢false}
 use mathlib.Core.Option.{Option, none, some}
 use native.Mathlib.Omega.{arith}
-use lib.Dec.{eqb, ltb}
+use lib.Dec.{eqb, leb, ltb}
 use lib.ListN.{length, getD, set, length-set}
 use lib.Seq.{getD-set-same, getD-set-other}
-use borrow.Author.Tests.{eqb-true, eqb-false, ltb-true, ltb-false}
-use Rattle.format.specs.Words.{pick, wordAt}
+use borrow.Author.Tests.{eqb-true, eqb-false, leb-true, leb-false, ltb-true, ltb-false, lt-ltb}
+use Rattle.format.specs.Words.{pick, wordAt, longAt}
 use Rattle.format.specs.Answers.{Outcome, accepted, refused}
-use Rattle.format.specs.Items.{ItemOf, Item}
-use Rattle.format.specs.Book.{classOf}
+use Rattle.format.specs.Items.{ItemOf, Item, Channel, Histogram, HitCount, Sample, Bin, LastCell, TimeBin, Text, StartEvent, EndEvent, wordsOf}
+use Rattle.format.specs.Book.{Class, after, channel, histogram, hitCount, sample, bin, text, startEvent, endEvent, classOf}
+use Rattle.format.specs.Steps.{nextAt}
 use Rattle.format.specs.Frames.{Frame, lastOf, headFault, judged, verdict}
 use Rattle.format.specs.Questions.{done, shown}
 use Rattle.format.specs.Cursor.{standingAt, shownBy, On}
 use Rattle.format.specs.Spots.{Header, noHeader, Spot, spotOf, under, spot}
-use Rattle.format.specs.Scans.{headBy, head, headerBy, headerAt}
+use Rattle.format.specs.Scans.{headBy, head, headerBy, headerAt, Noted}
+use Rattle.format.proofs.book.PrefixLaws.{and-left, and-right, and-both}
+use Rattle.format.proofs.book.BookLaws.{ranged}
 use Rattle.format.proofs.book.RangeLaws.{bin-is, sample-is, hits-is, histogram-is, channel-is}
 use Rattle.format.proofs.verdict.HeadLaws.{head-of}
-use Rattle.format.proofs.reader.CursorLaws.{last-is, Turn, answered, nothing-answered, channel-turn, histogram-turn, hits-turn, sample-turn, bin-turn}
+use Rattle.format.proofs.reader.CursorLaws.{last-is, Turn, turn, answered, nothing-answered, channel-turn, histogram-turn, hits-turn, sample-turn, bin-turn}
 use Rattle.format.proofs.spots.ScanLaws.{shown-head, shown-spot, Blank, Ahead, ahead-start, blank-first, Passed, pass, ahead-end}
+use Rattle.frame.proofs.Shows.{sample-shown, bin-shown}
 use Rattle.ledger.specs.Frames.{Accepted}
 use Rattle.ledger.specs.PlaneFrames.{planeFrames, plane-frames-judge}
 use Rattle.ledger.proofs.plane.PlaneFrames.{plane-frames-lawful}
@@ -62,6 +66,18 @@ other-header (item.TimeBin x) o = refl
 other-header (item.Text x) o = refl
 other-header (item.StartEvent x) o = refl
 other-header (item.EndEvent x) o = refl
+
+-- ---- a test of a range
+
+pub in-test : (a b w : ℕ) → leb a w && ltb w b ≡ true → (a ≤ w) × (w < b)
+in-test a b w e = (leb-true a w (and-left (leb a w) (ltb w b) e), ltb-true w b (and-right (leb a w) (ltb w b) e))
+
+pub below-test : (a b w : ℕ) → leb a w && ltb w b ≡ false → w < b → w < a
+below-test a b w e l = go (leb a w) refl
+  where
+    go : (x : Bool) → leb a w ≡ x → w < a
+    go true x = absurd (true≢false (sym (and-both (leb a w) (ltb w b) x (lt-ltb w b l)) ∙ e))
+    go false x = leb-false a w x
 
 -- ---- the frame of accepted bytes
 
@@ -204,8 +220,8 @@ module _ (s map : List ℕ) (at h : ℕ) (g : Noting s map at h) where
           let w = eqb-false u at y in
           getD-set-other map at u j 0 w ∙ g .blank u m ∙ sym (p .between u (omega arith) l .head)
 
-  -- a word from 0x2000 on is not the end word
-  pub note-before : (w : ℕ) → w ≡ wordAt s at → 0x2000 ≤ w → at < lastOf s
+  -- a word above the end word is another
+  pub note-before : (w : ℕ) → w ≡ wordAt s at → 0x000F < w → at < lastOf s
   note-before w e a = go (ltb at (lastOf s)) refl
     where
       go : (b : Bool) → ltb at (lastOf s) ≡ b → at < lastOf s
@@ -217,22 +233,67 @@ module _ (s map : List ℕ) (at h : ℕ) (g : Noting s map at h) where
           let z : w ≡ 0x000F = e ∙ ap (wordAt s) i ∙ g .ended in
           absurd (omega arith)
 
-  -- an item of one word, told by the range of that word
-  pub note-one : (w : ℕ) → w ≡ wordAt s at → 0x3000 ≤ w → w < 65536 → (j : ℕ) → (0x8000 ≤ w → j ≡ at) → (w < 0x8000 → j ≡ h) → Noting s (set map at j) (at + 1) j
-  note-one w e a b j high low = go (ltb w 0x4000) refl (ltb w 0x8000) refl (ltb w 0xC000) refl
+  pub tested-before : (a b w : ℕ) → w ≡ wordAt s at → leb a w && ltb w b ≡ true → 0x000F < a → at < lastOf s
+  tested-before a b w e test l = let i = in-test a b w test .0 in note-before w e (omega arith)
+
+  -- a Sample or a Hit count, told by the range of its word
+  pub note-plain : (w : ℕ) → w ≡ wordAt s at → leb 0x3000 w && ltb w 0x8000 ≡ true → Noting s (set map at h) (at + 1) h
+  note-plain w e test = go (ltb w 0x4000) refl
+    where
+      a : 0x3000 ≤ w
+      a = in-test 0x3000 0x8000 w test .0
+
+      b : w < 0x8000
+      b = in-test 0x3000 0x8000 w test .1
+
+      l : at < lastOf s
+      l = tested-before 0x3000 0x8000 w e test (omega arith)
+
+      go : (x : Bool) → ltb w 0x4000 ≡ x → Noting s (set map at h) (at + 1) h
+      go true x = let i = ltb-true w 0x4000 x in note-past _ _ h (sample-turn s at (g .ahead .on) l (sample-is w a i ∙ ap classOf e)) refl
+      go false x = note-past _ _ h (hits-turn s at (g .ahead .on) l (hits-is w (ltb-false w 0x4000 x) b ∙ ap classOf e)) refl
+
+  -- a header, which the next items stand under
+  pub note-header : (w : ℕ) → w ≡ wordAt s at → 0x8000 ≤ w → w < 65536 → (j : ℕ) → j ≡ at → Noting s (set map at j) (at + 1) j
+  note-header w e a b j q = go (ltb w 0xC000) refl
     where
       l : at < lastOf s
       l = note-before w e (omega arith)
 
-      go : (x : Bool) → ltb w 0x4000 ≡ x → (y : Bool) → ltb w 0x8000 ≡ y → (z : Bool) → ltb w 0xC000 ≡ z → Noting s (set map at j) (at + 1) j
-      go true x y d z k = let i = ltb-true w 0x4000 x in note-past _ _ j (sample-turn s at (g .ahead .on) l (sample-is w a i ∙ ap classOf e)) (low (omega arith))
-      go false x true d z k = let i = ltb-true w 0x8000 d in note-past _ _ j (hits-turn s at (g .ahead .on) l (hits-is w (ltb-false w 0x4000 x) i ∙ ap classOf e)) (low i)
-      go false x false d true k = let i = ltb-false w 0x8000 d in note-past _ _ j (histogram-turn s at (g .ahead .on) l (histogram-is w i (ltb-true w 0xC000 k) ∙ ap classOf e)) (high i)
-      go false x false d false k = let i = ltb-false w 0xC000 k in note-past _ _ j (channel-turn s at (g .ahead .on) l (channel-is w i b ∙ ap classOf e)) (high (omega arith))
+      go : (x : Bool) → ltb w 0xC000 ≡ x → Noting s (set map at j) (at + 1) j
+      go true x = note-past _ _ j (histogram-turn s at (g .ahead .on) l (histogram-is w a (ltb-true w 0xC000 x) ∙ ap classOf e)) q
+      go false x = note-past _ _ j (channel-turn s at (g .ahead .on) l (channel-is w (ltb-false w 0xC000 x) b ∙ ap classOf e)) q
+
+  -- a Time bin or a Last cell: no other item has a first word of that range
+  pub note-short : (w : ℕ) → w ≡ wordAt s at → leb 0x3000 w && ltb w 0x8000 ≡ false → leb 0x2000 w && ltb w 0x3000 ≡ false → w < 0x8000 → 0x0E00 ≤ w → Noting s (set map at h) (at + 1) h
+  unfolding wordsOf
+  note-short w e high middle low a =
+      let (x, t) = turn s at (g .ahead .on) (note-before w e (omega arith)) in
+      go (below-test 0x2000 0x3000 w middle (below-test 0x3000 0x8000 w high low)) x t
+    where
+      one : (x : Item) → length (wordsOf x) ≡ 1 → h ≡ headBy h at x → Turn s at (g .ahead .on) x (nextAt s at) → Noting s (set map at h) (at + 1) h
+      one x n q t =
+          let v = t .wide in
+          let m : nextAt s at ≡ at + 1 = omega arith in
+          note-past x (at + 1) h (subst (λ (i : ℕ). Turn s at (g .ahead .on) x i) m t) q
+
+      go : w < 0x2000 → (x : Item) → Turn s at (g .ahead .on) x (nextAt s at) → Noting s (set map at h) (at + 1) h
+      go b (Channel i j c) t = let (p, q) = ranged (wordAt s at) channel (sym (t .class)) refl in absurd (omega arith)
+      go b (Histogram i j c) t = let (p, q) = ranged (wordAt s at) histogram (sym (t .class)) refl in absurd (omega arith)
+      go b (HitCount i j c) t = let (p, q) = ranged (wordAt s at) hitCount (sym (t .class)) refl in absurd (omega arith)
+      go b (Sample v) t = let (p, q) = ranged (wordAt s at) sample (sym (t .class)) refl in absurd (omega arith)
+      go b (Bin i n) t = let (p, q) = ranged (wordAt s at) bin (sym (t .class)) refl in absurd (omega arith)
+      go b (LastCell i j) t = one (LastCell i j) refl refl t
+      go b (TimeBin i) t = one (TimeBin i) refl refl t
+      go b (Text i) t = let (p, q) = ranged (wordAt s at) text (sym (t .class)) refl in absurd (omega arith)
+      go b (StartEvent i j c) t = let (p, q) = ranged (wordAt s at) startEvent (sym (t .class)) refl in absurd (omega arith)
+      go b (EndEvent i) t = let (p, q) = ranged (wordAt s at) endEvent (sym (t .class)) refl in absurd (omega arith)
 
   -- a Bin, told by the range of its first word
-  pub note-bin : (w : ℕ) → w ≡ wordAt s at → 0x2000 ≤ w → w < 0x3000 → Noting s (set map at h) (at + 3) h
-  note-bin w e a b = note-past _ _ h (bin-turn s at (g .ahead .on) (note-before w e a) (bin-is w a b ∙ ap classOf e)) refl
+  pub note-bin : (w : ℕ) → w ≡ wordAt s at → leb 0x2000 w && ltb w 0x3000 ≡ true → Noting s (set map at h) (at + 3) h
+  note-bin w e test =
+      let (a, b) = in-test 0x2000 0x3000 w test in
+      note-past _ _ h (bin-turn s at (g .ahead .on) (note-before w e (omega arith)) (bin-is w a b ∙ ap classOf e)) refl
 
   -- any other, by the item answered
   pub note-item : (z : ItemOf ℕ) (n : ℕ) → some (record { item = z; next = n }) ≡ shownBy (standingAt s at) → (j : ℕ) → j ≡ headBy h at z
@@ -249,6 +310,29 @@ module _ (s map : List ℕ) (at h : ℕ) (g : Noting s map at h) where
       go false q =
           let a = ltb-false u at q in
           g .blank u a ∙ sym (ahead-end s at h (g .ahead) (at-last s at (g .ahead .on) e) u a .head)
+
+-- ---- the item answer at a word where one begins
+
+module _ (s : List ℕ) (at : ℕ) (g : Noted s at) (w : ℕ) (e : w ≡ wordAt s at) where
+  pub noted-sample : leb 0x3000 w && ltb w 0x4000 ≡ true → (v : ℕ) → v ≡ w % 4096 → some (record { item = Sample v; next = at + 1 }) ≡ shownBy (standingAt s at)
+  noted-sample test v i =
+      let (a, b) = in-test 0x3000 0x4000 w test in
+      sample-shown s (lastOf s) at w (g .late) (g .early) refl e v (sample-is w a b) i
+
+  pub noted-bin : leb 0x2000 w && ltb w 0x3000 ≡ true → at + 3 ≤ lastOf s
+  unfolding nextAt
+  noted-bin test =
+      let (a, b) = in-test 0x2000 0x3000 w test in
+      let c : bin ≡ classOf (wordAt s at) = bin-is w a b ∙ ap classOf e in
+      let n : after (classOf (wordAt s at)) (wordAt s at) ≡ 2 = ap (λ (d : Class). after d (wordAt s at)) (sym c) in
+      let l = g .whole in
+      omega arith
+
+  pub noted-count : leb 0x2000 w && ltb w 0x3000 ≡ true → (b n : ℕ) → b ≡ w % 4096 → n ≡ longAt s (at + 1)
+      → some (record { item = Bin b n; next = at + 3 }) ≡ shownBy (standingAt s at)
+  noted-count test b n i j =
+      let (p, q) = in-test 0x2000 0x3000 w test in
+      bin-shown s (lastOf s) at w (g .late) (g .early) refl e b n (bin-is w p q) (noted-bin test) i j
 
 pub getD-past : (l : List ℕ) (i : ℕ) → length l ≤ i → 0 ≡ getD l i 0
 getD-past [] i h = refl

@@ -19,11 +19,11 @@ use Rattle.format.specs.Frames.{lastOf}
 use Rattle.format.specs.Questions.{Shown}
 use Rattle.format.specs.Cursor.{standingAt, shownBy}
 use Rattle.format.specs.Spots.{Header, noHeader, Spot, spotOf, underAll, spot, headed, put, legalValue}
-use Rattle.format.specs.Scans.{head, headerAt, headedBy, spotBy}
+use Rattle.format.specs.Scans.{head, headerAt, headedBy, spotBy, Noted}
 use Rattle.format.proofs.spots.PutLaws.{stands, put-stores}
 use Rattle.format.proofs.questions.ItemQuestions.{no-some}
 use Rattle.format.proofs.reader.CursorLaws.{next-there}
-use Rattle.format.proofs.spots.ScanLaws.{headed-by, spot-by, put-heads}
+use Rattle.format.proofs.spots.ScanLaws.{headed-by, spot-by, noted-there, put-heads}
 use Rattle.ledger.specs.Tests.{all}
 use Rattle.ledger.specs.Frames.{Accepted, Settable}
 use Rattle.ledger.specs.Formats.{Entry}
@@ -79,6 +79,10 @@ module _ (map f : List ℕ) (g : Undoing map f) (w : ℕ) where
   header-here : headed f w ≡ headedBy f (getD map w 0)
   header-here = headed-by f (g .frame .bytes) w ∙ ap (headedBy f) (sym (g .heads w))
 
+  -- the item that begins there lies between the first three words and the last
+  pub noted-item : 1 ≤ getD map w 0 → Noted f w
+  noted-item l = noted-there f (g .frame .bytes) w (let z = g .heads w in omega arith)
+
   -- no item begins there
   pub none-headed : getD map w 0 ≡ 0 → none ≡ headed f w
   none-headed z = sym (header-here ∙ ap (headedBy f) z)
@@ -118,11 +122,16 @@ module _ (map f : List ℕ) (g : Undoing map f) (w : ℕ) where
       unfolding fits
       item-fits t kind value i q = q (headerAt f (getD map w 0)) ∙ sym (rw (stands-here, ← i (headerAt f (getD map w 0))))
 
--- the tests of an entry at an item
-pub item-tests : (w k old new o r kind value : ℕ) (lawful named : Bool) → lawful ≡ legalValue k old → named ≡ signed o r → (h : Header)
+-- the tests of an entry at an item: its kind is asked first, so that its legal values may be asked of either kind
+pub item-tests : (w k old new o r kind value : ℕ) (lawful named : Bool) → lawful ≡ legalValue kind old → named ≡ signed o r → (h : Header)
     → ((((eqb kind k && eqb value new) && lawful) && not (eqb old new)) && named) ≡ fitsItem planeFrames versionOne (plain w k old new o r) (record { kind = kind; value = value; header = h })
 unfolding fitsItem all versionOne planeFrames
-item-tests w k old new o r kind value lawful named l i h = rw (l, i) (sym (and-true _ ∙ and-true _))
+item-tests w k old new o r kind value lawful named l i h = go (eqb kind k) refl
+  where
+    go : (b : Bool) → eqb kind k ≡ b
+        → ((((eqb kind k && eqb value new) && lawful) && not (eqb old new)) && named) ≡ fitsItem planeFrames versionOne (plain w k old new o r) (record { kind = kind; value = value; header = h })
+    go true e = let m : lawful ≡ legalValue k old = l ∙ ap (λ (x : ℕ). legalValue x old) (eqb-true kind k e) in rw (m, i) (sym (and-true _ ∙ and-true _))
+    go false e = rw e
 
 -- ---- undoing
 

@@ -18,6 +18,7 @@ use crate::entries::entry_in;
 use crate::entries::entry_of;
 use crate::scan::NONE;
 use crate::scan::header_at;
+use crate::scan::item_noted;
 use crate::scan::long_in;
 use crate::scan::note_heads;
 use crate::scan::word_in;
@@ -27,7 +28,6 @@ use crate::values::put_value;
 use book::items::Item;
 use book::words::copy;
 use frame::cursor::Standing;
-use frame::cursor::item_at;
 
 // The word noted for a word.
 fn head_at(map: &[u16], w: usize) -> u16
@@ -54,7 +54,7 @@ fn fits_item(e: Entry, kind: u16, value: u32) -> bool
     ensures { λ r. ⌜ ((h : Header) → r ≡ fitsItem planeFrames versionOne (asEntry e) (record { kind = kind; value = value; header = h })) ⌝ }
 {
     let named = signed(e.operator as u32, e.reason as u32);
-    (kind == e.kind) & (value == e.new) & legal(e.kind, e.old) & (e.old != e.new) & named
+    (kind == e.kind) & (value == e.new) & legal(kind, e.old) & (e.old != e.new) & named
 }
 
 // Whether an entry fits a frame whose headers are noted in the map: the item answer at its word is taken apart, and anything but a Sample or
@@ -67,7 +67,7 @@ fn entry_fits(f: &[u8], map: &[u16], e: Entry) -> bool
     if head_at(map, at) == NONE {
         return false;
     }
-    let standing = item_at(f, at);
+    let standing = item_noted(f, at);
     let Standing::Item(found) = standing else {
         return false;
     };

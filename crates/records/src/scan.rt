@@ -5,7 +5,9 @@ ghost use Prim.Native.Nat.{ℕ, _+_, _*_, _≤_, _<_};
 ghost use lib.ListN.{length, getD};
 ghost use Rattle.format.specs.Words.{wordAt, longAt};
 ghost use Rattle.format.specs.Spots as spots;
-ghost use Rattle.format.specs.Scans.{headBy, headerAt};
+ghost use Rattle.format.specs.Cursor.{standingAt, shownBy};
+ghost use Rattle.format.specs.Scans.{headBy, headerAt, Noted};
+ghost use Rattle.frame.specs.Views.{viewStanding};
 ghost use Rattle.book.specs.Views.{viewItem};
 ghost use Rattle.ledger.specs.Frames.{Accepted};
 ghost use Rattle.ledger.specs.PlaneFrames.{planeFrames};
@@ -15,9 +17,12 @@ use crate::answers::Header;
 use crate::answers::Spot;
 use crate::answers::SpotFound;
 use book::class::Class;
+use book::items::Bin;
 use book::items::Item;
+use book::items::Sample;
 use frame::cursor::Standing;
 use frame::cursor::item_at;
+use frame::items::FoundItem;
 
 // The index of a frame's first item.
 const FIRST: usize = 3;
@@ -146,19 +151,35 @@ pub(crate) fn spot_in(f: &[u8], w: usize) -> SpotFound
     SpotFound::Nothing
 }
 
-// Most words of a frame are told by their class's range alone: from the first Sample's on items have one word, and from the first Histogram's
-// on they are headers.
-fn head_high(w: u16, at: u16, head: u16) -> u16
-    ensures { λ r. ⌜ (0x8000 ≤ w → r ≡ at) × (w < 0x8000 → r ≡ head) ⌝ }
+// The item answer at a word where an item begins. A Sample or a Bin is told by the range of its word, a case of the cursor's law: entries are of
+// little else, and are judged one by one.
+pub(crate) fn item_noted(f: &[u8], at: usize) -> Standing
+    requires { ⌜ Noted (now f) at ⌝ }
+    ensures { λ r. ⌜ viewStanding r ≡ shownBy (standingAt (now (f .entry)) at) ⌝ }
 {
-    if Class::HISTOGRAM <= w {
-        return at;
+    let w = word_in(f, at);
+    if (Class::SAMPLE <= w) & (w < Class::HIT_COUNT) {
+        return Standing::Item(FoundItem {
+            item: Item::Sample(Sample::of_word(w)),
+            next: at + 1,
+        });
     }
-    head
+    if (Class::BIN <= w) & (w < Class::SAMPLE) {
+        let count = long_in(f, at + 1);
+        return Standing::Item(FoundItem {
+            item: Item::Bin(Bin {
+                bin: Bin::of_word(w),
+                count,
+            }),
+            next: at + 3,
+        });
+    }
+    item_at(f, at)
 }
 
-// Notes in a map of zeros, for each word of an accepted frame where an item begins, the word of the header that it stands under. The end word
-// is below all that the first two branches take, so that they need not ask whether it is reached; the cursor tells it.
+// Notes in a map of zeros, for each word of an accepted frame where an item begins, the word of the header that it stands under. Most items are
+// told by the range of their word, the commonest first; the end word is below all of these ranges, so that they need not ask whether it is
+// reached; the cursor tells it.
 pub(crate) fn note_heads(f: &[u8], map: &mut [u16])
     requires { ⌜ Accepted planeFrames (now f) × (4096 ≤ length (now map)) × ((i : ℕ) → getD (now map) i 0 ≡ 0) ⌝ }
     ensures { λ _. ⌜ Heads (now (f .entry)) (now (map .exit)) ⌝ }
@@ -167,15 +188,25 @@ pub(crate) fn note_heads(f: &[u8], map: &mut [u16])
     let mut head = UNHEADED;
     loop {
         let w = word_in(f, at);
-        if Class::SAMPLE <= w {
-            head = head_high(w, at as u16, head);
+        if (Class::SAMPLE <= w) & (w < Class::HISTOGRAM) {
             map[at] = head;
             at += 1;
             continue;
         }
-        if Class::BIN <= w {
+        if (Class::BIN <= w) & (w < Class::SAMPLE) {
             map[at] = head;
             at += 3;
+            continue;
+        }
+        if Class::HISTOGRAM <= w {
+            head = at as u16;
+            map[at] = head;
+            at += 1;
+            continue;
+        }
+        if Class::TIME_BIN <= w {
+            map[at] = head;
+            at += 1;
             continue;
         }
         let standing = item_at(f, at);

@@ -18,11 +18,12 @@ use Rattle.format.specs.Steps.{nextAt}
 use Rattle.format.specs.Questions.{shown, Found}
 use Rattle.format.specs.Cursor.{standingAt, shownBy, itemsFrom, On}
 use Rattle.format.specs.Spots.{Header, noHeader, Spot, spotOf, under, spotIn, spotFor, spot, headedIn, headedFor, headed, put, legalValue, withValue}
-use Rattle.format.specs.Scans.{headBy, headIn, headFor, head, headerBy, headerAt, headedBy, spotBy}
+use Rattle.format.specs.Scans.{headBy, headIn, headFor, head, headerBy, headerAt, headedBy, spotBy, Noted}
 use Rattle.format.proofs.rules.AlikeLaws.{blind, same-width}
 use Rattle.format.proofs.spots.SpotLaws.{replaced}
 use Rattle.format.proofs.spots.PutLaws.{changed, stands, spot-in, put-changed}
-use Rattle.format.proofs.reader.CursorLaws.{from-first, on-start, Turn, turn, run-out, standing-early}
+use Rattle.format.proofs.reader.StepLaws.{next-at}
+use Rattle.format.proofs.reader.CursorLaws.{within-bytes, stood, from-first, on-start, Turn, turn, run-out, standing-early}
 
 -- ---- an item as it is answered tells the same
 
@@ -286,6 +287,24 @@ module _ (s : List ℕ) (y : Bytes s) (w : ℕ) where
       judged : (o : Outcome Frame) → verdict s ≡ o → spot s w ≡ spotBy (headed s w) (shownBy (standingAt s w))
       judged (accepted f) v = by (told s y f v w)
       judged (refused n p) v = ap (λ (o : Outcome Frame). spotFor o w) v ∙ ap (λ (o : Outcome Frame). spotBy (headedFor o w) (shownBy (standingAt s w))) (sym v)
+
+none-noted : (s : List ℕ) (w n p : ℕ) → verdict s ≡ refused n p → head s w ≡ 0
+unfolding head
+none-noted s w n p v = ap (λ (o : Outcome Frame). headFor o w) v
+
+-- where a header is noted an item stands
+pub noted-there : (s : List ℕ) → Bytes s → (w : ℕ) → 1 ≤ head s w → Noted s w
+noted-there s y w l = judged (verdict s) refl
+  where
+    by : Told s w → Noted s w
+    by (begins x n h e m i p) =
+        let t = stood s w x n e in
+        record { late = t .late; early = t .early; whole = next-at s (lastOf s) (within-bytes s) w x (t .early) (t .token) .within }
+    by (blank b) = let z = b .head in absurd (omega arith)
+
+    judged : (o : Outcome Frame) → verdict s ≡ o → Noted s w
+    judged (accepted f) v = by (told s y f v w)
+    judged (refused n p) v = let z = none-noted s w n p v in absurd (omega arith)
 
 -- ---- a value put leaves every header at its word
 

@@ -8,7 +8,7 @@ use Rattle.book.specs.Views.{viewItem}
 use Rattle.book.specs.declared.items.Item.{Item}
 use Rattle.frame.specs.Views.{viewStanding}
 use Rattle.records.proofs.Scanning.{other-spot}
-use Rattle.records.proofs.UndoLaws.{unnoted-fits, nothing-fits, other-fits, item-fits}
+use Rattle.records.proofs.UndoLaws.{noted-item, unnoted-fits, nothing-fits, other-fits, item-fits}
 use borrow.Author.Needs.{needs}
 use Rattle.records.proofs.history.entry_fits.Statement.{statement}
 use Rattle.records.proofs.history.entry_fits.Tie as tie
@@ -24,8 +24,10 @@ returns c =
     let s = c .before .before .before .before .before in
     unnoted-fits (now (s .args .map)) (now (s .args .f)) (s .pre) _ _ _ _ _ _ (omega (arith, c .before .head-at .ensures))
 
-item-at-requires : tie.Need-item-at-requires
-item-at-requires c κs = search needs
+item-noted-requires : tie.Need-item-noted-requires
+item-noted-requires c κs =
+    let s = c .before .before .before .before .before in
+    noted-item (now (s .args .map)) (now (s .args .f)) (s .pre) _ (omega (arith, c .before .head-at .ensures))
 
 enum-known-standing : tie.Need-enum-known-standing
 enum-known-standing c = search needs
@@ -37,7 +39,7 @@ returns-2 : tie.Need-returns-2
 returns-2 c =
     let i = c .before .before in
     let s = i .before .before .before .before .before .before in
-    nothing-fits (now (s .args .map)) (now (s .args .f)) (s .pre) _ _ _ _ _ _ (sym (ap viewStanding (c .enum-told .given .1)) ∙ i .item-at .ensures)
+    nothing-fits (now (s .args .map)) (now (s .args .f)) (s .pre) _ _ _ _ _ _ (sym (ap viewStanding (c .enum-told .given .1)) ∙ i .item-noted .ensures)
 
 enum-known-item : tie.Need-enum-known-item
 enum-known-item c = search needs
@@ -61,7 +63,7 @@ returns-3 c =
     let i = s .before .before in
     let h = i .before in
     let a = h .before .before .before .before .before in
-    item-fits (now (a .args .map)) (now (a .args .f)) (a .pre) _ _ _ _ _ _ (omega (arith, h .before .head-at .ensures)) _ _ (sym (ap viewStanding (s .standing .given .1)) ∙ i .item-at .ensures) _ _ _
+    item-fits (now (a .args .map)) (now (a .args .f)) (a .pre) _ _ _ _ _ _ (omega (arith, h .before .head-at .ensures)) _ _ (sym (ap viewStanding (s .standing .given .1)) ∙ i .item-noted .ensures) _ _ _
     (λ k. ap (λ (z : Item). spotOf k (viewItem z)) (sym (t .item .given .1))) (c .fits-item .ensures)
 
 returns-4 : tie.Need-returns-4
@@ -71,7 +73,7 @@ returns-4 c =
     let i = s .before .before in
     let h = i .before in
     let a = h .before .before .before .before .before in
-    item-fits (now (a .args .map)) (now (a .args .f)) (a .pre) _ _ _ _ _ _ (omega (arith, h .before .head-at .ensures)) _ _ (sym (ap viewStanding (s .standing .given .1)) ∙ i .item-at .ensures) _ _ _
+    item-fits (now (a .args .map)) (now (a .args .f)) (a .pre) _ _ _ _ _ _ (omega (arith, h .before .head-at .ensures)) _ _ (sym (ap viewStanding (s .standing .given .1)) ∙ i .item-noted .ensures) _ _ _
     (λ k. ap (λ (z : Item). spotOf k (viewItem z)) (sym (t .item2 .given .1))) (c .fits-item2 .ensures)
 
 returns-5 : tie.Need-returns-5
@@ -80,7 +82,7 @@ returns-5 c =
     let i = s .before .before in
     let h = i .before in
     let a = h .before .before .before .before .before in
-    other-fits (now (a .args .map)) (now (a .args .f)) (a .pre) _ _ _ _ _ _ (omega (arith, h .before .head-at .ensures)) _ _ (sym (ap viewStanding (s .standing .given .1)) ∙ i .item-at .ensures)
+    other-fits (now (a .args .map)) (now (a .args .f)) (a .pre) _ _ _ _ _ _ (omega (arith, h .before .head-at .ensures)) _ _ (sym (ap viewStanding (s .standing .given .1)) ∙ i .item-noted .ensures)
     (other-spot (s .standing .given .0 .0 .item) (c .match2 .keys3))
 
 pub entry-fits-spec : {M : Type 1} → statement M
@@ -90,7 +92,7 @@ entry-fits-spec =
     cast-at
     head-at-requires
     returns
-    item-at-requires
+    item-noted-requires
     enum-known-standing
     enum-told
     returns-2
