@@ -1,5 +1,5 @@
 //! The plane record library for Rust on x86-64 Linux, by the standard library alone: what include/plane_record.h says, with a safe function for each
-//! call. Copy this file into a program of your own; it fits the editions 2021 and 2024 (Rust 1.82 or later). Link libexports.a: build.rs beside this
+//! call. Copy this file into a program of your own; it fits the editions 2021 and 2024 (tried with Rust 1.95). Link libexports.a: build.rs beside this
 //! file has the two lines for cargo, examples/README.md the line for rustc.
 //!
 //! A call that can be refused answers a `Result`, whose `Err` has the refusal and its place; a refused call has left all lent memory as it was.
