@@ -23,7 +23,7 @@ int clock_gettime(int clock, struct timespec *now);
 
 enum { LONGEST = 8192, RECORD = 16 + LONGEST + 16 * 512 };
 
-enum ops { READ = 1, ITEM = 2, SAMPLES = 5, COUNTS = 6, JUDGE = 12, EDIT = 15, RESTORE = 16 };
+enum ops { READ = 1, ITEM = 2, EVENT = 4, SAMPLES = 5, COUNTS = 6, JUDGE = 12, EDIT = 15, RESTORE = 16 };
 
 // A call that is measured; `fills` has a bit for each fill that it is asked of.
 struct call {
@@ -33,7 +33,7 @@ struct call {
 };
 
 static const struct call calls[] = {
-    { "read", READ, 63 }, { "item", ITEM, 63 }, { "samples", SAMPLES, 5 }, { "counts", COUNTS, 8 },
+    { "read", READ, 63 }, { "item", ITEM, 63 }, { "event", EVENT, 7 }, { "samples", SAMPLES, 5 }, { "counts", COUNTS, 8 },
     { "record", JUDGE, 13 }, { "edit", EDIT, 13 }, { "restore", RESTORE, 13 },
 };
 
@@ -79,6 +79,14 @@ static void last_header(const struct a_case *c, u32 class, u64 *event, u64 *chip
     }
 }
 
+// The ordinal of the last event.
+static u64 last_event(const struct a_case *c) {
+    struct event x;
+    u64 count = 0;
+    while (baseline_event(c->p, c->n, count, &x).number == 0) count++;
+    return count - 1;
+}
+
 // Edits at words taken by chance, some of them more than once.
 static void edit_some(u8 *record, u32 entries) {
     u32 seed = 1;
@@ -119,6 +127,7 @@ static void make_question(struct row r, struct a_case *c) {
     c->n = r.size;
     switch (r.call->op) {
     case ITEM: c->a[0] = baseline_read(c->p, c->n).items - 1; break;
+    case EVENT: c->a[0] = last_event(c); break;
     case SAMPLES:
         last_header(c, 1, &c->a[0], &c->a[1], &c->a[2]);
         c->a[3] = 512;

@@ -32,6 +32,12 @@ static u64 item(struct a_case *c, struct lent *out) {
     return x.refused ? refusal_number(x.refused, x.place) : accepted_number(last_field(&x.item), x.next);
 }
 
+static u64 event(struct a_case *c, struct lent *out) {
+    (void)out;
+    const struct plane_event_found x = plane_event(c->p, c->n, c->a[0]);
+    return x.refused ? refusal_number(x.refused, x.place) : accepted_number(x.size, x.index);
+}
+
 static u64 samples(struct a_case *c, struct lent *out) {
     return told(plane_samples(c->p, c->n, c->a[0], (u16)c->a[1], (u16)c->a[2], out->samples, c->a[3]));
 }
@@ -56,4 +62,4 @@ static u64 restore(struct a_case *c, struct lent *out) {
     return told(plane_restore(c->p, c->n, c->a[0], c->q, c->m));
 }
 
-const side ours[32] = { [1] = read_frame, [2] = item, [5] = samples, [6] = counts, [12] = record, [15] = edit, [16] = restore };
+const side ours[32] = { [1] = read_frame, [2] = item, [4] = event, [5] = samples, [6] = counts, [12] = record, [15] = edit, [16] = restore };

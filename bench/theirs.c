@@ -19,6 +19,12 @@ static u64 item(struct a_case *c, struct lent *out) {
     return r.number ? refusal_number(r.number, r.place) : accepted_number(x.fields[fields[x.class] - 1], x.next);
 }
 
+static u64 event(struct a_case *c, struct lent *out) {
+    (void)out;
+    struct event x = { 0 };
+    return told(baseline_event(c->p, c->n, c->a[0], &x), x.size, x.index);
+}
+
 static u64 samples(struct a_case *c, struct lent *out) {
     return told(baseline_samples(c->p, c->n, c->a[0], (u32)c->a[1], (u32)c->a[2], out->samples, c->a[3]), 0, 0);
 }
@@ -43,4 +49,4 @@ static u64 restore(struct a_case *c, struct lent *out) {
     return told(baseline_restore(c->p, c->n, c->a[0], c->q, c->m), 0, 0);
 }
 
-const side theirs[32] = { [1] = read_frame, [2] = item, [5] = samples, [6] = counts, [12] = record, [15] = edit, [16] = restore };
+const side theirs[32] = { [1] = read_frame, [2] = item, [4] = event, [5] = samples, [6] = counts, [12] = record, [15] = edit, [16] = restore };
