@@ -1,4 +1,4 @@
-// The list of ops. Each writes its line, without the line feed, at the start of `line` and gives its length.
+// The list of ops. Those that lend nothing to be written answer alone; the others' lines have the lent buffer too.
 use crate::cases::Case;
 use crate::ops_book;
 use crate::ops_editor;
@@ -8,32 +8,76 @@ use crate::ops_list;
 use crate::ops_questions;
 use crate::ops_record;
 use crate::ops_writer;
+use crate::reply;
+use crate::reply::Reply;
 
-// Answers a case whose payloads are p and q; 0 where it is none.
+// No listed op, or arguments that no case has.
+pub(crate) fn no_case() -> Reply {
+    reply::few(Reply::NO_CASE, 0, 0, 0)
+}
+
+// The ops that only read p.
+fn asked(case: Case, p: &[u8]) -> Reply {
+    let op = case.op;
+    match op {
+        0 => ops_book::class(case.a0),
+        1 => ops_frame::read(p),
+        2 => ops_frame::item(p, case.a0),
+        3 => ops_frame::text(p, case.a0),
+        4 => ops_questions::event(p, case.a0),
+        11 => ops_follower::follow(case.a0, case.a1),
+        12 => ops_record::record(p),
+        13 => ops_record::entry(p, case.a0),
+        _ => no_case(),
+    }
+}
+
+// The ops that fill numbers of 16 or 32 bits.
+fn filled(case: Case, p: &[u8], line: &mut [u8]) -> usize {
+    if case.op == 5 {
+        return ops_questions::samples(p, case.a0, case.a1, case.a2, case.a3, case.a4, line);
+    }
+    ops_questions::counts(p, case.a0, case.a1, case.a2, case.a3, line)
+}
+
+// The ops that write p.
+fn written(case: Case, p: &mut [u8], q: &[u8]) -> Reply {
+    let op = case.op;
+    match op {
+        7 => ops_writer::begin(p, case.a0, case.a1, case.a2),
+        8 => ops_writer::add(p, case.a0, case.a1, case.a2, case.a3, case.a4),
+        9 => ops_writer::add_text(p, q, case.a0),
+        10 => ops_writer::close(p, case.a0),
+        14 => ops_editor::open(p, q),
+        15 => ops_editor::edit(p, case.a0, case.a1, case.a2, case.a3),
+        _ => no_case(),
+    }
+}
+
+// The ops that read p and write q.
+fn read_out(case: Case, p: &[u8], q: &mut [u8]) -> Reply {
+    if case.op == 16 {
+        return ops_editor::restore(p, q, case.a0);
+    }
+    ops_list::list(p, q)
+}
+
+// Answers a case whose payloads are p and q: its line, without the line feed, at the start of `line`, and its length; 0 where it is none.
 pub(crate) fn answer(case: Case, p: &mut [u8], q: &mut [u8], line: &mut [u8]) -> usize {
     if !case.is_allowed() {
         return 0;
     }
     let op = case.op;
     match op {
-        0 => ops_book::class(case.a0, line),
-        1 => ops_frame::read(p, line),
-        2 => ops_frame::item(p, case.a0, line),
-        3 => ops_frame::text(p, case.a0, line),
-        4 => ops_questions::event(p, case.a0, line),
-        5 => ops_questions::samples(p, case.a0, case.a1, case.a2, case.a3, case.a4, line),
-        6 => ops_questions::counts(p, case.a0, case.a1, case.a2, case.a3, line),
-        7 => ops_writer::begin(p, case.a0, case.a1, case.a2, line),
-        8 => ops_writer::add(p, case.a0, case.a1, case.a2, case.a3, case.a4, line),
-        9 => ops_writer::add_text(p, q, case.a0, line),
-        10 => ops_writer::close(p, case.a0, line),
-        11 => ops_follower::follow(case.a0, case.a1, line),
-        12 => ops_record::record(p, line),
-        13 => ops_record::entry(p, case.a0, line),
-        14 => ops_editor::open(p, q, line),
-        15 => ops_editor::edit(p, case.a0, case.a1, case.a2, case.a3, line),
-        16 => ops_editor::restore(p, q, case.a0, line),
-        17 => ops_list::list(p, q, line),
-        _ => 0,
+        5..=6 => filled(case, p, line),
+        7..=10 | 14..=15 => {
+            let answer = written(case, p, q);
+            reply::line_left(answer, p, line)
+        }
+        16..=17 => {
+            let answer = read_out(case, p, q);
+            reply::line_left(answer, q, line)
+        }
+        _ => reply::line_of(asked(case, p), line),
     }
 }

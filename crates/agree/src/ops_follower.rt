@@ -1,6 +1,8 @@
 // The op over the follower of sequence numbers.
 use crate::cases;
 use crate::reply;
+use crate::reply::Reply;
+use book::refusal::Refusal;
 use follower::Followed;
 use follower::Follower;
 
@@ -19,14 +21,14 @@ fn code_of(state: Follower) -> u64 {
     }
 }
 
-fn told(answer: Followed, line: &mut [u8]) -> usize {
+fn told(answer: Followed) -> Reply {
     match answer {
-        Followed::Accepted { lost, next } => reply::ok2(line, lost as u64, code_of(next)),
-        Followed::Refused { number, place } => reply::refused(line, number, place),
+        Followed::Accepted { lost, next } => reply::few(2, lost as u64, code_of(next), 0),
+        Followed::Refused { number, place } => reply::refused(Refusal { number, place }),
     }
 }
 
 // Op 11: the follower in the state a0 is fed the word a1.
-pub(crate) fn follow(a0: u64, a1: u64, line: &mut [u8]) -> usize {
-    told(state_of(a0).follow(cases::low16(a1)), line)
+pub(crate) fn follow(a0: u64, a1: u64) -> Reply {
+    told(state_of(a0).follow(cases::low16(a1)))
 }

@@ -1,35 +1,32 @@
 // The ops over the questions on a frame: events, samples, counts.
 use crate::cases;
 use crate::reply;
+use crate::reply::Reply;
 use crate::sums;
-use questions::answers::Event;
 use questions::answers::EventFound;
 use questions::answers::Filled;
 
-fn told(x: Event, line: &mut [u8]) -> usize {
-    let at = reply::ok4(
-        line,
-        x.kind as u64,
-        x.timestamp,
-        x.number as u64,
-        x.size as u64,
-    );
-    reply::value(line, at, x.index as u64)
-}
-
 // Op 4: event a0 of the frame p.
-pub(crate) fn event(p: &[u8], a0: u64, line: &mut [u8]) -> usize {
+pub(crate) fn event(p: &[u8], a0: u64) -> Reply {
     let answer = questions::event::event(p, a0 as usize);
     match answer {
-        EventFound::Event(x) => told(x, line),
-        EventFound::Refused(r) => reply::refused(line, r.number, r.place),
+        EventFound::Event(x) => reply::values(
+            5,
+            x.kind as u64,
+            x.timestamp,
+            x.number as u64,
+            x.size as u64,
+            x.index as u64,
+            0,
+        ),
+        EventFound::Refused(r) => reply::refused(r),
     }
 }
 
-fn filled(answer: Filled, line: &mut [u8]) -> usize {
+fn filled(answer: Filled) -> Reply {
     match answer {
-        Filled::Done => reply::ok(line),
-        Filled::Refused(r) => reply::refused(line, r.number, r.place),
+        Filled::Done => reply::few(0, 0, 0, 0),
+        Filled::Refused(r) => reply::refused(r),
     }
 }
 
@@ -41,8 +38,8 @@ fn samples_into(
     out: &mut [u16],
     line: &mut [u8],
 ) -> usize {
-    let at = filled(questions::samples::samples(p, e, chip, channel, out), line);
-    reply::buffer(line, at, out.len(), sums::words(out))
+    let answer = filled(questions::samples::samples(p, e, chip, channel, out));
+    reply::line_with(answer, out.len(), sums::words(out), line)
 }
 
 // Op 5: samples of event a0, chip a1, channel a2 of the frame p into a3 words, each a4 before.
@@ -72,8 +69,8 @@ pub(crate) fn samples(
 }
 
 fn counts_into(p: &[u8], chip: u16, channel: u16, out: &mut [u32], line: &mut [u8]) -> usize {
-    let at = filled(questions::counts::counts(p, chip, channel, out), line);
-    reply::buffer(line, at, out.len(), sums::longs(out))
+    let answer = filled(questions::counts::counts(p, chip, channel, out));
+    reply::line_with(answer, out.len(), sums::longs(out), line)
 }
 
 // Op 6: counts of chip a0, channel a1 of the frame p into a2 words of 32 bits, each a3 before.

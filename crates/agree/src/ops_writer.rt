@@ -1,7 +1,8 @@
 // The ops over the writer: begin, add, add text, close.
 use crate::cases;
+use crate::ops::no_case;
 use crate::reply;
-use crate::sums;
+use crate::reply::Reply;
 use book::class::Class;
 use book::items::Bin;
 use book::items::Channel;
@@ -16,16 +17,11 @@ use book::items::TimeBin;
 use frame::state::Kind;
 use writer::answers::Written;
 
-fn told(answer: Written, line: &mut [u8]) -> usize {
+fn told(answer: Written) -> Reply {
     match answer {
-        Written::Length(n) => reply::ok1(line, n as u64),
-        Written::Refused(r) => reply::refused(line, r.number, r.place),
+        Written::Length(n) => reply::few(1, n as u64, 0, 0),
+        Written::Refused(r) => reply::refused(r),
     }
-}
-
-// The line with the buffer as the call left it.
-fn left(p: &[u8], line: &mut [u8], at: usize) -> usize {
-    reply::buffer(line, at, p.len(), sums::bytes(p))
 }
 
 fn kind_of(code: u64) -> Kind {
@@ -37,16 +33,8 @@ fn kind_of(code: u64) -> Kind {
 }
 
 // Op 7: begins a frame of kind a0, card a1 and sequence word a2 in p.
-pub(crate) fn begin(p: &mut [u8], a0: u64, a1: u64, a2: u64, line: &mut [u8]) -> usize {
-    let answer = writer::calls::begin(p, kind_of(a0), cases::low16(a1), cases::low16(a2));
-    let at = told(answer, line);
-    left(p, line, at)
-}
-
-fn add_item(p: &mut [u8], length: u64, item: Item, line: &mut [u8]) -> usize {
-    let answer = writer::calls::add(p, length as usize, item);
-    let at = told(answer, line);
-    left(p, line, at)
+pub(crate) fn begin(p: &mut [u8], a0: u64, a1: u64, a2: u64) -> Reply {
+    told(writer::calls::begin(p, kind_of(a0), cases::low16(a1), cases::low16(a2)))
 }
 
 // What op 8 hands over: an item, or nothing where this is no case.
@@ -138,32 +126,20 @@ fn item_asked(class: u32, a2: u64, a3: u64, a4: u64) -> Asked {
 }
 
 // Op 8: adds an item of class a1 with the fields a2, a3, a4 to p of length a0.
-pub(crate) fn add(
-    p: &mut [u8],
-    a0: u64,
-    a1: u64,
-    a2: u64,
-    a3: u64,
-    a4: u64,
-    line: &mut [u8],
-) -> usize {
+pub(crate) fn add(p: &mut [u8], a0: u64, a1: u64, a2: u64, a3: u64, a4: u64) -> Reply {
     let asked = item_asked(cases::low32(a1), a2, a3, a4);
     match asked {
-        Asked::Item(x) => add_item(p, a0, x, line),
-        Asked::Nothing => 0,
+        Asked::Item(x) => told(writer::calls::add(p, a0 as usize, x)),
+        Asked::Nothing => no_case(),
     }
 }
 
 // Op 9: adds the text q to p of length a0.
-pub(crate) fn add_text(p: &mut [u8], q: &[u8], a0: u64, line: &mut [u8]) -> usize {
-    let answer = writer::calls::add_text(p, a0 as usize, q);
-    let at = told(answer, line);
-    left(p, line, at)
+pub(crate) fn add_text(p: &mut [u8], q: &[u8], a0: u64) -> Reply {
+    told(writer::calls::add_text(p, a0 as usize, q))
 }
 
 // Op 10: closes p of length a0.
-pub(crate) fn close(p: &mut [u8], a0: u64, line: &mut [u8]) -> usize {
-    let answer = writer::calls::close(p, a0 as usize);
-    let at = told(answer, line);
-    left(p, line, at)
+pub(crate) fn close(p: &mut [u8], a0: u64) -> Reply {
+    told(writer::calls::close(p, a0 as usize))
 }
