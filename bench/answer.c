@@ -1,5 +1,5 @@
 // answer: cases on standard input (crates/agree has their format), the baseline's lines on standard output, for `second compare`. The ops that
-// are there: 1, 2, 4 to 10, 12 to 16.
+// are there: 1, 2, 4 to 10, 12 to 16, 18 and 19.
 #include "baseline.h"
 #include "cases.h"
 
@@ -76,6 +76,22 @@ static void counts(const struct a_case *c) {
     buffer(room, s);
 }
 
+static void found(struct refusal r, usize at) {
+    if (!refused(r)) printf("ok %lu", at);
+}
+
+static void sample_word(const struct a_case *c) {
+    usize at = 0;
+    const struct refusal r = baseline_sample_word(c->p, c->n, c->a[0], (u32)c->a[1], (u32)c->a[2], (u32)c->a[3], &at);
+    found(r, at);
+}
+
+static void bin_word(const struct a_case *c) {
+    usize at = 0;
+    const struct refusal r = baseline_bin_word(c->p, c->n, (u32)c->a[0], (u32)c->a[1], (u32)c->a[2], &at);
+    found(r, at);
+}
+
 static void written(struct refusal r, usize length, const struct a_case *c) {
     if (!refused(r)) printf("ok %lu", length);
     bytes(c->p, c->n);
@@ -150,6 +166,8 @@ int main(void) {
         case 14: open_record(&c); break;
         case 15: edit(&c); break;
         case 16: restore(&c); break;
+        case 18: sample_word(&c); break;
+        case 19: bin_word(&c); break;
         default: printf("bad case\n"); return 1;
         }
         printf("\n");

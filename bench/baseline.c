@@ -78,3 +78,36 @@ struct refusal baseline_counts(const u8 *s, usize n, u32 chip, u32 channel, u32 
     for (usize at = found + 1; word(s, at) >> 12 == 2; at += 3) out[word(s, at) & 4095] = word32(s, at + 1);
     return only(v);
 }
+
+struct refusal baseline_sample_word(const u8 *s, usize n, u64 ordinal, u32 chip, u32 channel, u32 time, usize *out) {
+    usize found = 0;
+    const struct question q = { .asked = A_CHANNEL, .ordinal = ordinal, .low = chip << 7 | channel };
+    const struct verdict v = judge(s, n, q, &found);
+    if (v.number) return only(v);
+    if (!found || chip > LAST_CHIP || channel > LAST_CHANNEL) return fault(ABSENT, 0);
+    usize t = 0;
+    for (usize at = found + 1;; at++) {
+        const u32 w = word(s, at);
+        if (w >> 12 == 3) {
+            if (t++ != time) continue;
+            *out = at;
+            return only(v);
+        }
+        if (w >> 9 != 7) return fault(ABSENT, 0);
+        t = w & 511;
+    }
+}
+
+struct refusal baseline_bin_word(const u8 *s, usize n, u32 chip, u32 channel, u32 bin, usize *out) {
+    usize found = 0;
+    const struct question q = { .asked = A_HISTOGRAM, .low = chip << 7 | channel };
+    const struct verdict v = judge(s, n, q, &found);
+    if (v.number) return only(v);
+    if (!found || chip > LAST_CHIP || channel > LAST_CHANNEL) return fault(ABSENT, 0);
+    for (usize at = found + 1; word(s, at) >> 12 == 2; at += 3) {
+        if ((word(s, at) & 4095) != bin) continue;
+        *out = at;
+        return only(v);
+    }
+    return fault(ABSENT, 0);
+}

@@ -83,6 +83,9 @@ struct refusal baseline_item(const u8 *s, usize n, u64 ordinal, struct item *out
 struct refusal baseline_event(const u8 *s, usize n, u64 ordinal, struct event *out);
 struct refusal baseline_samples(const u8 *s, usize n, u64 ordinal, u32 chip, u32 channel, u16 *out, usize room);
 struct refusal baseline_counts(const u8 *s, usize n, u32 chip, u32 channel, u32 *out, usize room);
+// The word index of the sample at a time, and of a bin.
+struct refusal baseline_sample_word(const u8 *s, usize n, u64 ordinal, u32 chip, u32 channel, u32 time, usize *out);
+struct refusal baseline_bin_word(const u8 *s, usize n, u32 chip, u32 channel, u32 bin, usize *out);
 
 // ---- the writer, on a partial frame in a buffer of `room` bytes; a refused call leaves buffer and draft as found
 

@@ -23,7 +23,7 @@ int clock_gettime(int clock, struct timespec *now);
 
 enum { LONGEST = 8192, RECORD = 16 + LONGEST + 16 * 512 };
 
-enum ops { READ = 1, ITEM = 2, EVENT = 4, SAMPLES = 5, COUNTS = 6, JUDGE = 12, EDIT = 15, RESTORE = 16 };
+enum ops { READ = 1, ITEM = 2, EVENT = 4, SAMPLES = 5, COUNTS = 6, JUDGE = 12, EDIT = 15, RESTORE = 16, SAMPLE_WORD = 18, BIN_WORD = 19 };
 
 // A call that is measured; `fills` has a bit for each fill that it is asked of.
 struct call {
@@ -34,10 +34,11 @@ struct call {
 
 static const struct call calls[] = {
     { "read", READ, 63 }, { "item", ITEM, 63 }, { "event", EVENT, 7 }, { "samples", SAMPLES, 5 }, { "counts", COUNTS, 8 },
+    { "sample word", SAMPLE_WORD, 5 }, { "bin word", BIN_WORD, 8 },
     { "record", JUDGE, 13 }, { "edit", EDIT, 13 }, { "restore", RESTORE, 13 },
 };
 
-static int of_record(u32 op) { return op >= JUDGE; }
+static int of_record(u32 op) { return op >= JUDGE && op <= RESTORE; }
 
 // A frame's rows go by its size in bytes, a record's by its number of entries.
 struct row {
@@ -77,6 +78,18 @@ static void last_header(const struct a_case *c, u32 class, u64 *event, u64 *chip
         *chip = x.fields[1];
         *channel = x.fields[2];
     }
+}
+
+// The last number below `most` that a word question finds.
+static u64 last_found(struct a_case *c, u64 *asked, u64 most) {
+    usize at;
+    for (*asked = most; *asked-- > 0;) {
+        const struct refusal r = c->op == SAMPLE_WORD
+            ? baseline_sample_word(c->p, c->n, c->a[0], (u32)c->a[1], (u32)c->a[2], (u32)c->a[3], &at)
+            : baseline_bin_word(c->p, c->n, (u32)c->a[0], (u32)c->a[1], (u32)c->a[2], &at);
+        if (r.number == 0) return *asked;
+    }
+    return 0;
 }
 
 // The ordinal of the last event.
@@ -135,6 +148,14 @@ static void make_question(struct row r, struct a_case *c) {
     case COUNTS:
         last_header(c, 2, &none, &c->a[0], &c->a[1]);
         c->a[2] = 4096;
+        break;
+    case SAMPLE_WORD:
+        last_header(c, 1, &c->a[0], &c->a[1], &c->a[2]);
+        c->a[3] = last_found(c, &c->a[3], 512);
+        break;
+    case BIN_WORD:
+        last_header(c, 2, &none, &c->a[0], &c->a[1]);
+        c->a[2] = last_found(c, &c->a[2], 4096);
         break;
     }
 }

@@ -46,6 +46,20 @@ static u64 counts(struct a_case *c, struct lent *out) {
     return told(plane_counts(c->p, c->n, (u16)c->a[0], (u16)c->a[1], out->counts, c->a[2]));
 }
 
+static u64 word_told(struct plane_word_found x) {
+    return x.refused ? refusal_number(x.refused, x.place) : accepted_number(0, x.word);
+}
+
+static u64 sample_word(struct a_case *c, struct lent *out) {
+    (void)out;
+    return word_told(plane_sample_word(c->p, c->n, c->a[0], (u16)c->a[1], (u16)c->a[2], (u16)c->a[3]));
+}
+
+static u64 bin_word(struct a_case *c, struct lent *out) {
+    (void)out;
+    return word_told(plane_bin_word(c->p, c->n, (u16)c->a[0], (u16)c->a[1], (u16)c->a[2]));
+}
+
 static u64 record(struct a_case *c, struct lent *out) {
     (void)out;
     const struct plane_record_found x = plane_record(c->p, c->n);
@@ -62,4 +76,4 @@ static u64 restore(struct a_case *c, struct lent *out) {
     return told(plane_restore(c->p, c->n, c->a[0], c->q, c->m));
 }
 
-const side ours[32] = { [1] = read_frame, [2] = item, [4] = event, [5] = samples, [6] = counts, [12] = record, [15] = edit, [16] = restore };
+const side ours[32] = { [1] = read_frame, [2] = item, [4] = event, [5] = samples, [6] = counts, [12] = record, [15] = edit, [16] = restore, [18] = sample_word, [19] = bin_word };

@@ -33,6 +33,20 @@ static u64 counts(struct a_case *c, struct lent *out) {
     return told(baseline_counts(c->p, c->n, (u32)c->a[0], (u32)c->a[1], out->counts, c->a[2]), 0, 0);
 }
 
+static u64 sample_word(struct a_case *c, struct lent *out) {
+    (void)out;
+    usize at = 0;
+    const struct refusal r = baseline_sample_word(c->p, c->n, c->a[0], (u32)c->a[1], (u32)c->a[2], (u32)c->a[3], &at);
+    return told(r, 0, at);
+}
+
+static u64 bin_word(struct a_case *c, struct lent *out) {
+    (void)out;
+    usize at = 0;
+    const struct refusal r = baseline_bin_word(c->p, c->n, (u32)c->a[0], (u32)c->a[1], (u32)c->a[2], &at);
+    return told(r, 0, at);
+}
+
 static u64 record(struct a_case *c, struct lent *out) {
     (void)out;
     struct record x = { 0 };
@@ -49,4 +63,4 @@ static u64 restore(struct a_case *c, struct lent *out) {
     return told(baseline_restore(c->p, c->n, c->a[0], c->q, c->m), 0, 0);
 }
 
-const side theirs[32] = { [1] = read_frame, [2] = item, [4] = event, [5] = samples, [6] = counts, [12] = record, [15] = edit, [16] = restore };
+const side theirs[32] = { [1] = read_frame, [2] = item, [4] = event, [5] = samples, [6] = counts, [12] = record, [15] = edit, [16] = restore, [18] = sample_word, [19] = bin_word };
