@@ -19,6 +19,7 @@ mod sums;
 ghost use Prim.Native.Nat.{_≤_};
 ghost use lib.ListN.{length};
 use cases::Case;
+use reply::Reply;
 
 // What a turn leaves: how many bytes of the output wait to be written, and whether a further case is to be read.
 struct After {
@@ -35,42 +36,31 @@ fn fill(payload: &mut [u8]) -> bool {
 }
 
 // Reads the payloads, which are lent at their own lengths, and answers the case.
-fn read_and_answer(case: Case, p: &mut [u8], q: &mut [u8], line: &mut [u8]) -> usize {
+fn read_and_answer(case: Case, p: &mut [u8], q: &mut [u8]) -> Reply {
     if fill(p) & fill(q) {
-        return ops::answer(case, p, q, line);
+        return ops::answer(case, p, q);
     }
-    0
+    reply::no_case()
 }
 
-// The line of a case, without the line feed, at the start of `line`: its length, or 0 where this is no case. p and q are as long as a payload
-// may be. A line that does not fit would be no case either: none is half as long.
-fn line_of(case: Case, p: &mut [u8], q: &mut [u8], line: &mut [u8]) -> usize
-    ensures { λ r. ⌜ r ≤ length (now (line .exit)) ⌝ }
-{
+// Answers a case. p and q are as long as a payload may be.
+fn answered(case: Case, p: &mut [u8], q: &mut [u8]) -> Reply {
     let n = case.n;
     let m = case.m;
     if p.len() < n {
-        return 0;
+        return reply::no_case();
     }
     if q.len() < m {
-        return 0;
+        return reply::no_case();
     }
-    let made = read_and_answer(case, &mut p[0..n], &mut q[0..m], line);
-    if made < line.len() { made } else { 0 }
+    read_and_answer(case, &mut p[0..n], &mut q[0..m])
 }
 
-// Answers a case: its line goes to the end of what waits.
-fn answered(case: Case, p: &mut [u8], q: &mut [u8], out: &mut [u8], waiting: usize) -> After {
-    let mut line = [0u8; 512];
-    let made = line_of(case, p, q, &mut line);
-    After {
-        waiting: reply::finished(out, waiting, &line, made),
-        more: 0 < made,
-    }
-}
-
-// Reads one case and answers it. Input that ends here is the end.
-fn turn(p: &mut [u8], q: &mut [u8], out: &mut [u8], waiting: usize) -> After {
+// Reads one case and adds its line to what waits. Input that ends here is the end.
+fn turn(p: &mut [u8], q: &mut [u8], out: &mut [u8], waiting: usize) -> After
+    requires { ⌜ waiting ≤ length (now out) ⌝ }
+    ensures { λ r. ⌜ r .waiting ≤ length (now (out .exit)) ⌝ }
+{
     let case = cases::read();
     if case.got == 0 {
         return After {
@@ -78,7 +68,11 @@ fn turn(p: &mut [u8], q: &mut [u8], out: &mut [u8], waiting: usize) -> After {
             more: false,
         };
     }
-    answered(case, p, q, out, waiting)
+    let answer = answered(case, p, q);
+    After {
+        waiting: reply::write(out, waiting, answer),
+        more: answer.many != Reply::NO_CASE,
+    }
 }
 
 // Writes what waits.
@@ -89,7 +83,9 @@ fn write(out: &[u8], waiting: usize) {
 }
 
 // Writes what waits if a further line might find no room, and gives how much waits from here on.
-fn flushed(out: &[u8], waiting: usize) -> usize {
+fn flushed(out: &[u8], waiting: usize) -> usize
+    ensures { λ r. ⌜ r ≤ length (now (out .entry)) ⌝ }
+{
     if waiting < out.len() / 2 {
         return waiting;
     }

@@ -1,4 +1,4 @@
-// The list of ops. Those that lend nothing to be written answer alone; the others' lines have the lent buffer too.
+// The list of ops, by what is lent to be written.
 use crate::cases::Case;
 use crate::ops_book;
 use crate::ops_editor;
@@ -10,13 +10,9 @@ use crate::ops_record;
 use crate::ops_writer;
 use crate::reply;
 use crate::reply::Reply;
+use crate::reply::no_case;
 
-// No listed op, or arguments that no case has.
-pub(crate) fn no_case() -> Reply {
-    reply::few(Reply::NO_CASE, 0, 0, 0)
-}
-
-// The ops that only read p.
+// The ops that only read p; two of them fill numbers of their own.
 fn asked(case: Case, p: &[u8]) -> Reply {
     let op = case.op;
     match op {
@@ -25,19 +21,13 @@ fn asked(case: Case, p: &[u8]) -> Reply {
         2 => ops_frame::item(p, case.a0),
         3 => ops_frame::text(p, case.a0),
         4 => ops_questions::event(p, case.a0),
+        5 => ops_questions::samples(p, case.a0, case.a1, case.a2, case.a3, case.a4),
+        6 => ops_questions::counts(p, case.a0, case.a1, case.a2, case.a3),
         11 => ops_follower::follow(case.a0, case.a1),
         12 => ops_record::record(p),
         13 => ops_record::entry(p, case.a0),
         _ => no_case(),
     }
-}
-
-// The ops that fill numbers of 16 or 32 bits.
-fn filled(case: Case, p: &[u8], line: &mut [u8]) -> usize {
-    if case.op == 5 {
-        return ops_questions::samples(p, case.a0, case.a1, case.a2, case.a3, case.a4, line);
-    }
-    ops_questions::counts(p, case.a0, case.a1, case.a2, case.a3, line)
 }
 
 // The ops that write p.
@@ -62,22 +52,21 @@ fn read_out(case: Case, p: &[u8], q: &mut [u8]) -> Reply {
     ops_list::list(p, q)
 }
 
-// Answers a case whose payloads are p and q: its line, without the line feed, at the start of `line`, and its length; 0 where it is none.
-pub(crate) fn answer(case: Case, p: &mut [u8], q: &mut [u8], line: &mut [u8]) -> usize {
+// Answers a case whose payloads are p and q.
+pub(crate) fn answer(case: Case, p: &mut [u8], q: &mut [u8]) -> Reply {
     if !case.is_allowed() {
-        return 0;
+        return no_case();
     }
     let op = case.op;
     match op {
-        5..=6 => filled(case, p, line),
         7..=10 | 14..=15 => {
             let answer = written(case, p, q);
-            reply::line_left(answer, p, line)
+            reply::left(answer, p)
         }
         16..=17 => {
             let answer = read_out(case, p, q);
-            reply::line_left(answer, q, line)
+            reply::left(answer, q)
         }
-        _ => reply::line_of(asked(case, p), line),
+        _ => asked(case, p),
     }
 }

@@ -30,31 +30,16 @@ fn filled(answer: Filled) -> Reply {
     }
 }
 
-fn samples_into(
-    p: &[u8],
-    e: usize,
-    chip: u16,
-    channel: u16,
-    out: &mut [u16],
-    line: &mut [u8],
-) -> usize {
+fn samples_into(p: &[u8], e: usize, chip: u16, channel: u16, out: &mut [u16]) -> Reply {
     let answer = filled(questions::samples::samples(p, e, chip, channel, out));
-    reply::line_with(answer, out.len(), sums::words(out), line)
+    reply::with(answer, out.len(), sums::words(out))
 }
 
 // Op 5: samples of event a0, chip a1, channel a2 of the frame p into a3 words, each a4 before.
-pub(crate) fn samples(
-    p: &[u8],
-    a0: u64,
-    a1: u64,
-    a2: u64,
-    a3: u64,
-    a4: u64,
-    line: &mut [u8],
-) -> usize {
+pub(crate) fn samples(p: &[u8], a0: u64, a1: u64, a2: u64, a3: u64, a4: u64) -> Reply {
     let n = a3 as usize;
     if 600 < n {
-        return 0;
+        return reply::no_case();
     }
     let before = cases::low16(a4);
     let mut out = [before; 600];
@@ -64,22 +49,21 @@ pub(crate) fn samples(
         cases::low16(a1),
         cases::low16(a2),
         &mut out[0..n],
-        line,
     )
 }
 
-fn counts_into(p: &[u8], chip: u16, channel: u16, out: &mut [u32], line: &mut [u8]) -> usize {
+fn counts_into(p: &[u8], chip: u16, channel: u16, out: &mut [u32]) -> Reply {
     let answer = filled(questions::counts::counts(p, chip, channel, out));
-    reply::line_with(answer, out.len(), sums::longs(out), line)
+    reply::with(answer, out.len(), sums::longs(out))
 }
 
 // Op 6: counts of chip a0, channel a1 of the frame p into a2 words of 32 bits, each a3 before.
-pub(crate) fn counts(p: &[u8], a0: u64, a1: u64, a2: u64, a3: u64, line: &mut [u8]) -> usize {
+pub(crate) fn counts(p: &[u8], a0: u64, a1: u64, a2: u64, a3: u64) -> Reply {
     let n = a2 as usize;
     if 4200 < n {
-        return 0;
+        return reply::no_case();
     }
     let before = cases::low32(a3);
     let mut out = [before; 4200];
-    counts_into(p, cases::low16(a0), cases::low16(a1), &mut out[0..n], line)
+    counts_into(p, cases::low16(a0), cases::low16(a1), &mut out[0..n])
 }

@@ -1,6 +1,5 @@
 // The ops over the writer: begin, add, add text, close.
 use crate::cases;
-use crate::ops::no_case;
 use crate::reply;
 use crate::reply::Reply;
 use book::class::Class;
@@ -130,7 +129,7 @@ pub(crate) fn add(p: &mut [u8], a0: u64, a1: u64, a2: u64, a3: u64, a4: u64) -> 
     let asked = item_asked(cases::low32(a1), a2, a3, a4);
     match asked {
         Asked::Item(x) => told(writer::calls::add(p, a0 as usize, x)),
-        Asked::Nothing => no_case(),
+        Asked::Nothing => reply::no_case(),
     }
 }
 

@@ -1,11 +1,11 @@
-// What a call answered, and its line at the start of a lent slice. The ops answer with numbers alone and lend no line: that is far cheaper to
-// prove than to hand the line through each of them. What does not fit the line is left out, so that nothing is asked of a caller.
+// What a call answered, in plain numbers, and its line. The ops are lent no line and none is handed through them: a slice costs the prover at
+// each place where it is lent, and here the output is lent at one.
 ghost use Prim.Native.Nat.{_≤_};
 ghost use lib.ListN.{length};
 use crate::sums;
 use book::refusal::Refusal;
 
-// The answer of a call: a refusal, or its values.
+// The answer of a call: a refusal, or its values; and the lent buffer as the call left it.
 pub(crate) struct Reply {
     // The refusal's number and place; 0 where the call was accepted.
     pub refused: u32,
@@ -22,10 +22,14 @@ pub(crate) struct Reply {
     pub f: u64,
     // The word index of the next item, or 0.
     pub next: usize,
+    // Whether a buffer was lent to be written, its length in elements and its check sum.
+    pub lent: bool,
+    pub elements: usize,
+    pub sum: u64,
 }
 
 impl Reply {
-    // In the place of how many values there are: the arguments are those of no case.
+    // In the place of how many values there are: this is no case.
     pub const NO_CASE: u8 = 255;
 }
 
@@ -43,6 +47,9 @@ pub(crate) fn values(many: u8, a: u64, b: u64, c: u64, d: u64, e: u64, f: u64) -
         e,
         f,
         next: 0,
+        lent: false,
+        elements: 0,
+        sum: 0,
     }
 }
 
@@ -59,135 +66,191 @@ pub(crate) fn refused(r: Refusal) -> Reply {
     }
 }
 
-// Adds a text.
-fn append(line: &mut [u8], at: usize, text: &[u8]) -> usize
-    ensures { λ r. ⌜ r ≤ length (now (line .exit)) ⌝ }
+// No listed op, or arguments that no case has.
+pub(crate) fn no_case() -> Reply {
+    few(Reply::NO_CASE, 0, 0, 0)
+}
+
+// With a lent buffer, by its length and check sum.
+pub(crate) fn with(x: Reply, elements: usize, sum: u64) -> Reply {
+    Reply {
+        lent: true,
+        elements,
+        sum,
+        ..x
+    }
+}
+
+// With lent bytes as the call left them.
+pub(crate) fn left(x: Reply, bytes: &[u8]) -> Reply {
+    with(x, bytes.len(), sums::bytes(bytes))
+}
+
+// A piece of a line: a text of at most 8 bytes, the first one lowest, or where it has no bytes a number; or nothing.
+struct Piece {
+    there: bool,
+    bytes: u8,
+    value: u64,
+}
+
+fn text(there: bool, bytes: u8, value: u64) -> Piece {
+    Piece {
+        there,
+        bytes,
+        value,
+    }
+}
+
+fn number(there: bool, value: u64) -> Piece {
+    Piece {
+        there,
+        bytes: 0,
+        value,
+    }
+}
+
+// How many pieces a line has at most.
+const PIECES: u8 = 14;
+
+const AT: u64 = 0x746120; // " at"
+
+const BAD_CASE: u64 = 0x6573616320646162; // "bad case"
+
+const BAR: u64 = 0x7C20; // " |"
+
+const NEXT: u64 = 0x7478656E20; // " next"
+
+const OK: u64 = 0x6B6F; // "ok"
+
+const REFUSED: u64 = 0x64657375666572; // "refused"
+
+// Piece k of what an accepted call answers.
+fn accepted_piece(x: Reply, k: u8) -> Piece {
+    let many = x.many;
+    match k {
+        0 => text(true, 2, OK),
+        1 => text(0 < x.letter, 2, 32 + 256 * (x.letter as u64)),
+        2 => number(1 <= many, x.a),
+        3 => number(2 <= many, x.b),
+        4 => number(3 <= many, x.c),
+        5 => number(4 <= many, x.d),
+        6 => number(5 <= many, x.e),
+        7 => number(6 <= many, x.f),
+        8 => text(0 < x.next, 5, NEXT),
+        _ => number(0 < x.next, x.next as u64),
+    }
+}
+
+// Piece k of a refusal.
+fn refused_piece(x: Reply, k: u8) -> Piece {
+    match k {
+        0 => text(true, 7, REFUSED),
+        1 => number(true, x.refused as u64),
+        2 => text(true, 3, AT),
+        3 => number(true, x.place as u64),
+        _ => number(false, 0),
+    }
+}
+
+// Piece k of the lent buffer and of the line's end.
+fn last_piece(x: Reply, k: u8) -> Piece {
+    match k {
+        10 => text(x.lent, 2, BAR),
+        11 => number(x.lent, x.elements as u64),
+        12 => number(x.lent, x.sum),
+        _ => text(true, 1, 10),
+    }
+}
+
+// Piece k of a line.
+fn piece_at(x: Reply, k: u8) -> Piece {
+    if x.many == Reply::NO_CASE {
+        if k == 0 {
+            return text(true, 8, BAD_CASE);
+        }
+        return text(k == PIECES - 1, 1, 10);
+    }
+    if 10 <= k {
+        return last_piece(x, k);
+    }
+    if x.refused == 0 {
+        return accepted_piece(x, k);
+    }
+    refused_piece(x, k)
+}
+
+fn byte(n: u64) -> u8 {
+    (n % 256) as u8
+}
+
+// The bytes of a number, the lowest first.
+fn unpacked(n: u64) -> [u8; 8] {
+    let high = n / 4294967296;
+    [
+        byte(n),
+        byte(n / 256),
+        byte(n / 65536),
+        byte(n / 16777216),
+        byte(high),
+        byte(high / 256),
+        byte(high / 65536),
+        byte(high / 16777216),
+    ]
+}
+
+// Adds bytes to the output, as far as there is room.
+fn append(out: &mut [u8], at: usize, bytes: &[u8]) -> usize
+    ensures { λ r. ⌜ r ≤ length (now (out .exit)) ⌝ }
 {
-    let room = line.len();
+    let room = out.len();
     if room <= at {
         return room;
     }
-    book::words::copy(text, &mut line[at..]);
-    if text.len() <= room - at {
-        return at + text.len();
+    book::words::copy(bytes, &mut out[at..]);
+    if bytes.len() <= room - at {
+        return at + bytes.len();
     }
     room
 }
 
 // Adds a space and a number in decimals, with no leading zero.
-fn value(line: &mut [u8], at: usize, n: u64) -> usize
-    ensures { λ r. ⌜ r ≤ length (now (line .exit)) ⌝ }
+fn put_number(out: &mut [u8], at: usize, n: u64) -> usize
+    ensures { λ r. ⌜ r ≤ length (now (out .exit)) ⌝ }
 {
     let mut digits = [0u8; 20];
     let k = io::decimal(n, &mut digits);
-    let next = append(line, at, b" ");
-    append(line, next, &digits[0..k])
+    let next = append(out, at, b" ");
+    append(out, next, &digits[0..k])
 }
 
-// Adds the value where it is one of so many.
-fn valued(line: &mut [u8], at: usize, there: bool, n: u64) -> usize
-    ensures { λ r. ⌜ r ≤ length (now (line .exit)) ⌝ }
-{
-    if there {
-        return value(line, at, n);
-    }
-    append(line, at, b"")
-}
-
-// Adds the values of an accepted call.
-fn valued_all(line: &mut [u8], at: usize, x: Reply) -> usize
-    ensures { λ r. ⌜ r ≤ length (now (line .exit)) ⌝ }
-{
-    let many = x.many;
-    let one = valued(line, at, 1 <= many, x.a);
-    let two = valued(line, one, 2 <= many, x.b);
-    let three = valued(line, two, 3 <= many, x.c);
-    let four = valued(line, three, 4 <= many, x.d);
-    let five = valued(line, four, 5 <= many, x.e);
-    valued(line, five, 6 <= many, x.f)
-}
-
-// Adds the letter, where there is one.
-fn lettered(line: &mut [u8], at: usize, letter: u8) -> usize
-    ensures { λ r. ⌜ r ≤ length (now (line .exit)) ⌝ }
-{
-    if letter == 0 {
-        return append(line, at, b"");
-    }
-    append(line, at, &[32, letter])
-}
-
-// Adds where the next item begins, where this is said.
-fn followed(line: &mut [u8], at: usize, next: usize) -> usize
-    ensures { λ r. ⌜ r ≤ length (now (line .exit)) ⌝ }
-{
-    if next == 0 {
-        return append(line, at, b"");
-    }
-    let end = append(line, at, b" next");
-    value(line, end, next as u64)
-}
-
-fn accepted_line(line: &mut [u8], x: Reply) -> usize
-    ensures { λ r. ⌜ r ≤ length (now (line .exit)) ⌝ }
-{
-    let start = append(line, 0, b"ok");
-    let letter = lettered(line, start, x.letter);
-    let next = x.next;
-    let all = valued_all(line, letter, x);
-    followed(line, all, next)
-}
-
-fn refused_line(line: &mut [u8], number: u32, place: usize) -> usize
-    ensures { λ r. ⌜ r ≤ length (now (line .exit)) ⌝ }
-{
-    let start = append(line, 0, b"refused");
-    let end = value(line, start, number as u64);
-    let at = append(line, end, b" at");
-    value(line, at, place as u64)
-}
-
-// The line of an answer, and its length; 0 for no case.
-pub(crate) fn line_of(x: Reply, line: &mut [u8]) -> usize
-    ensures { λ r. ⌜ r ≤ length (now (line .exit)) ⌝ }
-{
-    if x.many == Reply::NO_CASE {
-        return 0;
-    }
-    if x.refused == 0 {
-        return accepted_line(line, x);
-    }
-    refused_line(line, x.refused, x.place)
-}
-
-// The line of an answer, with the length of a lent buffer and its check sum.
-pub(crate) fn line_with(x: Reply, elements: usize, sum: u64, line: &mut [u8]) -> usize
-    ensures { λ r. ⌜ r ≤ length (now (line .exit)) ⌝ }
-{
-    let at = line_of(x, line);
-    if at == 0 {
-        return 0;
-    }
-    let next = append(line, at, b" |");
-    let end = value(line, next, elements as u64);
-    value(line, end, sum)
-}
-
-// The line of an answer, with lent bytes as the call left them.
-pub(crate) fn line_left(x: Reply, left: &[u8], line: &mut [u8]) -> usize
-    ensures { λ r. ⌜ r ≤ length (now (line .exit)) ⌝ }
-{
-    line_with(x, left.len(), sums::bytes(left), line)
-}
-
-// Adds the first `made` bytes of a line and a line feed; where there are none, what is said of a bad case.
-pub(crate) fn finished(out: &mut [u8], at: usize, line: &[u8], made: usize) -> usize
-    requires { ⌜ made ≤ length (now line) ⌝ }
+// Adds a piece.
+fn put(out: &mut [u8], at: usize, x: Piece) -> usize
+    requires { ⌜ at ≤ length (now out) ⌝ }
     ensures { λ r. ⌜ r ≤ length (now (out .exit)) ⌝ }
 {
-    if made == 0 {
-        return append(out, at, b"bad case\n");
+    if !x.there {
+        return at;
     }
-    let end = append(out, at, &line[0..made]);
-    append(out, end, b"\n")
+    if x.bytes == 0 {
+        return put_number(out, at, x.value);
+    }
+    let n = x.bytes as usize;
+    if 8 < n {
+        return at;
+    }
+    append(out, at, &unpacked(x.value)[0..n])
+}
+
+// Adds the line of an answer, with its line feed.
+pub(crate) fn write(out: &mut [u8], at: usize, x: Reply) -> usize
+    requires { ⌜ at ≤ length (now out) ⌝ }
+    ensures { λ r. ⌜ r ≤ length (now (out .exit)) ⌝ }
+{
+    let mut end = at;
+    let mut k = 0;
+    while k < PIECES {
+        end = put(out, end, piece_at(x, k));
+        k += 1;
+    }
+    end
 }

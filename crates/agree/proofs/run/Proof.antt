@@ -1,6 +1,7 @@
--- `agree::run` is safe and ends. The measure is the number of turns that are left; the three buffers keep their lengths.
+-- `agree::run` is safe and ends. The measure is the number of turns that are left; the three buffers keep their lengths, and what waits lies in the output.
 -- Assumes nothing.
 use mathlib.Core.Path.{_≡_}
+use Prim.Native.Nat.{_≤_}
 use borrow.Author.Needs.{needs}
 use lib.ListN.{length}
 use Rattle.agree.proofs.run.Statement.{statement}
@@ -8,7 +9,7 @@ use Rattle.agree.proofs.run.Tie as tie
 
 abbrev Inv-loop : tie.InvT-loop
 Inv-loop p₀ q₀ out₀ turns₀ waiting₀ more₀ p q out turns waiting more =
-    (length p ≡ length p₀) × (length q ≡ length q₀) × (length out ≡ length out₀)
+    (length p ≡ length p₀) × (length q ≡ length q₀) × (length out ≡ length out₀) × (waiting ≤ length out)
 
 abbrev μ-loop : tie.MeasureT-loop
 μ-loop p₀ q₀ out₀ turns₀ waiting₀ more₀ p q out turns waiting more = turns
