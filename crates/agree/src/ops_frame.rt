@@ -3,11 +3,11 @@ use crate::reply;
 use crate::sums;
 use book::class::Class;
 use book::items::Item;
+use cursor::standing::FoundItem;
 use frame::items::Found;
-use frame::items::FoundItem;
 use frame::reading::Frame;
 use frame::reading::Reading;
-use frame::state::Kind;
+use rules::state::Kind;
 
 // The letter of a kind.
 fn letter(kind: Kind, line: &mut [u8], at: usize) -> usize {
