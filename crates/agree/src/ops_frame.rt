@@ -6,7 +6,7 @@ use book::class::Class;
 use book::items::Item;
 use frame::items::Found;
 use frame::reading::Reading;
-use frame::state::Kind;
+use rules::state::Kind;
 
 // The letter of a kind: D, M or C.
 fn letter(kind: Kind) -> u8 {

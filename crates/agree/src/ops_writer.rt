@@ -13,7 +13,7 @@ use book::items::LastCell;
 use book::items::Sample;
 use book::items::StartEvent;
 use book::items::TimeBin;
-use frame::state::Kind;
+use rules::state::Kind;
 use writer::answers::Written;
 
 fn told(answer: Written) -> Reply {

@@ -1,7 +1,8 @@
 // The class of a word, and the questions on a frame and its items.
 ghost use mathlib.Core.Path.{_≡_};
 ghost use Rattle.book.specs.Views.{viewItem};
-ghost use Rattle.frame.specs.Views.{viewKind, viewReading, viewFound};
+ghost use Rattle.rules.specs.Views.{viewKind};
+ghost use Rattle.frame.specs.Views.{viewReading, viewFound};
 ghost use Rattle.exports.specs.Flat.{kindNumber, row, blank, flatItem, flatFrame, flatFound};
 ghost use Rattle.exports.specs.Promises.{ClassNumbered, FrameTold, ItemTold, TextPart};
 use crate::answers::PlaneFound;
@@ -15,7 +16,7 @@ use frame::items::Found;
 use frame::items::item;
 use frame::reading::Reading;
 use frame::reading::read;
-use frame::state::Kind;
+use rules::state::Kind;
 
 // The row of a word's class in document 01's word book, from 1 on; 0 where it has none.
 #[no_mangle]

@@ -23,7 +23,7 @@ use book::items::TimeBin;
 use book::refusal::Refusal;
 use frame::begun::Partial;
 use frame::partial::partial;
-use frame::state::Kind;
+use rules::state::Kind;
 use writer::answers::Written;
 use writer::calls::add;
 use writer::calls::add_text;

@@ -1,10 +1,7 @@
-pub mod Turns
 pub mod Steps
-pub mod TextLoops
 pub mod Repeating
 pub mod Loop
 pub mod Judging
-pub mod Shows
 pub mod Finding
 pub mod Unique
 pub mod PartialTurns

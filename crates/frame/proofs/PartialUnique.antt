@@ -10,7 +10,7 @@ use Rattle.frame.specs.declared.begun.PartialFrame.{PartialFrame}
 use Rattle.frame.specs.declared.begun.Partial.{Partial}
 use Rattle.frame.specs.declared.begun.Partial.the-variants as partial
 use Rattle.frame.specs.PartialViews.{viewPartialFrame, viewPartial}
-use Rattle.frame.proofs.Unique.{same-kind, same-state}
+use Rattle.rules.proofs.Unique.{same-kind, same-state}
 
 inner : (a b : PartialOverview) → accepted a ≡ accepted b → a ≡ b
 inner a b e = cc

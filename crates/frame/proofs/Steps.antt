@@ -18,7 +18,9 @@ use Rattle.format.specs.Items.{Item, Channel, Histogram, HitCount, Sample, Bin,
 use Rattle.format.specs.Rules.{ReaderMode, outside, inside, afterChannel, afterTime, afterSample, unheaded, headed, commands, allowed, among, bad}
 use Rattle.format.specs.Steps.{ReaderState, placeBy, checkBy, Stepped, stopped, marked, stepOf}
 use Rattle.format.proofs.reader.TurnLaws.{Stands, step-at, stop-at, alone, no-class, not-there, bin-there, start-there, end-there, end-broken, text-there, text-broken}
-use Rattle.frame.specs.Views.{tested, endTested, textTested}
+use Rattle.cursor.specs.Promises.{TextClosed}
+use Rattle.cursor.proofs.TextLoops.{closed-there}
+use Rattle.rules.specs.Views.{tested, endTested, textTested}
 use Rattle.book.specs.Fields.{channelOf, histogramOf, hitsOf, cellOf, channelItem, histogramItem, hitsItem, sampleItem, cellItem, timeItem}
 use Rattle.book.specs.declared.items.Channel as ch
 use Rattle.book.specs.declared.items.Histogram as hi
@@ -201,18 +203,18 @@ module _ (card : ℕ) (s : List ℕ) (last at w : ℕ) (st : ReaderState) (e : w
     unfolding checkBy
     text-bad next = refl
 
-    pub text-step : Bytes s → (r : Stepped) (t : Bool) (n m : ℕ) → text ≡ classOf w → n ≡ w % 256 → m ≡ textWords w → at + 1 + m ≤ last
-        → t ≡ closed n (take (2 * (at + 1 + m) - 2 * (at + 1)) (drop (2 * (at + 1)) s))
+    pub text-step : Bytes s → (r : Stepped) (t : Bool) (m : ℕ) → text ≡ classOf w → m ≡ textWords w → at + 1 + m ≤ last
+        → TextClosed (take (2 * (at + 1 + m) - 2 * (at + 1)) (drop (2 * (at + 1)) s)) w t
         → r ≡ marked (at + 1 + m) (textTested st t) → r ≡ stepOf card s last at st
     unfolding textTested
-    text-step y r t n m k i j l g q =
+    text-step y r t m k j l g q =
         let v : ℕ = wordAt s at in
         let b : List ℕ = bytes (take (textWords v) (drop (at + 1) (take last (words s)))) in
         let jv : m ≡ textWords v = j ∙ ap textWords e in
         let two : 2 * (at + 1 + m) - 2 * (at + 1) ≡ 2 * textWords v = omega arith in
         let p : b ≡ take (2 * textWords v) (drop (2 * (at + 1)) s) = payload-bytes s last at (textWords v) y room (omega arith) in
         let yb : Bytes b = subst Bytes (sym p) (below-take (2 * textWords v) (drop (2 * (at + 1)) s) 256 (omega arith) (below-drop (2 * (at + 1)) s 256 y)) in
-        let h : t ≡ closed (v % 256) b = g ∙ ap₂ closed (i ∙ ap (λ (u : ℕ). u % 256) e) (ap (λ (z : ℕ). take z (drop (2 * (at + 1)) s)) two ∙ sym p) in
+        let h : t ≡ closed (v % 256) b = closed-there s at m w t j (omega arith) g ∙ ap₂ closed (ap (λ (u : ℕ). u % 256) e) (ap (λ (z : ℕ). take z (drop (2 * (at + 1)) s)) two ∙ sym p) in
         let q′ : r ≡ marked (at + 1 + textWords v) (textTested st t) = q ∙ ap (λ (z : ℕ). marked (at + 1 + z) (textTested st t)) jv in
         go b yb refl (k ∙ ap classOf e) (subst (λ (z : ℕ). at + 1 + z ≤ last) jv l) t h q′
       where

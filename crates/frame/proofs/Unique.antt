@@ -1,22 +1,14 @@
 -- T40: what an answer says on paper fixes the answer, since each view is injective. So each promise has one answer (Once.antt).
 -- Assumes nothing.
 use Prim.Native.Nat.{ℕ}
-use mathlib.Core.Path.{_≡_, refl, sym, ap, ap₂}
-use mathlib.Core.Option.{Option, none, some}
+use mathlib.Core.Path.{_≡_, sym, ap, ap₂}
 use native.Mathlib.Omega.{arith}
 use Rattle.format.specs.Answers.{accepted, refused}
-use Rattle.format.specs.Rules as rules
 use Rattle.format.specs.Steps as steps
-use Rattle.format.specs.Steps.{ReaderState, Stepped, moved, stopped, Summary, Overview}
-use Rattle.format.specs.Questions.{Shown}
-use Rattle.book.proofs.Unique.{undone, same-item, same-refusal}
-use Rattle.frame.specs.declared.state.Kind.{Kind}
-use Rattle.frame.specs.declared.state.Kind.the-variants as kind
-use Rattle.frame.specs.declared.state.Mode.{Mode}
-use Rattle.frame.specs.declared.state.Mode.the-variants as mode
-use Rattle.frame.specs.declared.state.State.{State}
-use Rattle.frame.specs.declared.rules.Step.{Step}
-use Rattle.frame.specs.declared.rules.Step.the-variants as step
+use Rattle.format.specs.Steps.{Summary, Overview}
+use Rattle.book.proofs.Unique.{undone, same-refusal}
+use Rattle.cursor.proofs.Unique.{same-found-item}
+use Rattle.rules.proofs.Unique.{kindBack, kind-back, stateBack, state-back}
 use Rattle.frame.specs.declared.walk.Summary as declared
 use Rattle.frame.specs.declared.walk.Walked.{Walked}
 use Rattle.frame.specs.declared.walk.Walked.the-variants as walk
@@ -25,68 +17,9 @@ use Rattle.frame.specs.declared.reading.Reading.{Reading}
 use Rattle.frame.specs.declared.reading.Reading.the-variants as reading
 use Rattle.frame.specs.declared.reading.Indexed.{Indexed}
 use Rattle.frame.specs.declared.reading.Indexed.the-variants as indexed
-use Rattle.frame.specs.declared.items.FoundItem.{FoundItem}
 use Rattle.frame.specs.declared.items.Found.{Found}
 use Rattle.frame.specs.declared.items.Found.the-variants as found
-use Rattle.frame.specs.declared.cursor.Standing.{Standing}
-use Rattle.frame.specs.declared.cursor.Standing.the-variants as standing
-use Rattle.frame.specs.Views.{viewKind, viewMode, viewState, viewStep, viewSummary, viewWalk, viewFrame, viewReading, viewIndexed, viewFoundItem, viewFound, viewStanding}
-
-abbrev kindBack : rules.Kind → Kind
-kindBack rules.dataKind = kind.Data
-kindBack rules.monitorKind = kind.Monitor
-kindBack rules.commandKind = kind.Command
-
-kind-back : (r : Kind) → kindBack (viewKind r) ≡ r
-kind-back kind.Data = refl
-kind-back kind.Monitor = refl
-kind-back kind.Command = refl
-
-pub same-kind : (r q : Kind) → viewKind r ≡ viewKind q → r ≡ q
-same-kind = undone viewKind kindBack kind-back
-
-abbrev modeBack : rules.ReaderMode → Mode
-modeBack rules.outside = mode.Outside
-modeBack rules.inside = mode.Inside
-modeBack rules.afterChannel = mode.AfterChannel
-modeBack rules.afterTime = mode.AfterTime
-modeBack rules.afterSample = mode.AfterSample
-modeBack rules.unheaded = mode.Unheaded
-modeBack rules.headed = mode.Headed
-modeBack rules.commands = mode.Commands
-
-mode-back : (r : Mode) → modeBack (viewMode r) ≡ r
-mode-back mode.Outside = refl
-mode-back mode.Inside = refl
-mode-back mode.AfterChannel = refl
-mode-back mode.AfterTime = refl
-mode-back mode.AfterSample = refl
-mode-back mode.Unheaded = refl
-mode-back mode.Headed = refl
-mode-back mode.Commands = refl
-
-pub same-mode : (r q : Mode) → viewMode r ≡ viewMode q → r ≡ q
-same-mode = undone viewMode modeBack mode-back
-
-abbrev stateBack : ReaderState → State
-stateBack st = record { mode = modeBack (st .mode); key = st .key; next = st .next; opener = st .opener }
-
-state-back : (r : State) → stateBack (viewState r) ≡ r
-state-back r = λ i. record { mode = mode-back (r .mode) i; key = r .key; next = r .next; opener = r .opener }
-
-pub same-state : (r q : State) → viewState r ≡ viewState q → r ≡ q
-same-state = undone viewState stateBack state-back
-
-abbrev stepBack : Stepped → Step
-stepBack (moved st next) = step.Moved (stateBack st) next
-stepBack (stopped n) = step.Stopped n
-
-step-back : (r : Step) → stepBack (viewStep r) ≡ r
-step-back (step.Moved st next) = ap (λ (s : State). step.Moved s next) (state-back st)
-step-back (step.Stopped n) = refl
-
-pub same-step : (r q : Step) → viewStep r ≡ viewStep q → r ≡ q
-same-step = undone viewStep stepBack step-back
+use Rattle.frame.specs.Views.{viewSummary, viewWalk, viewFrame, viewReading, viewIndexed, viewFound}
 
 abbrev frameBack : Overview → Frame
 frameBack f = record { kind = kindBack (f .kind); card = f .card; sequence = f .sequence; items = f .items; state = stateBack (f .state) }
@@ -131,26 +64,8 @@ same-walk (walk.Ended x) (walk.Refused n) e = neither _ _ _ e
 same-walk (walk.Refused n) (walk.Ended x) e = neither _ _ _ (sym e)
 same-walk (walk.Refused n) (walk.Refused m) e = ap walk.Refused (same-refusal n m e)
 
-same-found-item : (r q : FoundItem) → viewFoundItem r ≡ viewFoundItem q → r ≡ q
-same-found-item r q e =
-    let a = same-item (r .item) (q .item) (ap (λ (x : Shown). x .item) e) in
-    let b : r .next ≡ q .next = ap (λ (x : Shown). x .next) e in
-    λ i. record { item = a i; next = b i }
-
 pub same-found : (r q : Found) → viewFound r ≡ viewFound q → r ≡ q
 same-found (found.Item x) (found.Item y) e = ap found.Item (same-found-item x y (inner _ _ e))
 same-found (found.Item x) (found.Refused n) e = neither _ _ _ e
 same-found (found.Refused n) (found.Item x) e = neither _ _ _ (sym e)
 same-found (found.Refused n) (found.Refused m) e = ap found.Refused (same-refusal n m e)
-
-none-some : {A : Type 0} (x : Shown) → _≡_ {A = Option Shown} none (some x) → A
-none-some x e = let z : _≡_ {A = ℕ} 0 1 = cc in absurd (omega arith)
-
-pub same-standing : (r q : Standing) → viewStanding r ≡ viewStanding q → r ≡ q
-same-standing (standing.Item x) (standing.Item y) e = ap standing.Item (same-found-item x y (held _ _ e))
-  where
-    held : (a b : Shown) → some a ≡ some b → a ≡ b
-    held a b f = cc
-same-standing (standing.Item x) standing.Nothing e = none-some _ (sym e)
-same-standing standing.Nothing (standing.Item y) e = none-some _ e
-same-standing standing.Nothing standing.Nothing e = refl

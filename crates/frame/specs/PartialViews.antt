@@ -3,7 +3,7 @@
 use Rattle.format.specs.Answers.{Outcome, accepted}
 use Rattle.format.specs.PartialSteps.{PartialOverview}
 use Rattle.book.specs.Views.{refusal}
-use Rattle.frame.specs.Views.{viewKind, viewState}
+use Rattle.rules.specs.Views.{viewKind, viewState}
 use Rattle.frame.specs.declared.begun.Partial.{Partial}
 use Rattle.frame.specs.declared.begun.Partial.the-variants as partial
 use Rattle.frame.specs.declared.begun.PartialFrame.{PartialFrame}

@@ -1,7 +1,7 @@
 // What judging a partial frame answers.
-use crate::state::Kind;
-use crate::state::State;
 use book::refusal::Refusal;
+use rules::state::Kind;
+use rules::state::State;
 
 // An accepted partial frame: what its first words say, and the state behind its items.
 pub struct PartialFrame {

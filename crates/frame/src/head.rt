@@ -3,13 +3,11 @@ ghost use mathlib.Core.Path.{_≡_};
 ghost use mathlib.Core.Bool.{true};
 ghost use Rattle.format.specs.Book.{classOf};
 ghost use Rattle.format.specs.Frames.{startFits, kindOf, headFault};
-ghost use Rattle.frame.specs.Views.{viewKind};
-use crate::state::Kind;
-use book::class::Class;
-use book::class::classify;
+ghost use Rattle.rules.specs.Views.{viewKind};
 use book::refusal::Refusal;
 use book::words::word;
 use follower::Follower;
+use rules::state::Kind;
 
 // The fewest and the most bytes of a frame.
 pub const LEAST: usize = 8;

@@ -3,18 +3,13 @@ ghost use mathlib.Core.Path.{_≡_};
 ghost use Rattle.book.specs.Views.{viewItem};
 ghost use Rattle.frame.specs.Parts.{textCount};
 ghost use Rattle.frame.specs.Promises.{ItemAnswered, TextAnswered};
-use crate::cursor::Standing;
-use crate::cursor::item_at;
 use crate::reading::Indexed;
 use crate::reading::judge;
 use book::items::Item;
 use book::refusal::Refusal;
-
-// An item, and the index of the next one, or of the end word.
-pub struct FoundItem {
-    pub item: Item,
-    pub next: usize,
-}
+use cursor::standing::FoundItem;
+use cursor::standing::Standing;
+use cursor::standing::item_at;
 
 pub enum Found {
     Item(FoundItem),

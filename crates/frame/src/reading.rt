@@ -1,19 +1,20 @@
 // The verdict on a frame, and the item at an ordinal.
 ghost use mathlib.Core.Path.{_≡_};
 ghost use Rattle.format.specs.Steps.{indexOf};
-ghost use Rattle.frame.specs.Views.{viewKind, viewSummary, viewIndexed, endingOf};
+ghost use Rattle.rules.specs.Views.{viewKind};
+ghost use Rattle.frame.specs.Views.{viewSummary, viewIndexed, endingOf};
 ghost use Rattle.frame.specs.Promises.{ReadAs};
 use crate::head::head_fault;
 use crate::head::kind_of;
-use crate::state::Kind;
-use crate::state::State;
-use crate::state::may_end;
 use crate::walk::Summary;
 use crate::walk::Walked;
 use crate::walk::walk;
 use book::items::LAST_CARD;
 use book::refusal::Refusal;
 use book::words::word;
+use rules::state::Kind;
+use rules::state::State;
+use rules::state::may_end;
 
 // An accepted frame: what its first words say, how many items it has, and the state behind them.
 pub struct Frame {

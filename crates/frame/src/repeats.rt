@@ -7,17 +7,17 @@ ghost use lib.ListN.{length};
 ghost use lib.Dec.{eqb};
 ghost use mathlib.Core.Bool.{false, _&&_};
 ghost use Rattle.format.specs.Rules.{inside, afterSample, headed};
-ghost use Rattle.frame.specs.Views.{viewState};
+ghost use Rattle.rules.specs.Views.{viewState};
 ghost use Rattle.frame.specs.Repeats.{Turns, Repeated};
 use crate::head::MOST;
 use crate::inside::long;
 use crate::inside::word;
-use crate::state::Mode;
-use crate::state::State;
 use book::class::Class;
 use book::items::Bin;
 use book::items::HitCount;
 use book::items::TimeBin;
+use rules::state::Mode;
+use rules::state::State;
 
 // A channel's samples have times below this.
 const TIMES: u32 = TimeBin::LAST as u32 + 1;

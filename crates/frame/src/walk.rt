@@ -6,26 +6,13 @@ ghost use lib.Dec.{eqb};
 ghost use Rattle.format.specs.Words.{pick, wordAt};
 ghost use Rattle.format.specs.Book as book;
 ghost use Rattle.format.specs.Steps.{stepOf, summed};
-ghost use Rattle.frame.specs.Views.{viewKind, viewState, viewStep, viewWalk};
+ghost use Rattle.rules.specs.Views.{viewKind, viewState, viewStep};
+ghost use Rattle.frame.specs.Views.{viewWalk};
 use crate::inside::long;
 use crate::inside::time;
 use crate::inside::word;
 use crate::repeats::ahead;
 use crate::repeats::repeats_at;
-use crate::rules::Step;
-use crate::rules::bin;
-use crate::rules::channel;
-use crate::rules::end_event;
-use crate::rules::histogram;
-use crate::rules::hit_count;
-use crate::rules::last_cell;
-use crate::rules::sample;
-use crate::rules::start_event;
-use crate::rules::text;
-use crate::rules::time_bin;
-use crate::state::Kind;
-use crate::state::State;
-use crate::texts::is_closed;
 use book::class::Class;
 use book::class::classify;
 use book::class::text_words;
@@ -37,9 +24,22 @@ use book::items::HitCount;
 use book::items::LastCell;
 use book::items::Sample;
 use book::items::StartEvent;
-use book::items::Text;
 use book::items::TimeBin;
 use book::refusal::Refusal;
+use cursor::texts::is_closed;
+use rules::state::Kind;
+use rules::state::State;
+use rules::steps::Step;
+use rules::steps::bin;
+use rules::steps::channel;
+use rules::steps::end_event;
+use rules::steps::histogram;
+use rules::steps::hit_count;
+use rules::steps::last_cell;
+use rules::steps::sample;
+use rules::steps::start_event;
+use rules::steps::text;
+use rules::steps::time_bin;
 
 // A Bin's number in its word, its count in the two words after it.
 fn bin_at(s: &[u8], last: usize, at: usize, w: u16, st: State) -> Step
@@ -97,10 +97,9 @@ fn text_at(s: &[u8], last: usize, at: usize, w: u16, st: State) -> Step
     if last < next {
         return Step::Stopped(Refusal::CUT);
     }
-    let length = Text::of_word(w).length as usize;
     let from = 2 * (at + 1);
     let to = 2 * next;
-    let closed = is_closed(&s[from..to], length);
+    let closed = is_closed(&s[from..to], w);
     text(st, closed, next)
 }
 

@@ -5,7 +5,7 @@ ghost use Prim.Native.Nat.{_+_, _*_, _≤_};
 ghost use lib.ListN.{length};
 ghost use Rattle.ledger.specs.Records.{lengthIn, entryOf};
 ghost use Rattle.ledger.specs.VersionOne.{versionOne};
-ghost use Rattle.frame.specs.Views.{viewKind};
+ghost use Rattle.rules.specs.Views.{viewKind};
 ghost use Rattle.listing.specs.Ascii.{ascii};
 ghost use Rattle.listing.specs.Text.{decimal};
 ghost use Rattle.listing.specs.Listing.{letter, kindText, changeText, signerText, frameLine, entryLine, endLine, refusedLine, entryLines};
@@ -14,9 +14,9 @@ use crate::pieces::field;
 use crate::pieces::hex;
 use crate::pieces::text;
 use book::refusal::Refusal;
-use frame::state::Kind;
 use records::answers::Entry;
 use records::entries::entry_of;
+use rules::state::Kind;
 
 // The start of a frame's line, with its kind's letter.
 fn kind_start(line: &mut [u8], kind: Kind) -> usize

@@ -2,7 +2,7 @@
 ghost use Prim.Native.Nat.{_≤_};
 ghost use lib.ListN.{length};
 ghost use Rattle.format.specs.Questions.{present, past, isHistogram, countsLeft};
-ghost use Rattle.frame.specs.Views.{viewKind};
+ghost use Rattle.rules.specs.Views.{viewKind};
 ghost use Rattle.questions.specs.Views.{viewFilled};
 ghost use Rattle.format.specs.Cursor.{itemsFrom};
 ghost use Rattle.questions.specs.Sought.{Amid, HistogramSought, Filling};
@@ -16,7 +16,7 @@ use crate::scan::seek_histogram;
 use book::refusal::Refusal;
 use frame::reading::Reading;
 use frame::reading::read;
-use frame::state::Kind;
+use rules::state::Kind;
 
 // Where the bins of a histogram begin: only a monitor frame has histograms.
 fn find_histogram(s: &[u8], kind: Kind, chip: u16, channel: u16) -> Place

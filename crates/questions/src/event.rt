@@ -3,7 +3,7 @@ ghost use mathlib.Core.Path.{_≡_};
 ghost use Prim.Native.Nat.{_+_, _<_};
 ghost use lib.ListN.{length};
 ghost use Rattle.format.specs.Rules.{dataKind};
-ghost use Rattle.frame.specs.Views.{viewKind};
+ghost use Rattle.rules.specs.Views.{viewKind};
 ghost use Rattle.questions.specs.Views.{eventOf, viewEvent};
 ghost use Rattle.format.specs.Cursor.{itemsFrom};
 ghost use Rattle.questions.specs.Sought.{Amid, openedAt, EventSought, eventIn};
@@ -20,7 +20,7 @@ use book::words::time;
 use book::words::word;
 use frame::reading::Reading;
 use frame::reading::read;
-use frame::state::Kind;
+use rules::state::Kind;
 
 // Where event e begins: only a data frame has events.
 pub(crate) fn find_event(s: &[u8], kind: Kind, e: usize) -> Place

@@ -2,7 +2,7 @@
 ghost use Prim.Native.Nat.{_≤_};
 ghost use lib.ListN.{length};
 ghost use Rattle.format.specs.Questions.{channelIn, samplesLeft};
-ghost use Rattle.frame.specs.Views.{viewKind};
+ghost use Rattle.rules.specs.Views.{viewKind};
 ghost use Rattle.questions.specs.Views.{viewFilled};
 ghost use Rattle.format.specs.Cursor.{itemsFrom};
 ghost use Rattle.questions.specs.Sought.{Amid, SamplesSought, Filling};
@@ -17,7 +17,7 @@ use crate::scan::seek_channel;
 use book::refusal::Refusal;
 use frame::reading::Reading;
 use frame::reading::read;
-use frame::state::Kind;
+use rules::state::Kind;
 
 // Where the samples of a channel begin: behind its header, in event e.
 fn find_channel(s: &[u8], kind: Kind, e: usize, chip: u16, channel: u16) -> Place

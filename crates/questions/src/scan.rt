@@ -15,8 +15,8 @@ use book::items::Channel;
 use book::items::Histogram;
 use book::items::Item;
 use book::words::long;
-use frame::cursor::Standing;
-use frame::cursor::item_at;
+use cursor::standing::Standing;
+use cursor::standing::item_at;
 
 // The index of a frame's first item.
 pub(crate) const FIRST: usize = 3;

@@ -29,7 +29,7 @@ use Rattle.format.proofs.book.RangeLaws.{bin-is, sample-is, hits-is, histogram-
 use Rattle.format.proofs.verdict.HeadLaws.{head-of}
 use Rattle.format.proofs.reader.CursorLaws.{last-is, Turn, turn, answered, nothing-answered, channel-turn, histogram-turn, hits-turn, sample-turn, bin-turn}
 use Rattle.format.proofs.spots.ScanLaws.{shown-head, shown-spot, Blank, Ahead, ahead-start, blank-first, Passed, pass, ahead-end}
-use Rattle.frame.proofs.Shows.{sample-shown, bin-shown}
+use Rattle.cursor.proofs.Shows.{sample-shown, bin-shown}
 use Rattle.ledger.specs.Frames.{Accepted}
 use Rattle.ledger.specs.PlaneFrames.{planeFrames, plane-frames-judge}
 use Rattle.ledger.proofs.plane.PlaneFrames.{plane-frames-lawful}

@@ -27,7 +27,7 @@ use crate::values::put_in;
 use crate::values::put_value;
 use book::items::Item;
 use book::words::copy;
-use frame::cursor::Standing;
+use cursor::standing::Standing;
 
 // The word noted for a word.
 fn head_at(map: &[u16], w: usize) -> u16

@@ -7,7 +7,7 @@ ghost use Rattle.format.specs.Words.{wordAt, longAt};
 ghost use Rattle.format.specs.Spots as spots;
 ghost use Rattle.format.specs.Cursor.{standingAt, shownBy};
 ghost use Rattle.format.specs.Scans.{headBy, headerAt, Noted};
-ghost use Rattle.frame.specs.Views.{viewStanding};
+ghost use Rattle.cursor.specs.Views.{viewStanding};
 ghost use Rattle.book.specs.Views.{viewItem};
 ghost use Rattle.ledger.specs.Frames.{Accepted};
 ghost use Rattle.ledger.specs.PlaneFrames.{planeFrames};
@@ -20,9 +20,9 @@ use book::class::Class;
 use book::items::Bin;
 use book::items::Item;
 use book::items::Sample;
-use frame::cursor::Standing;
-use frame::cursor::item_at;
-use frame::items::FoundItem;
+use cursor::standing::FoundItem;
+use cursor::standing::Standing;
+use cursor::standing::item_at;
 
 // The index of a frame's first item.
 const FIRST: usize = 3;

@@ -34,16 +34,18 @@ use Rattle.format.proofs.front.Demand2 as format2
 use Rattle.book.specs.declared.items.Item.{Item}
 use Rattle.book.specs.declared.refusal.Refusal.{Refusal}
 use Rattle.book.proofs.Unique.{same-item}
-use Rattle.frame.specs.declared.state.Kind.{Kind}
-use Rattle.frame.specs.declared.state.Kind.the-variants as kind
+use Rattle.rules.specs.declared.state.Kind.{Kind}
+use Rattle.rules.specs.declared.state.Kind.the-variants as kind
 use Rattle.frame.specs.declared.reading.Frame.{Frame}
 use Rattle.frame.specs.declared.reading.Reading.{Reading}
 use Rattle.frame.specs.declared.reading.Reading.the-variants as reading
-use Rattle.frame.specs.declared.items.FoundItem.{FoundItem}
+use Rattle.cursor.specs.declared.standing.FoundItem.{FoundItem}
 use Rattle.frame.specs.declared.items.Found.{Found}
 use Rattle.frame.specs.declared.items.Found.the-variants as found
-use Rattle.frame.specs.Views.{viewKind, viewFrame, viewReading}
-use Rattle.frame.proofs.Unique.{same-kind, same-reading, same-found}
+use Rattle.rules.specs.Views.{viewKind}
+use Rattle.frame.specs.Views.{viewFrame, viewReading}
+use Rattle.rules.proofs.Unique.{same-kind}
+use Rattle.frame.proofs.Unique.{same-reading, same-found}
 use Rattle.frame.specs.Promises.{ReadAs, ItemAnswered, TextAnswered}
 use Rattle.writer.specs.declared.answers.Written.{Written}
 use Rattle.writer.specs.declared.answers.Written.the-variants as written

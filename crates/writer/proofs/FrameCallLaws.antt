@@ -13,8 +13,9 @@ use Rattle.format.specs.WriterCalls.{callsDone, addAll}
 use Rattle.format.specs.Handing.{ItemAnswer, Answers, tokenOfCall, callOf, writeCalls}
 use Rattle.format.specs.Handing as handing
 use Rattle.format.proofs.writer.Completeness.{begin-on, begin-stops, add-on, add-stops, close-on}
-use Rattle.frame.specs.declared.state.Kind.{Kind}
-use Rattle.frame.specs.Views.{viewKind, viewFoundItem}
+use Rattle.rules.specs.declared.state.Kind.{Kind}
+use Rattle.cursor.specs.Views.{viewFoundItem}
+use Rattle.rules.specs.Views.{viewKind}
 use Rattle.writer.specs.declared.answers.Written.{Written}
 use Rattle.writer.specs.declared.answers.Written.the-variants as written
 use Rattle.writer.specs.Views.{viewWritten}

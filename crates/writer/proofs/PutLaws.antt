@@ -26,7 +26,7 @@ use Rattle.book.specs.declared.items.Item as handed
 use Rattle.book.specs.declared.items.Item.the-variants as item
 use Rattle.book.specs.declared.items.StartEvent as start
 use Rattle.book.proofs.FieldLaws.{channel-words, histogram-words, hits-words, sample-words, bin-words, cell-words, time-words, start-words, end-words}
-use Rattle.frame.specs.Views.{tested, endTested, textTested}
+use Rattle.rules.specs.Views.{tested, endTested, textTested}
 use Rattle.writer.specs.Views.{timeCut, itemBytes, textBytes, lettered, roomIn, answeredBy, placed, placedLeft}
 use Rattle.writer.proofs.StoreTurns.{zero-behind}
 

@@ -11,9 +11,9 @@ use Rattle.format.specs.PartialSteps as steps
 use Rattle.format.specs.PartialSteps.{PutWrote}
 use Rattle.book.specs.declared.items.Item.{Item}
 use Rattle.book.proofs.Unique.{one, same-refusal}
-use Rattle.frame.specs.declared.state.Kind.{Kind}
-use Rattle.frame.specs.declared.state.State.{State}
-use Rattle.frame.proofs.Unique.{same-state}
+use Rattle.rules.specs.declared.state.Kind.{Kind}
+use Rattle.rules.specs.declared.state.State.{State}
+use Rattle.rules.proofs.Unique.{same-state}
 use Rattle.writer.specs.declared.answers.Written.{Written}
 use Rattle.writer.specs.declared.answers.Written.the-variants as written
 use Rattle.writer.specs.declared.answers.Put.{Put}

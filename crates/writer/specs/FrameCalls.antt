@@ -17,11 +17,11 @@ use Rattle.book.specs.declared.items.Item.{Item}
 use Rattle.book.specs.declared.items.Item.the-variants as item
 use Rattle.book.specs.declared.refusal.Refusal.{Refusal}
 use Rattle.book.specs.Views.{viewItem}
-use Rattle.frame.specs.declared.state.Kind.{Kind}
+use Rattle.rules.specs.declared.state.Kind.{Kind}
 use Rattle.frame.specs.declared.reading.Frame.{Frame}
 use Rattle.frame.specs.declared.reading.Reading.{Reading}
 use Rattle.frame.specs.declared.reading.Reading.the-variants as reading
-use Rattle.frame.specs.declared.items.FoundItem.{FoundItem}
+use Rattle.cursor.specs.declared.standing.FoundItem.{FoundItem}
 use Rattle.frame.specs.declared.items.Found.the-variants as found
 use Rattle.frame.specs.Promises.{ItemAnswered, TextAnswered}
 use Rattle.writer.specs.declared.answers.Written.{Written}

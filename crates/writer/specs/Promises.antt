@@ -8,9 +8,9 @@ use Rattle.format.specs.Writing.{beginAnswer, beginLeft, given, addAnswer, addL
 use Rattle.format.specs.PartialSteps.{putAnswer, putLeft, PutWrote}
 use Rattle.book.specs.declared.items.Item.{Item}
 use Rattle.book.specs.Views.{viewItem}
-use Rattle.frame.specs.declared.state.Kind.{Kind}
-use Rattle.frame.specs.declared.state.State.{State}
-use Rattle.frame.specs.Views.{viewKind, viewState}
+use Rattle.rules.specs.declared.state.Kind.{Kind}
+use Rattle.rules.specs.declared.state.State.{State}
+use Rattle.rules.specs.Views.{viewKind, viewState}
 use Rattle.writer.specs.declared.answers.Written.{Written}
 use Rattle.writer.specs.declared.answers.Put.{Put}
 use Rattle.writer.specs.Views.{viewWritten, viewPut}

@@ -14,7 +14,7 @@ use Rattle.book.specs.Views.{refusal}
 use Rattle.book.specs.Fields.{channelWord, histogramWord, hitsWord, sampleWord, binWord, cellWord, timeBinWord, startWord}
 use Rattle.book.specs.declared.items.Item.{Item}
 use Rattle.book.specs.declared.items.Item.the-variants as item
-use Rattle.frame.specs.Views.{viewState}
+use Rattle.rules.specs.Views.{viewState}
 use Rattle.writer.specs.declared.answers.Written.{Written}
 use Rattle.writer.specs.declared.answers.Written.the-variants as written
 use Rattle.writer.specs.declared.answers.Put.{Put}

@@ -1,6 +1,6 @@
 // What the writer answers; a refusal left every byte as found.
 use book::refusal::Refusal;
-use frame::state::State;
+use rules::state::State;
 
 // The new length of the partial frame, or of the closed one.
 pub enum Written {

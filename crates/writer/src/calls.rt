@@ -3,7 +3,7 @@ ghost use mathlib.Core.Path.{_≡_};
 ghost use Prim.Native.Nat.{_%_};
 ghost use Rattle.format.specs.Frames.{startWord};
 ghost use Rattle.format.specs.Writing.{beginAnswer, closeAnswer};
-ghost use Rattle.frame.specs.Views.{viewKind};
+ghost use Rattle.rules.specs.Views.{viewKind};
 ghost use Rattle.writer.specs.Views.{viewWritten, viewPut, lengthOf, refuse};
 ghost use Rattle.writer.specs.Promises.{Begun, Added, AddedText, Closed};
 use crate::answers::Put;
@@ -20,8 +20,8 @@ use frame::head::LAST_SEQUENCE;
 use frame::head::LEAST;
 use frame::partial::FEWEST;
 use frame::partial::partial;
-use frame::state::Kind;
-use frame::state::may_end;
+use rules::state::Kind;
+use rules::state::may_end;
 
 // A refusal.
 fn refused(number: u32, place: usize) -> Written

@@ -18,14 +18,15 @@ use Rattle.format.specs.Faults.{Refused}
 use Rattle.format.specs.Stands.{indexOf}
 use Rattle.format.specs.Handing.{StandsFor, CallsWrote}
 use Rattle.book.specs.declared.refusal.Refusal.{Refusal}
-use Rattle.frame.specs.declared.state.Kind.{Kind}
+use Rattle.rules.specs.declared.state.Kind.{Kind}
 use Rattle.frame.specs.declared.reading.Frame.{Frame}
 use Rattle.frame.specs.declared.reading.Reading.{Reading}
 use Rattle.frame.specs.declared.reading.Reading.the-variants as reading
-use Rattle.frame.specs.declared.items.FoundItem.{FoundItem}
+use Rattle.cursor.specs.declared.standing.FoundItem.{FoundItem}
 use Rattle.frame.specs.declared.items.Found.{Found}
 use Rattle.frame.specs.declared.items.Found.the-variants as found
-use Rattle.frame.specs.Views.{viewKind, viewFrame}
+use Rattle.rules.specs.Views.{viewKind}
+use Rattle.frame.specs.Views.{viewFrame}
 use Rattle.frame.specs.Promises.{ReadAs, ItemAnswered, TextAnswered}
 use Rattle.writer.specs.declared.answers.Written.{Written}
 use Rattle.writer.specs.declared.answers.Written.the-variants as written

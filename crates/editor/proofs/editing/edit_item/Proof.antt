@@ -12,7 +12,7 @@ use Rattle.format.specs.Spots.{spotOf, headed}
 use Rattle.book.specs.Views.{viewItem}
 use Rattle.book.specs.declared.items.Item.{Item}
 use Rattle.ledger.specs.Records.{frameIn}
-use Rattle.frame.specs.Views.{viewFoundItem, viewStanding}
+use Rattle.cursor.specs.Views.{viewFoundItem, viewStanding}
 use Rattle.records.specs.Views.{viewHeader, viewHeaderFound}
 use Rattle.records.proofs.Scanning.{other-spot}
 use Rattle.editor.proofs.KnownLaws.{sum, inside}

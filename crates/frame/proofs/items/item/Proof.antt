@@ -3,8 +3,9 @@
 use mathlib.Core.Path.{ap, sym, _∙_}
 use Rattle.format.specs.Questions.{present}
 use Rattle.format.proofs.reader.Placed.{item-standing}
-use Rattle.frame.specs.declared.cursor.Standing.{Standing}
-use Rattle.frame.specs.Views.{viewIndexed, viewStanding}
+use Rattle.cursor.specs.declared.standing.Standing.{Standing}
+use Rattle.cursor.specs.Views.{viewStanding}
+use Rattle.frame.specs.Views.{viewIndexed}
 use Rattle.frame.proofs.Finding.{shown-refused}
 use borrow.Author.Needs.{needs}
 use Rattle.frame.proofs.items.item.Statement.{statement}

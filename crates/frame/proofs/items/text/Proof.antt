@@ -7,7 +7,8 @@ use denote.Ref.{now, ptr}
 use Rattle.format.specs.Answers.{accepted}
 use Rattle.format.specs.Questions.{shownAt}
 use Rattle.frame.specs.Parts.{partFrom}
-use Rattle.frame.specs.Views.{viewFound, viewFoundItem}
+use Rattle.cursor.specs.Views.{viewFoundItem}
+use Rattle.frame.specs.Views.{viewFound}
 use Rattle.frame.proofs.Finding.{text-refused, text-none, Part, text-part}
 use borrow.Author.Needs.{needs}
 use Rattle.frame.proofs.items.text.Statement.{statement}

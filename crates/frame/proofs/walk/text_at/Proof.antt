@@ -24,12 +24,6 @@ add-next-2 c = search needs
 returns : tie.Need-returns
 returns c = λ k. let a = c .before .before .before .args in let p = c .before .before .before .pre in cut-step k (now (a .s)) (a .last) (a .at) (a .w) _ (p .2) (p .1) text _ (p .3) refl (sym (c .before .text-words .ensures)) (p .0) (omega arith)
 
-of-word-requires : tie.Need-of-word-requires
-of-word-requires c κs = search needs
-
-cast-length : tie.Need-cast-length
-cast-length c = search needs
-
 add-from : tie.Need-add-from
 add-from c = search needs
 
@@ -55,7 +49,11 @@ text-requires : tie.Need-text-requires
 text-requires c κs = search needs
 
 returns-2 : tie.Need-returns-2
-returns-2 c = λ k. let start = c .before .before .before .before .before .before .before .before in let a = start .args in let p = start .pre in text-step k (now (a .s)) (a .last) (a .at) (a .w) _ (p .2) (p .1) (λ i. (c .before .before .before .before .before .before .before .shared-slice-known .given i) .fits) _ _ _ _ (p .3) (c .before .before .before .before .of-word .ensures) (c .before .before .before .before .before .before .text-words .ensures) (omega arith) (c .before .is-closed .ensures) (c .text .ensures)
+returns-2 c = λ k.
+    let words = c .before .before .before .before in
+    let a = words .before .before .args in
+    let p = words .before .before .pre in
+    text-step k (now (a .s)) (a .last) (a .at) (a .w) _ (p .2) (p .1) (λ i. (words .before .shared-slice-known .given i) .fits) _ _ _ (p .3) (words .text-words .ensures) (omega arith) (c .before .is-closed .ensures) (c .text .ensures)
 
 pub text-at-spec : {M : Type 1} → statement M
 text-at-spec =
@@ -66,8 +64,6 @@ text-at-spec =
     add-next
     add-next-2
     returns
-    of-word-requires
-    cast-length
     add-from
     mul-from
     mul-to

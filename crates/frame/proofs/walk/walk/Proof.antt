@@ -5,7 +5,7 @@ use mathlib.Core.Path.{ap}
 use native.Mathlib.Omega.{arith}
 use lib.ListN.{length}
 use borrow.Author.Needs.{needs}
-use Rattle.frame.specs.Views.{viewKind, viewState, viewStep}
+use Rattle.rules.specs.Views.{viewKind, viewState, viewStep}
 use Rattle.frame.proofs.Loop.{Live, live-start, live-moved, live-run, live-stopped, live-end, live-few}
 use Rattle.frame.proofs.walk.walk.Statement.{statement}
 use Rattle.frame.proofs.walk.walk.Tie as tie

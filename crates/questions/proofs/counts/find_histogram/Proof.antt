@@ -2,8 +2,8 @@
 -- Assumes nothing.
 use denote.Ref.{now}
 use mathlib.Core.Path.{ap, subst}
-use Rattle.frame.specs.declared.state.Kind.{Kind}
-use Rattle.frame.specs.Views.{viewKind}
+use Rattle.rules.specs.declared.state.Kind.{Kind}
+use Rattle.rules.specs.Views.{viewKind}
 use Rattle.questions.specs.Sought.{Amid}
 use Rattle.questions.proofs.CountsAnswers.{in-data, in-command}
 use borrow.Author.Needs.{needs}

@@ -4,7 +4,7 @@ use Prim.Native.Nat.{_-_}
 use mathlib.Core.Path.{_≡_, refl, sym, ap, _∙_}
 use native.Mathlib.Omega.{arith}
 use Rattle.format.specs.Frames.{lastOf}
-use Rattle.frame.specs.Views.{viewStanding}
+use Rattle.cursor.specs.Views.{viewStanding}
 use Rattle.questions.proofs.Turns.{amid-range, next-further, nothing-there}
 use Rattle.questions.proofs.HistogramScan.{Seeking, seeking-start, seeking-bin, seeking-header, seeking-hit, seeking-next, seeking-found, seeking-none}
 use borrow.Author.Needs.{needs}

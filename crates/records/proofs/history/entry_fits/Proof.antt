@@ -6,7 +6,7 @@ use mathlib.Core.Path.{refl, ap, sym, _∙_}
 use Rattle.format.specs.Spots.{spotOf}
 use Rattle.book.specs.Views.{viewItem}
 use Rattle.book.specs.declared.items.Item.{Item}
-use Rattle.frame.specs.Views.{viewStanding}
+use Rattle.cursor.specs.Views.{viewStanding}
 use Rattle.records.proofs.Scanning.{other-spot}
 use Rattle.records.proofs.UndoLaws.{noted-item, unnoted-fits, nothing-fits, other-fits, item-fits}
 use borrow.Author.Needs.{needs}

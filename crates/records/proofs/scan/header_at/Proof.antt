@@ -1,7 +1,7 @@
 -- `records::scan::header_at` meets its contract.
 -- Assumes nothing.
 use mathlib.Core.Path.{ap, sym, _∙_}
-use Rattle.frame.specs.Views.{viewStanding}
+use Rattle.cursor.specs.Views.{viewStanding}
 use Rattle.records.proofs.Scanning.{header-shown, header-nothing}
 use borrow.Author.Needs.{needs}
 use Rattle.records.proofs.scan.header_at.Statement.{statement}

@@ -6,7 +6,7 @@ use lib.ListN.{length, length-set}
 use native.Mathlib.Omega.{arith}
 use borrow.Author.Needs.{needs}
 use Rattle.format.specs.Frames.{lastOf}
-use Rattle.frame.specs.Views.{viewStanding}
+use Rattle.cursor.specs.Views.{viewStanding}
 use Rattle.records.proofs.Scanning.{Noting, note-start, tested-before, note-before, note-plain, note-bin, note-header, note-short, note-item, note-end}
 use Rattle.records.proofs.scan.note_heads.Statement.{statement}
 use Rattle.records.proofs.scan.note_heads.Tie as tie

@@ -4,7 +4,7 @@ use Prim.Native.Nat.{_-_}
 use mathlib.Core.Path.{refl, ap, sym, _∙_}
 use native.Mathlib.Omega.{arith}
 use Rattle.format.specs.Frames.{lastOf}
-use Rattle.frame.specs.Views.{viewStanding}
+use Rattle.cursor.specs.Views.{viewStanding}
 use borrow.Author.Needs.{needs}
 use Rattle.records.proofs.Scanning.{Seeking, seek-start, seek-found, seek-next, seek-end}
 use Rattle.records.proofs.scan.spot_in.Statement.{statement}

@@ -2,7 +2,7 @@
 -- Assumes nothing.
 use mathlib.Core.Path.{ap}
 use native.Mathlib.Omega.{arith}
-use Rattle.frame.specs.Views.{viewStep}
+use Rattle.rules.specs.Views.{viewStep}
 use Rattle.writer.proofs.PutLaws.{turned-away, comes-in, no-room, room-there}
 use borrow.Author.Needs.{needs}
 use Rattle.writer.proofs.steps.answered.Statement.{statement}

@@ -3,7 +3,7 @@
 use denote.Ref.{now}
 use mathlib.Core.Path.{sym, ap, _∙_}
 use native.Mathlib.Omega.{arith}
-use Rattle.frame.specs.Views.{viewStep}
+use Rattle.rules.specs.Views.{viewStep}
 use Rattle.writer.specs.Views.{viewPut, pieceBytes}
 use Rattle.writer.proofs.PutLaws.{roomy, kept, stored}
 use borrow.Author.Needs.{needs}

@@ -6,7 +6,7 @@ use mathlib.Core.Path.{_≡_, sym, ap, _∙_}
 use native.Mathlib.Omega.{arith}
 use lib.ListN.{length}
 use lib.Seq.{sets}
-use Rattle.frame.specs.Views.{viewStep}
+use Rattle.rules.specs.Views.{viewStep}
 use Rattle.writer.specs.Views.{viewPut, textBytes, lettered}
 use Rattle.writer.proofs.StoreTurns.{text-size}
 use Rattle.writer.proofs.PutLaws.{roomy, kept, stored}

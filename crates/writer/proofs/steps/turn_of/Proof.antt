@@ -1,7 +1,7 @@
 -- `writer::steps::turn_of` meets its contract.
 -- Assumes nothing.
 use Rattle.format.specs.Steps.{checkBy}
-use Rattle.frame.specs.Views.{textTested}
+use Rattle.rules.specs.Views.{textTested}
 use borrow.Author.Needs.{needs}
 use Rattle.writer.proofs.steps.turn_of.Statement.{statement}
 use Rattle.writer.proofs.steps.turn_of.Tie as tie

@@ -1,0 +1,4 @@
+pub mod TextLoops
+pub mod Shows
+pub mod Unique
+pub mod Once
