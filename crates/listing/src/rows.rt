@@ -16,6 +16,7 @@ use crate::pieces::text;
 use book::refusal::Refusal;
 use frame::state::Kind;
 use records::answers::Entry;
+use records::answers::Spot;
 use records::entries::entry_of;
 
 // The start of a frame's line, with its kind's letter.
@@ -56,7 +57,7 @@ fn old_value(line: &mut [u8], at: usize, kind: u16, old: u32) -> usize
     requires { ⌜ at + 28 ≤ length (now line) ⌝ }
     ensures { λ r. ⌜ Put 28 (now (line .entry)) at (kindText kind ++ decimal old) (now (line .exit)) r ⌝ }
 {
-    if kind == 1 {
+    if kind == Spot::SAMPLE {
         return field(line, at, b" sample ", old as u64);
     }
     field(line, at, b" bin ", old as u64)
