@@ -6,14 +6,14 @@ ghost use Rattle.ledger.specs.Frames.{Accepted};
 ghost use Rattle.ledger.specs.Records.{lengthIn, entriesTo, fitsItem, fits, historyVerdict};
 ghost use Rattle.ledger.specs.VersionOne.{versionOne};
 ghost use Rattle.ledger.specs.PlaneFrames.{planeFrames};
-ghost use Rattle.format.specs.Spots.{Header, headed};
-ghost use Rattle.records.specs.Views.{viewHeaderFound, asEntry, unfit};
+ghost use Rattle.format.specs.Spots as spots;
+ghost use Rattle.records.specs.Views.{viewSpot, asEntry, unfit};
 ghost use Rattle.records.specs.Undoing.{Heads, Undoing};
 ghost use Rattle.records.specs.Promises.{SignedBy, Undone, UndoneFrom};
 use crate::answers::Entry;
-use crate::answers::HeaderFound;
 use crate::answers::Record;
 use crate::answers::Spot;
+use crate::answers::SpotFound;
 use crate::entries::entry_in;
 use crate::entries::entry_of;
 use crate::scan::NONE;
@@ -21,6 +21,7 @@ use crate::scan::header_at;
 use crate::scan::item_noted;
 use crate::scan::long_in;
 use crate::scan::note_heads;
+use crate::scan::spot_of;
 use crate::scan::word_in;
 use crate::values::legal;
 use crate::values::put_in;
@@ -28,6 +29,7 @@ use crate::values::put_value;
 use book::items::Item;
 use book::words::copy;
 use frame::cursor::Standing;
+use frame::cursor::item_at;
 
 // The word noted for a word.
 fn head_at(map: &[u16], w: usize) -> u16
@@ -51,7 +53,7 @@ pub fn signed(operator: u32, reason: u32) -> bool
 
 // Whether an entry fits an item of the kind with the value; none of its tests asks for the item's header.
 fn fits_item(e: Entry, kind: u16, value: u32) -> bool
-    ensures { λ r. ⌜ ((h : Header) → r ≡ fitsItem planeFrames versionOne (asEntry e) (record { kind = kind; value = value; header = h })) ⌝ }
+    ensures { λ r. ⌜ ((h : spots.Header) → r ≡ fitsItem planeFrames versionOne (asEntry e) (record { kind = kind; value = value; header = h })) ⌝ }
 {
     let named = signed(e.operator as u32, e.reason as u32);
     (kind == e.kind) & (value == e.new) & legal(kind, e.old) & (e.old != e.new) & named
@@ -79,16 +81,22 @@ fn entry_fits(f: &[u8], map: &[u16], e: Entry) -> bool
     }
 }
 
-// The header of word w of a frame whose headers are noted in the map.
-pub(crate) fn header_found(f: &[u8], map: &[u16], w: usize) -> HeaderFound
+// What stands at word w of a frame whose headers are noted in the map: the item answer there is taken apart, under its header.
+pub(crate) fn spot_noted(f: &[u8], map: &[u16], w: usize) -> SpotFound
     requires { ⌜ Undoing (now map) (now f) ⌝ }
-    ensures { λ r. ⌜ viewHeaderFound r ≡ headed (now (f .entry)) w ⌝ }
+    ensures { λ r. ⌜ viewSpot r ≡ planeFrames .spot (now (f .entry)) w ⌝ }
 {
     let head = head_at(map, w);
     if head == NONE {
-        return HeaderFound::Nothing;
+        return SpotFound::Nothing;
     }
-    HeaderFound::Header(header_at(f, head))
+    let header = header_at(f, head);
+    let standing = item_at(f, w);
+    let Standing::Item(found) = standing else {
+        return SpotFound::Nothing;
+    };
+    let item = found.item;
+    spot_of(item, header)
 }
 
 // Takes the old value of an entry as standing: an entry that fits says by its own kind where the value is, so the frame is not walked.

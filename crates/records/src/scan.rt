@@ -85,7 +85,7 @@ pub(crate) fn header_at(f: &[u8], head: u16) -> Header
 }
 
 // An item under a header as a spot: anything but a Sample or Bin is nothing.
-fn spot_of(item: Item, header: Header) -> SpotFound
+pub(crate) fn spot_of(item: Item, header: Header) -> SpotFound
     ensures { λ r. ⌜ viewSpot r ≡ spots.spotOf (viewHeader header) (viewItem item) ⌝ }
 {
     match item {

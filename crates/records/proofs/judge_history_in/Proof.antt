@@ -8,8 +8,8 @@ use Rattle.records.proofs.judge_history_in.Tie as tie
 history-in-requires : tie.Need-history-in-requires
 history-in-requires c κs = search needs
 
-header-found-requires : tie.Need-header-found-requires
-header-found-requires c κs =
+spot-noted-requires : tie.Need-spot-noted-requires
+spot-noted-requires c κs =
     let h = c .before .before .before .before .before .before in
     record { frame = h .before .before .before .before .before .before .before .pre .0; heads = h .history-in .ensures .1 }
 
@@ -23,7 +23,7 @@ returns : tie.Need-returns
 returns c =
     let t = c .before .before in
     let h = t .before .before .before .before .before in
-    told-accepted _ _ _ _ _ (h .history-in .ensures .0) (t .if1 .taken) _ (c .header-found .ensures)
+    told-accepted _ _ _ _ _ (h .history-in .ensures .0) (t .if1 .taken) _ (c .spot-noted .ensures)
 
 same-length-3 : tie.Need-same-length-3
 same-length-3 c = search needs
@@ -39,7 +39,7 @@ judge-history-in-spec =
     tie.close
     (tie.spec
     history-in-requires
-    header-found-requires
+    spot-noted-requires
     same-length
     same-length-2
     returns
