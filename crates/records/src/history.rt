@@ -8,6 +8,7 @@ ghost use Rattle.ledger.specs.VersionOne.{versionOne};
 ghost use Rattle.ledger.specs.PlaneFrames.{planeFrames};
 ghost use Rattle.format.specs.Spots as spots;
 ghost use Rattle.records.specs.Views.{viewSpot, asEntry, unfit};
+ghost use Rattle.records.specs.Stored.{stored};
 ghost use Rattle.records.specs.Undoing.{Heads, Undoing};
 ghost use Rattle.records.specs.Promises.{SignedBy, Undone, UndoneFrom};
 use crate::answers::Entry;
@@ -99,11 +100,26 @@ pub(crate) fn spot_noted(f: &[u8], map: &[u16], w: usize) -> SpotFound
     spot_of(item, header)
 }
 
-// Takes the old value of an entry as standing: an entry that fits says by its own kind where the value is, so the frame is not walked.
+// Takes the old value of an entry as standing: an entry that fits says by its own kind where the value is, so the frame is not walked. Its word index
+// has 16 bits, so that one test tells whether the words surely lie in the frame, as in every record: then no byte is tested again.
+fn undo_at(f: &mut [u8], kind: u16, w: u16, old: u32)
+    ensures { λ _. ⌜ now (f .exit) ≡ stored (now (f .entry)) kind w old ⌝ }
+{
+    let at = w as usize;
+    if at + 2 < f.len() / 2 {
+        if legal(kind, old) {
+            put_in(f, kind, at, old);
+        }
+        return;
+    }
+    put_value(f, kind, at, old);
+}
+
+// Undoes an entry.
 pub fn undo(f: &mut [u8], e: Entry)
     ensures { λ _. ⌜ Undone (now (f .entry)) e (now (f .exit)) ⌝ }
 {
-    put_value(f, e.kind, e.word as usize, e.old);
+    undo_at(f, e.kind, e.word, e.old);
 }
 
 // Undoes the entry that a slice begins with; of one that is whole no more is read than that takes.
@@ -114,10 +130,10 @@ pub fn undo_from(f: &mut [u8], s: &[u8])
         undo(f, entry_of(s));
         return;
     }
-    let kind = word_in(s, 1);
-    let at = word_in(s, 0) as usize;
-    let old = long_in(s, 2);
-    put_value(f, kind, at, old);
+    let kind = word_in(s, Entry::KIND_WORD);
+    let at = word_in(s, Entry::INDEX_WORD);
+    let old = long_in(s, Entry::OLD_WORD);
+    undo_at(f, kind, at, old);
 }
 
 // The number of the newest entry that does not fit, or 0: the entries from number n down, undone in f.
@@ -139,7 +155,8 @@ fn walk_back(f: &mut [u8], map: &[u16], b: &[u8], h: usize, n: usize) -> usize
     0
 }
 
-// The same over a copy of the frame, made in f, with its headers noted in a map of zeros.
+// The same over a copy of the frame, made in f, with its headers noted in a map of zeros. A copy and not the frame itself: the frame is lent to be
+// read only and a refused call changes nothing, but each entry is judged on the frame as it stood before the newer ones were made.
 fn unwind(f: &mut [u8], map: &mut [u16], frame: &[u8], b: &[u8], n: usize) -> usize
     requires { ⌜ Accepted planeFrames (now frame) × (length (now f) ≡ length (now frame)) × (4096 ≤ length (now map)) × ((i : ℕ) → getD (now map) i 0 ≡ 0) × (length (now frame) ≡ lengthIn (now b)) × (16 + lengthIn (now b) + 16 * n ≤ length (now b)) ⌝ }
     ensures { λ r. ⌜ (unfit r ≡ historyVerdict planeFrames versionOne (now (frame .entry)) (entriesTo versionOne (now (b .entry)) n)) × Heads (now (frame .entry)) (now (map .exit)) ⌝ }

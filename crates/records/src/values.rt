@@ -78,8 +78,7 @@ pub(crate) fn put_in(f: &mut [u8], kind: u16, w: usize, value: u32)
     word_put(f, 2 * w + 4, (value / 65536) as u16);
 }
 
-// Puts a value in the item of the kind whose first word is word w; leaves the bytes where an item of that kind may not hold it. Where the words surely
-// lie in the frame, as in every record, it is put with no test at each byte.
+// Puts a value in the item of the kind whose first word is word w, as far as there is room; leaves the bytes where an item of that kind may not hold it.
 pub fn put_value(f: &mut [u8], kind: u16, w: usize, value: u32)
     ensures { λ _. ⌜ ValuePut (now (f .entry)) kind w value (now (f .exit)) ⌝ }
 {
@@ -87,10 +86,6 @@ pub fn put_value(f: &mut [u8], kind: u16, w: usize, value: u32)
         return;
     }
     if legal(kind, value) {
-        if w + 2 < f.len() / 2 {
-            put_in(f, kind, w, value);
-            return;
-        }
         put_legal(f, kind, w, value);
     }
 }
