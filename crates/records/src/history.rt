@@ -157,26 +157,11 @@ fn walk_back(f: &mut [u8], map: &[u16], b: &[u8], h: usize, n: usize) -> usize
 
 // The same over a copy of the frame, made in f, with its headers noted in a map of zeros. A copy and not the frame itself: the frame is lent to be
 // read only and a refused call changes nothing, but each entry is judged on the frame as it stood before the newer ones were made.
-fn unwind(f: &mut [u8], map: &mut [u16], frame: &[u8], b: &[u8], n: usize) -> usize
+pub(crate) fn unwind(f: &mut [u8], map: &mut [u16], frame: &[u8], b: &[u8], n: usize) -> usize
     requires { ⌜ Accepted planeFrames (now frame) × (length (now f) ≡ length (now frame)) × (4096 ≤ length (now map)) × ((i : ℕ) → getD (now map) i 0 ≡ 0) × (length (now frame) ≡ lengthIn (now b)) × (16 + lengthIn (now b) + 16 * n ≤ length (now b)) ⌝ }
     ensures { λ r. ⌜ (unfit r ≡ historyVerdict planeFrames versionOne (now (frame .entry)) (entriesTo versionOne (now (b .entry)) n)) × Heads (now (frame .entry)) (now (map .exit)) ⌝ }
 {
     note_heads(frame, map);
     copy(frame, f);
     walk_back(f, map, b, Record::HEADER + frame.len(), n)
-}
-
-// In lent memory: a map of 4,096 zeros, in which the frame's headers are noted, and room for the copy.
-pub(crate) fn history_in(
-    map: &mut [u16],
-    scratch: &mut [u8],
-    frame: &[u8],
-    b: &[u8],
-    n: usize,
-) -> usize
-    requires { ⌜ Accepted planeFrames (now frame) × (length (now frame) ≤ length (now scratch)) × (4096 ≤ length (now map)) × ((i : ℕ) → getD (now map) i 0 ≡ 0) × (length (now frame) ≡ lengthIn (now b)) × (16 + lengthIn (now b) + 16 * n ≤ length (now b)) ⌝ }
-    ensures { λ r. ⌜ (unfit r ≡ historyVerdict planeFrames versionOne (now (frame .entry)) (entriesTo versionOne (now (b .entry)) n)) × Heads (now (frame .entry)) (now (map .exit)) ⌝ }
-{
-    let len = frame.len();
-    unwind(&mut scratch[..len], map, frame, b, n)
 }

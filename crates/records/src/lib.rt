@@ -28,8 +28,8 @@ use frame::head::MOST;
 use frame::reading::Reading;
 use frame::reading::read;
 use header::header_right;
-use history::history_in;
 use history::spot_noted;
+use history::unwind;
 use scan::spot_in;
 
 // The Sample or Bin that begins at word w of a frame, with its kind, value and header; nothing where another item or none begins there, and
@@ -56,7 +56,8 @@ fn judge_history_in(
     requires { ⌜ Accepted planeFrames (now frame) × (length (now frame) ≤ length (now scratch)) × (4096 ≤ length (now map)) × ((i : ℕ) → getD (now map) i 0 ≡ 0) × (length (now frame) ≡ lengthIn (now b)) × (16 + lengthIn (now b) + 16 * x .count ≤ length (now b)) ⌝ }
     ensures { λ r. ⌜ viewJudged r ≡ historyJudged (now (frame .entry)) (now (b .entry)) (summaryOf x) w ⌝ }
 {
-    let bad = history_in(map, scratch, frame, b, x.count);
+    let len = frame.len();
+    let bad = unwind(&mut scratch[..len], map, frame, b, x.count);
     if bad == 0 {
         return Judged::Accepted(x, spot_noted(frame, map, w));
     }
