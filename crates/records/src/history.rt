@@ -82,7 +82,8 @@ fn entry_fits(f: &[u8], map: &[u16], e: Entry) -> bool
     }
 }
 
-// What stands at word w of a frame whose headers are noted in the map: the item answer there is taken apart, under its header.
+// What stands at word w of a frame whose headers are noted in the map: the item answer there is taken apart, under its header. It is asked for one
+// word, so that `item_at` will do; `item_noted` stays with the loop over the entries alone, since with a second caller that loop is dearer.
 pub(crate) fn spot_noted(f: &[u8], map: &[u16], w: usize) -> SpotFound
     requires { ⌜ Undoing (now map) (now f) ⌝ }
     ensures { λ r. ⌜ viewSpot r ≡ planeFrames .spot (now (f .entry)) w ⌝ }

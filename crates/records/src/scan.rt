@@ -144,6 +144,7 @@ pub(crate) fn spot_in(f: &[u8], w: usize) -> SpotFound
     SpotFound::Nothing
 }
 
+// The answer that an item stands there, and where the next one begins.
 fn stands(item: Item, next: usize) -> Standing
     ensures { λ r. ⌜ viewStanding r ≡ some (record { item = viewItem item; next = next }) ⌝ }
 {
