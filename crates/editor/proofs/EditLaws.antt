@@ -2,10 +2,10 @@
 -- each way through the code keeps the promise.
 -- Assumes nothing.
 use Prim.Native.Nat.{ℕ, _+_, _*_, _-_, _≤_, _<_}
-use mathlib.Core.Path.{_≡_, refl, sym, ap, ap₂, _∙_}
+use mathlib.Core.Path.{_≡_, refl, sym, ap, _∙_}
 use mathlib.Core.Bool.{Bool, true, false, not, _&&_, and-true, true≢false}
 use mathlib.Core.List.{List, [], _∷_}
-use mathlib.Core.Option.{Option, none, some, Option·some-injective}
+use mathlib.Core.Option.{none, some, Option·some-injective}
 use native.Mathlib.Nat.{add-sub-cancel-left}
 use native.Mathlib.Omega.{arith}
 use lib.ListN.{length, take, drop}
@@ -15,11 +15,9 @@ use borrow.Rule.Slice.PartMut.{putMid, same-len-mid}
 use Rattle.format.specs.Words.{pick, Bytes, bytes}
 use Rattle.format.specs.Answers.{Done, accepted, refused, need, firstOf}
 use Rattle.format.specs.Items.{ItemOf}
-use Rattle.format.specs.Questions.{Shown}
 use Rattle.format.specs.Cursor.{standingAt, shownBy}
-use Rattle.format.specs.Spots.{Header, Spot, spotOf, headed, legalValue, valueWord, valueWords}
-use Rattle.format.specs.Scans.{spotBy}
-use Rattle.format.proofs.spots.ScanLaws.{spot-by}
+use Rattle.format.specs.Spots.{Spot, spotOf, legalValue, valueWord, valueWords}
+use Rattle.format.proofs.spots.ScanLaws.{no-spot, spot-shown}
 use Rattle.ledger.specs.Frames.{Settable}
 use Rattle.ledger.specs.Formats as formats
 use Rattle.ledger.specs.Records.{countIn, frameIn, entryBytes, entriesIn, length-entries, signed, recordVerdict}
@@ -52,37 +50,27 @@ unfolding itemTests planeFrames
 tests-answer c x kind was room fresh sign value signer full end rest more all l v g t u w r₁ r₂ r₃ =
     rw (r₃, r₂, r₁, v, l, t, g, u, w) (ordered (_ ∷ _ ∷ _ ∷ _ ∷ []))
 
--- what the header of a word, and the item answered there in the frame's part of the record, tell of an edit's target
+-- what judging told of a word, and the item answered there in the frame's part of the record, tell of an edit's target
 module _ (b : List ℕ) (x : Summary) (k : Known b x) (y : Bytes b) (w : ℕ) where
   part : take (16 + x .length - 16) (drop 16 b) ≡ frameIn b
   part = rw (add-sub-cancel-left 16 (x .length), k .length)
 
-  told-spot : planeFrames .spot (frameIn b) w ≡ spotBy (headed (frameIn b) w) (shownBy (standingAt (take (16 + x .length - 16) (drop 16 b)) w))
-  told-spot =
-      plane-frames-spot (frameIn b) w ∙ spot-by (frameIn b) (standing b x k y .bytes) w
-      ∙ ap (λ (f : List ℕ). spotBy (headed (frameIn b) w) (shownBy (standingAt f w))) (sym part)
-
-  -- no item begins there, or nothing stands there
-  pub not-headed : none ≡ headed (frameIn b) w → none ≡ planeFrames .spot (frameIn b) w
-  not-headed e = sym (told-spot ∙ ap (λ (o : Option Header). spotBy o (shownBy (standingAt (take (16 + x .length - 16) (drop 16 b)) w))) (sym e))
-
+  -- no item stands there
   pub not-standing : none ≡ shownBy (standingAt (take (16 + x .length - 16) (drop 16 b)) w) → none ≡ planeFrames .spot (frameIn b) w
-  not-standing e = sym (told-spot ∙ ap (spotBy (headed (frameIn b) w)) (sym e) ∙ go (headed (frameIn b) w))
-    where
-      go : (o : Option Header) → spotBy o none ≡ none
-      go none = refl
-      go (some h) = refl
+  not-standing e = no-spot (frameIn b) (standing b x k y .bytes) w (e ∙ ap (λ (f : List ℕ). shownBy (standingAt f w)) part) ∙ sym (plane-frames-spot (frameIn b) w)
 
-  -- an item does
-  module _ (h : Header) (z : ItemOf ℕ) (n : ℕ) (e : some h ≡ headed (frameIn b) w) (i : some (record { item = z; next = n }) ≡ shownBy (standingAt (take (16 + x .length - 16) (drop 16 b)) w)) where
-    told-item : planeFrames .spot (frameIn b) w ≡ spotOf h z
-    told-item = told-spot ∙ ap₂ (λ (o : Option Header) (r : Option Shown). spotBy o r) (sym e) (sym i)
+  -- one does, and judging told it
+  module _ (p : Spot) (z : ItemOf ℕ) (n : ℕ) (e : some p ≡ planeFrames .spot (frameIn b) w) (i : some (record { item = z; next = n }) ≡ shownBy (standingAt (take (16 + x .length - 16) (drop 16 b)) w)) where
+    told-item : some p ≡ spotOf (p .header) z
+    told-item =
+        spot-shown (frameIn b) (standing b x k y .bytes) w p (e ∙ plane-frames-spot (frameIn b) w) (record { item = z; next = n })
+        (i ∙ ap (λ (f : List ℕ). shownBy (standingAt f w)) part)
 
-    pub other-item : none ≡ spotOf h z → none ≡ planeFrames .spot (frameIn b) w
-    other-item q = q ∙ sym told-item
+    pub other-item : none ≡ spotOf (p .header) z → none ≡ planeFrames .spot (frameIn b) w
+    other-item q = q ∙ sym told-item ∙ e
 
-    pub item-holds : (kind value : ℕ) → some (record { kind = kind; value = value; header = h }) ≡ spotOf h z → Holds b w kind value
-    item-holds kind value q = record { header = h; stands = told-item ∙ sym q }
+    pub item-holds : (kind value : ℕ) → some (record { kind = kind; value = value; header = p .header }) ≡ spotOf (p .header) z → Holds b w kind value
+    item-holds kind value q = record { header = p .header; stands = sym e ∙ told-item ∙ sym q }
 
 -- of all tests of an edit, those at the item are left where the record is accepted and an item stands there
 module _ (b : List ℕ) (x : Summary) (k : Known b x) (c : Correction) where

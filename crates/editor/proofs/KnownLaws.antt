@@ -8,7 +8,7 @@ use native.Mathlib.Omega.{arith}
 use lib.ListN.{length}
 use Rattle.format.specs.Words.{Bytes}
 use Rattle.format.specs.Answers.{Outcome, Done, accepted, refused, andThen}
-use Rattle.format.specs.Spots as spots
+use Rattle.format.specs.Spots.{Spot}
 use Rattle.ledger.specs.Frames.{Accepted}
 use Rattle.ledger.specs.Records.{lengthIn, countIn, totalIn, frameIn, entriesIn, historyVerdict, recordVerdict}
 use Rattle.ledger.specs.Calls.{Summary, recordAnswer}
@@ -25,29 +25,29 @@ use Rattle.editor.specs.Writes.{Known}
 
 -- ---- from the answer of judging
 abbrev here : List ℕ → ℕ → Judged
-here b w = record { length = lengthIn b; count = countIn b; total = totalIn versionOne b; header = spots.headed (frameIn b) w }
+here b w = record { length = lengthIn b; count = countIn b; total = totalIn versionOne b; spot = planeFrames .spot (frameIn b) w }
 
 same-judged : (i j : Judged) → _≡_ {A = Outcome Judged} (accepted i) (accepted j) → i ≡ j
 same-judged i j e = cc
 
-pub judged-known : (b : List ℕ) (w : ℕ) (x : Summary) (o : Option spots.Header)
-    → accepted (record { length = x .length; count = x .count; total = x .total; header = o }) ≡ judgedAt planeFrames versionOne b w
-    → Known b x × (o ≡ spots.headed (frameIn b) w)
+pub judged-known : (b : List ℕ) (w : ℕ) (x : Summary) (o : Option Spot)
+    → accepted (record { length = x .length; count = x .count; total = x .total; spot = o }) ≡ judgedAt planeFrames versionOne b w
+    → Known b x × (o ≡ planeFrames .spot (frameIn b) w)
 unfolding judgedAt
 judged-known b w x o e = go (recordVerdict planeFrames versionOne b) refl e
   where
     go : (v : Done) → recordVerdict planeFrames versionOne b ≡ v
-        → accepted (record { length = x .length; count = x .count; total = x .total; header = o }) ≡ andThen v (λ u. accepted (here b w))
-        → Known b x × (o ≡ spots.headed (frameIn b) w)
+        → accepted (record { length = x .length; count = x .count; total = x .total; spot = o }) ≡ andThen v (λ u. accepted (here b w))
+        → Known b x × (o ≡ planeFrames .spot (frameIn b) w)
     go (accepted u) q h =
-        let s = same-judged (record { length = x .length; count = x .count; total = x .total; header = o }) (here b w) h in (
+        let s = same-judged (record { length = x .length; count = x .count; total = x .total; spot = o }) (here b w) h in (
           record {
             judged = q;
             length = ap (λ (j : Judged). j .length) s;
             count = ap (λ (j : Judged). j .count) s;
             total = ap (λ (j : Judged). j .total) s;
           },
-          ap (λ (j : Judged). j .header) s,
+          ap (λ (j : Judged). j .spot) s,
         )
     go (refused n p) q h = let z : _≡_ {A = ℕ} 0 1 = cc in absurd (omega arith)
 

@@ -1,12 +1,11 @@
 // An edit of a record: the value of one item is changed, and an entry of the history says so.
 ghost use mathlib.Core.Path.{_≡_};
 ghost use Prim.Native.Nat.{_<_};
-ghost use Rattle.format.specs.Spots.{headed};
 ghost use Rattle.ledger.specs.Records.{frameIn};
 ghost use Rattle.ledger.specs.Calls.{editWritten};
 ghost use Rattle.ledger.specs.VersionOne.{versionOne};
 ghost use Rattle.ledger.specs.PlaneFrames.{planeFrames};
-ghost use Rattle.records.specs.Views.{viewHeaderFound, summaryOf};
+ghost use Rattle.records.specs.Views.{viewSpot, summaryOf};
 ghost use Rattle.editor.specs.Views.{viewDone, asked, itemTests};
 ghost use Rattle.editor.specs.Promises.{Edited};
 ghost use Rattle.editor.specs.Writes.{Known, Holds, Editable};
@@ -20,10 +19,10 @@ use book::refusal::Refusal;
 use cursor::standing::Standing;
 use cursor::standing::item_at;
 use records::answers::Entry;
-use records::answers::HeaderFound;
 use records::answers::Judged;
 use records::answers::Record;
 use records::answers::Spot;
+use records::answers::SpotFound;
 use records::entries::put_entry;
 use records::history::signed;
 use records::judge;
@@ -88,13 +87,13 @@ fn edit_value(buf: &mut [u8], c: Correction, x: Record, kind: u16, value: u32) -
     answer
 }
 
-// An edit of an accepted record, where the header of the word asked for is known: the item answer there is taken apart, and anything but a
-// Sample or Bin leaves at once with 22.
-fn edit_item(buf: &mut [u8], c: Correction, x: Record, header: HeaderFound) -> Done
-    requires { ⌜ Known (now buf) (summaryOf x) × (viewHeaderFound header ≡ headed (frameIn (now buf)) (c .word)) ⌝ }
+// An edit of an accepted record, where judging has told what stands at the word asked for, so that an item begins there: the item answer is taken
+// apart, and anything but a Sample or Bin leaves at once with 22.
+fn edit_item(buf: &mut [u8], c: Correction, x: Record, spot: SpotFound) -> Done
+    requires { ⌜ Known (now buf) (summaryOf x) × (viewSpot spot ≡ planeFrames .spot (frameIn (now buf)) (c .word)) ⌝ }
     ensures { λ r. ⌜ Edited (now (buf .entry)) (asked c) (viewDone r) (now (buf .exit)) ⌝ }
 {
-    let HeaderFound::Header(_header) = header else {
+    let SpotFound::Spot(_spot) = spot else {
         return test(false, Refusal::TARGET);
     };
     let start = Record::HEADER;
@@ -121,6 +120,6 @@ pub fn edit(buf: &mut [u8], c: Correction) -> Done
     let judged = judge(buf, c.word);
     match judged {
         Judged::Refused(r) => Done::Refused(r),
-        Judged::Accepted(x, header) => edit_item(buf, c, x, header),
+        Judged::Accepted(x, spot) => edit_item(buf, c, x, spot),
     }
 }

@@ -1,5 +1,5 @@
 -- What a scan of an accepted frame notes where an item begins: the word of the header that the item stands under, by its index. The rules of a
--- frame are not asked again. That spots and headers are what this and the cursor tell is in proofs/spots/ScanLaws.
+-- frame are not asked again. That spots are what this and the cursor tell is in proofs/spots/ScanLaws.
 -- Assumes nothing.
 use Prim.Native.Nat.{ℕ, zero, suc, _+_, _<_, _≤_}
 use mathlib.Core.List.{List, [], _∷_}
@@ -49,16 +49,11 @@ headerBy (some r) = under noHeader (r .item)
 unfoldable pub headerAt : List ℕ → ℕ → Header
 headerAt s h = headerBy (shownBy (standingAt s h))
 
--- the header by the word noted
-abbrev pub headedBy : List ℕ → ℕ → Option Header
-headedBy s zero = none
-headedBy s (suc h) = some (headerAt s (suc h))
-
--- the spot by the header of its word and the item that stands there
-abbrev pub spotBy : Option Header → Option Shown → Option Spot
-spotBy none o = none
-spotBy (some k) none = none
-spotBy (some k) (some r) = spotOf k (r .item)
+-- the spot by the word noted and the item that stands there
+abbrev pub spotBy : List ℕ → ℕ → Option Shown → Option Spot
+spotBy s zero o = none
+spotBy s (suc h) none = none
+spotBy s (suc h) (some r) = spotOf (headerAt s (suc h)) (r .item)
 
 -- an item that begins at word w lies between the first three words and the last
 pub record Noted (s : List ℕ) (w : ℕ) : Type 0 where

@@ -68,19 +68,6 @@ spotFor (refused n p) w = none
 unfoldable pub spot : List ℕ → ℕ → Option Spot
 spot s w = spotFor (verdict s) w
 
--- the header of the item whose first word is word w: a Channel or Histogram is its own, any other item stands under one; none where no item
--- begins there
-unfoldable pub headedIn : Header → ℕ → List Item → ℕ → Option Header
-headedIn k at [] w = none
-headedIn k at (x ∷ xs) w = pick (eqb w at) (some (under k x)) (headedIn (under k x) (at + length (wordsOf x)) xs w)
-
-abbrev pub headedFor : Outcome Frame → ℕ → Option Header
-headedFor (accepted f) w = headedIn noHeader 3 (f .items) w
-headedFor (refused n p) w = none
-
-unfoldable pub headed : List ℕ → ℕ → Option Header
-headed s w = headedFor (verdict s) w
-
 -- ---- putting a value
 
 -- the word index at which the value begins, and the words that hold it: a Sample's own word; a Bin's count in the two words after its first

@@ -15,6 +15,7 @@ use crate::pieces::hex;
 use crate::pieces::text;
 use book::refusal::Refusal;
 use records::answers::Entry;
+use records::answers::Spot;
 use records::entries::entry_of;
 use rules::state::Kind;
 
@@ -56,7 +57,7 @@ fn old_value(line: &mut [u8], at: usize, kind: u16, old: u32) -> usize
     requires { ⌜ at + 28 ≤ length (now line) ⌝ }
     ensures { λ r. ⌜ Put 28 (now (line .entry)) at (kindText kind ++ decimal old) (now (line .exit)) r ⌝ }
 {
-    if kind == 1 {
+    if kind == Spot::SAMPLE {
         return field(line, at, b" sample ", old as u64);
     }
     field(line, at, b" bin ", old as u64)

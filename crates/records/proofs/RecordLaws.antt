@@ -16,7 +16,7 @@ use Rattle.format.specs.Answers.{Outcome, accepted, refused, Done, andThen, fir
 use Rattle.format.specs.Frames.{Frame, verdict}
 use Rattle.format.specs.Steps.{Overview, overview, readOf}
 use Rattle.format.specs.Questions.{done}
-use Rattle.format.specs.Spots.{Header, spot, headed, legalValue}
+use Rattle.format.specs.Spots.{Spot, spot, legalValue}
 use Rattle.format.proofs.book.PrefixLaws.{and-left, and-right}
 use Rattle.format.proofs.items.WordLaws.{below-drop, below-take}
 use Rattle.format.proofs.spots.PutLaws.{spot-refused}
@@ -140,13 +140,13 @@ module _ (b : List ℕ) (w : ℕ) where
   unfolding judgedAt historyJudged versionOne
   right-frame h j len n total el en et f ef o eo = eo ∙ rw (parts-verdict planeFrames versionOne b h j, et, ef, el, en)
 
-  -- the record's answer is what is told, without the header of the word
+  -- the record's answer is what is told, without what stands at the word
   judged-told : andThen (judgedAt planeFrames versionOne b w) (λ j. accepted (lengths j)) ≡ recordAnswer planeFrames versionOne b
   unfolding judgedAt recordAnswer
   judged-told = go (recordVerdict planeFrames versionOne b)
     where
       here : Judged
-      here = record { length = lengthIn b; count = countIn b; total = totalIn versionOne b; header = headed (frameIn b) w }
+      here = record { length = lengthIn b; count = countIn b; total = totalIn versionOne b; spot = planeFrames .spot (frameIn b) w }
 
       go : (v : Done) → andThen (andThen v (λ u. accepted here)) (λ j. accepted (lengths j)) ≡ andThen v (λ u. accepted (lengths here))
       go (accepted u) = refl
@@ -155,11 +155,11 @@ module _ (b : List ℕ) (w : ℕ) where
   pub record-told : (o : Outcome Judged) → o ≡ judgedAt planeFrames versionOne b w → andThen o (λ j. accepted (lengths j)) ≡ recordAnswer planeFrames versionOne b
   record-told o e = ap (λ (i : Outcome Judged). andThen i (λ j. accepted (lengths j))) e ∙ judged-told
 
--- the walk back over the entries, and the header of the word
+-- the walk back over the entries, and what stands at the word
 module _ (f b : List ℕ) (x : Summary) (w bad : ℕ) (e : unfit bad ≡ historyVerdict planeFrames versionOne f (entriesTo versionOne b (x .count))) where
-  pub told-accepted : bad ≡ 0 → (h : Option Header) → h ≡ headed f w → accepted (record { length = x .length; count = x .count; total = x .total; header = h }) ≡ historyJudged f b x w
+  pub told-accepted : bad ≡ 0 → (o : Option Spot) → o ≡ planeFrames .spot f w → accepted (record { length = x .length; count = x .count; total = x .total; spot = o }) ≡ historyJudged f b x w
   unfolding historyJudged
-  told-accepted z h q =
+  told-accepted z o q =
       let v : historyVerdict planeFrames versionOne f (entriesTo versionOne b (x .count)) ≡ accepted tt = sym e ∙ rw (eq-eqb bad 0 z) in
       rw (v, q)
 

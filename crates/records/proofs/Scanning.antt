@@ -67,6 +67,18 @@ other-header (item.Text x) o = refl
 other-header (item.StartEvent x) o = refl
 other-header (item.EndEvent x) o = refl
 
+pub other-head : (z : declared.Item) → OneOf (2 ∷ 3 ∷ 4 ∷ 5 ∷ 6 ∷ 7 ∷ 8 ∷ 9 ∷ []) (tagOf the-type z) → (at h : ℕ) → h ≡ headBy h at (viewItem z)
+other-head (item.Channel x) o at h = absurd (miss (2 ∷ 3 ∷ 4 ∷ 5 ∷ 6 ∷ 7 ∷ 8 ∷ 9 ∷ []) 0 tt o)
+other-head (item.Histogram x) o at h = absurd (miss (2 ∷ 3 ∷ 4 ∷ 5 ∷ 6 ∷ 7 ∷ 8 ∷ 9 ∷ []) 1 tt o)
+other-head (item.HitCount x) o at h = refl
+other-head (item.Sample x) o at h = refl
+other-head (item.Bin x) o at h = refl
+other-head (item.LastCell x) o at h = refl
+other-head (item.TimeBin x) o at h = refl
+other-head (item.Text x) o at h = refl
+other-head (item.StartEvent x) o at h = refl
+other-head (item.EndEvent x) o at h = refl
+
 -- ---- a test of a range
 
 pub in-test : (a b w : ℕ) → leb a w && ltb w b ≡ true → (a ≤ w) × (w < b)

@@ -51,7 +51,12 @@ module _ (f : List ℕ) (kind w v : ℕ) where
         let m : v % 4096 ≡ v = omega arith in
         rw (s, q, m, l, eq-eqb kind 1 e)
 
-    -- the two words of a Bin's count
+    -- a Bin's count, in the two words after its first
+    pub count-stored : (kind ≡ 1 → ⊥) → (g : List ℕ) → g ≡ sets f (2 * w + 2) (bytes (longWords v)) → g ≡ stored f kind w v
+    unfolding stored
+    count-stored n g s = let i : 2 * (w + 1) ≡ 2 * w + 2 = omega arith in rw (s, l, ne-eqb kind 1 n, i)
+
+    -- the same word by word
     pub bin-stored : (kind ≡ 1 → ⊥) → (g k : List ℕ) → g ≡ sets f (2 * w + 2) (bytes ((v % 65536) ∷ [])) → k ≡ sets g (2 * w + 4) (bytes ((v / 65536) ∷ [])) → k ≡ stored f kind w v
     unfolding stored bytes
     bin-stored n g k s t =

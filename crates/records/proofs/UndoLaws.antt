@@ -2,32 +2,30 @@
 -- a frame that the map still tells the headers of.
 -- Assumes nothing.
 use Prim.Native.Nat.{ℕ, zero, suc, _+_, _-_, _*_, _<_, _≤_}
-use mathlib.Core.Path.{_≡_, refl, sym, ap, ap₂, subst, _∙_}
+use mathlib.Core.Path.{_≡_, refl, sym, ap, subst, _∙_}
 use mathlib.Core.List.{List, []}
-use mathlib.Core.Logic.{_⊎_, ⊎-elim}
 use mathlib.Core.Bool.{Bool, true, false, not, _&&_}
 use mathlib.Core.Option.{Option, none, some}
 use native.Mathlib.Omega.{arith}
 use lib.Dec.{eqb}
 use lib.ListN.{length, getD, take, drop, length-drop}
 use lib.Seq.{sets, length-take-le}
-use borrow.Author.Tests.{eqb-true, eqb-false, eq-eqb, ne-eqb}
+use borrow.Author.Tests.{eqb-true, ne-eqb}
 use Rattle.format.specs.Words.{Bytes, bytes}
 use Rattle.format.specs.Answers.{Done}
 use Rattle.format.specs.Items.{ItemOf, Item, Channel, Histogram, HitCount, Sample, Bin, LastCell, TimeBin, Text, StartEvent, EndEvent, wordsOf}
 use Rattle.format.specs.Frames.{lastOf}
-use Rattle.format.specs.Questions.{Shown}
 use Rattle.format.specs.Cursor.{standingAt, shownBy}
-use Rattle.format.specs.Spots.{Header, noHeader, Spot, spotOf, underAll, spot, headed, put, legalValue}
-use Rattle.format.specs.Scans.{head, headerAt, headedBy, spotBy, Noted}
+use Rattle.format.specs.Spots.{Header, noHeader, Spot, spotOf, underAll, spot, put, legalValue}
+use Rattle.format.specs.Scans.{head, headerAt, spotBy, Noted}
 use Rattle.format.proofs.spots.PutLaws.{stands, put-stores}
 use Rattle.format.proofs.questions.ItemQuestions.{no-some}
 use Rattle.format.proofs.reader.CursorLaws.{next-there}
-use Rattle.format.proofs.spots.ScanLaws.{headed-by, spot-by, noted-there, put-heads}
+use Rattle.format.proofs.spots.ScanLaws.{spot-by, by-noted, no-spot, noted-there, put-heads}
 use Rattle.ledger.specs.Tests.{all}
 use Rattle.ledger.specs.Frames.{Accepted, Settable}
 use Rattle.ledger.specs.Formats.{Entry}
-use Rattle.ledger.specs.Records.{lengthIn, entryOf, numbered, entriesTo, signed, atSpot, before, fitsItem, fits, historyVerdict}
+use Rattle.ledger.specs.Records.{lengthIn, entryOf, numbered, entriesTo, signed, before, fitsItem, fits, historyVerdict}
 use Rattle.ledger.specs.Chains.{Fits}
 use Rattle.ledger.specs.VersionOne.{versionOne}
 use Rattle.ledger.specs.PlaneFrames.{planeFrames, plane-frames-spot}
@@ -76,51 +74,46 @@ plain w k old new o r = record { word = w; kind = k; old = old; new = new; opera
 
 -- what the map and the item answered there tell of word w
 module _ (map f : List ℕ) (g : Undoing map f) (w : ℕ) where
-  header-here : headed f w ≡ headedBy f (getD map w 0)
-  header-here = headed-by f (g .frame .bytes) w ∙ ap (headedBy f) (sym (g .heads w))
-
   -- the item that begins there lies between the first three words and the last
   pub noted-item : 1 ≤ getD map w 0 → Noted f w
   noted-item l = noted-there f (g .frame .bytes) w (let z = g .heads w in omega arith)
 
-  -- no item begins there
-  pub none-headed : getD map w 0 ≡ 0 → none ≡ headed f w
-  none-headed z = sym (header-here ∙ ap (headedBy f) z)
+  spot-here : planeFrames .spot f w ≡ spotBy f (getD map w 0) (shownBy (standingAt f w))
+  spot-here = plane-frames-spot f w ∙ spot-by f (g .frame .bytes) w ∙ ap (λ (h : ℕ). spotBy f h (shownBy (standingAt f w))) (sym (g .heads w))
 
-  -- the header of one that does
-  pub some-headed : (h : ℕ) → h ≡ getD map w 0 → 1 ≤ h → (k : Header) → k ≡ headerAt f h → some k ≡ headed f w
-  some-headed zero e n k i = absurd (omega arith)
-  some-headed (suc h) e n k i = ap some i ∙ sym (header-here ∙ ap (headedBy f) (sym e))
+  -- no item begins there, or none stands there
+  pub none-noted : getD map w 0 ≡ 0 → none ≡ planeFrames .spot f w
+  none-noted z = sym (spot-here ∙ ap (λ (h : ℕ). spotBy f h (shownBy (standingAt f w))) z)
 
-  spot-here : planeFrames .spot f w ≡ spotBy (headed f w) (shownBy (standingAt f w))
-  spot-here = plane-frames-spot f w ∙ spot-by f (g .frame .bytes) w
+  pub none-stands : none ≡ shownBy (standingAt f w) → none ≡ planeFrames .spot f w
+  none-stands e = no-spot f (g .frame .bytes) w e ∙ sym (plane-frames-spot f w)
 
-  no-spot : (o : Option Header) → spotBy o none ≡ none
-  no-spot none = refl
-  no-spot (some k) = refl
+  -- the item answered there, under the header noted
+  module _ (n : 1 ≤ getD map w 0) (z : ItemOf ℕ) (next : ℕ) (e : some (record { item = z; next = next }) ≡ shownBy (standingAt f w)) where
+    stands-here : planeFrames .spot f w ≡ spotOf (headerAt f (getD map w 0)) z
+    stands-here = spot-here ∙ ap (spotBy f (getD map w 0)) (sym e) ∙ by-noted f (getD map w 0) n (record { item = z; next = next })
+
+    pub spot-told : (h : ℕ) → h ≡ getD map w 0 → (k : Header) → k ≡ headerAt f h → (o : Option Spot) → o ≡ spotOf k z → o ≡ planeFrames .spot f w
+    spot-told h i k j o q = q ∙ ap (λ (k : Header). spotOf k z) (j ∙ ap (headerAt f) i) ∙ sym stands-here
 
   module _ (k old new o r : ℕ) where
     pub unnoted-fits : getD map w 0 ≡ 0 → false ≡ fits planeFrames versionOne f (plain w k old new o r)
     unfolding fits
-    unnoted-fits z = rw (spot-here, ← none-headed z)
+    unnoted-fits z = rw (← none-noted z)
 
     pub nothing-fits : none ≡ shownBy (standingAt f w) → false ≡ fits planeFrames versionOne f (plain w k old new o r)
     unfolding fits
-    nothing-fits e = rw (spot-here, ← e, no-spot (headed f w))
+    nothing-fits e = rw (← none-stands e)
 
-    -- the item answered there
     module _ (n : 1 ≤ getD map w 0) (z : ItemOf ℕ) (next : ℕ) (e : some (record { item = z; next = next }) ≡ shownBy (standingAt f w)) where
-      stands-here : planeFrames .spot f w ≡ spotOf (headerAt f (getD map w 0)) z
-      stands-here = spot-here ∙ ap₂ (λ (h : Option Header) (x : Option Shown). spotBy h x) (sym (some-headed (getD map w 0) refl n _ refl)) (sym e)
-
       pub other-fits : ((h : Header) → none ≡ spotOf h z) → false ≡ fits planeFrames versionOne f (plain w k old new o r)
       unfolding fits
-      other-fits i = rw (stands-here, ← i (headerAt f (getD map w 0)))
+      other-fits i = rw (stands-here n z next e, ← i (headerAt f (getD map w 0)))
 
       pub item-fits : (t : Bool) (kind value : ℕ) → ((h : Header) → some (record { kind = kind; value = value; header = h }) ≡ spotOf h z)
           → ((h : Header) → t ≡ fitsItem planeFrames versionOne (plain w k old new o r) (record { kind = kind; value = value; header = h })) → t ≡ fits planeFrames versionOne f (plain w k old new o r)
       unfolding fits
-      item-fits t kind value i q = q (headerAt f (getD map w 0)) ∙ sym (rw (stands-here, ← i (headerAt f (getD map w 0))))
+      item-fits t kind value i q = q (headerAt f (getD map w 0)) ∙ sym (rw (stands-here n z next e, ← i (headerAt f (getD map w 0))))
 
 -- the tests of an entry at an item: its kind is asked first, so that its legal values may be asked of either kind
 pub item-tests : (w k old new o r kind value : ℕ) (lawful named : Bool) → lawful ≡ legalValue kind old → named ≡ signed o r → (h : Header)

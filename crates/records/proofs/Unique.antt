@@ -21,8 +21,6 @@ use Rattle.ledger.specs.PlaneFrames.{planeFrames}
 use Rattle.records.specs.declared.answers.Header.{Header}
 use Rattle.records.specs.declared.answers.SpotFound.{SpotFound}
 use Rattle.records.specs.declared.answers.SpotFound.the-variants as found
-use Rattle.records.specs.declared.answers.HeaderFound.{HeaderFound}
-use Rattle.records.specs.declared.answers.HeaderFound.the-variants as heading
 use Rattle.records.specs.declared.answers.RecordFound.{RecordFound}
 use Rattle.records.specs.declared.answers.RecordFound.the-variants as records
 use Rattle.records.specs.declared.answers.Judged.{Judged}
@@ -61,17 +59,13 @@ record-back (records.Refused x) = refl
 pub same-record : (r q : RecordFound) → viewRecord r ≡ viewRecord q → r ≡ q
 same-record = undone viewRecord recordBack record-back
 
-abbrev foundBack : Option spots.Header → HeaderFound
-foundBack none = heading.Nothing
-foundBack (some h) = heading.Header (headerBack h)
-
 abbrev judgedBack : Outcome judged.Judged → Judged
-judgedBack (accepted x) = judging.Accepted (record { length = x .length; count = x .count; total = x .total }) (foundBack (x .header))
+judgedBack (accepted x) = judging.Accepted (record { length = x .length; count = x .count; total = x .total }) (spotBack (x .spot))
 judgedBack (refused n p) = judging.Refused (record { number = n; place = p })
 
 judged-back : (r : Judged) → judgedBack (viewJudged r) ≡ r
-judged-back (judging.Accepted x (heading.Header h)) = refl
-judged-back (judging.Accepted x heading.Nothing) = refl
+judged-back (judging.Accepted x (found.Spot p)) = refl
+judged-back (judging.Accepted x found.Nothing) = refl
 judged-back (judging.Refused x) = refl
 
 pub same-judged : (r q : Judged) → viewJudged r ≡ viewJudged q → r ≡ q

@@ -16,8 +16,6 @@ use Rattle.ledger.specs.PlaneFrames.{planeFrames}
 use Rattle.records.specs.declared.answers.Header.{Header}
 use Rattle.records.specs.declared.answers.SpotFound.{SpotFound}
 use Rattle.records.specs.declared.answers.SpotFound.the-variants as found
-use Rattle.records.specs.declared.answers.HeaderFound.{HeaderFound}
-use Rattle.records.specs.declared.answers.HeaderFound.the-variants as heading
 use Rattle.records.specs.declared.answers.Record.{Record}
 use Rattle.records.specs.declared.answers.RecordFound.{RecordFound}
 use Rattle.records.specs.declared.answers.RecordFound.the-variants as records
@@ -41,12 +39,8 @@ abbrev pub viewRecord : RecordFound → Outcome Summary
 viewRecord (records.Record r) = accepted (summaryOf r)
 viewRecord (records.Refused r) = refusal r
 
-abbrev pub viewHeaderFound : HeaderFound → Option spots.Header
-viewHeaderFound (heading.Header h) = some (viewHeader h)
-viewHeaderFound heading.Nothing = none
-
 abbrev pub viewJudged : Judged → Outcome judged.Judged
-viewJudged (judging.Accepted r h) = accepted (record { length = r .length; count = r .count; total = r .total; header = viewHeaderFound h })
+viewJudged (judging.Accepted r p) = accepted (record { length = r .length; count = r .count; total = r .total; spot = viewSpot p })
 viewJudged (judging.Refused r) = refusal r
 
 -- document 01's entries hold nothing after the reason
@@ -65,4 +59,4 @@ unfit n = need (eqb n 0) 21 n
 unfoldable pub historyJudged : List ℕ → List ℕ → Summary → ℕ → Outcome judged.Judged
 historyJudged f b x w =
     andThen (historyVerdict planeFrames versionOne f (entriesTo versionOne b (x .count)))
-    (λ u. accepted (record { length = x .length; count = x .count; total = x .total; header = spots.headed f w }))
+    (λ u. accepted (record { length = x .length; count = x .count; total = x .total; spot = planeFrames .spot f w }))

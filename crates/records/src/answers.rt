@@ -28,12 +28,6 @@ pub enum SpotFound {
     Nothing,
 }
 
-// The header of the item that begins at a word of a frame, a header's own or the one it stands under; nothing where no item begins.
-pub enum HeaderFound {
-    Header(Header),
-    Nothing,
-}
-
 // An accepted record: its frame's length in bytes, how many entries it has, and its own length in bytes.
 pub struct Record {
     pub length: usize,
@@ -77,9 +71,9 @@ pub enum RecordFound {
     Refused(Refusal),
 }
 
-// An accepted record, and the header of the word asked for.
+// An accepted record, and what stands at the word asked for.
 pub enum Judged {
-    Accepted(Record, HeaderFound),
+    Accepted(Record, SpotFound),
     Refused(Refusal),
 }
 

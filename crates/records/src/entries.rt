@@ -1,9 +1,7 @@
 // An entry of the history, read from its bytes and stored in them: the one place that knows how an entry is laid out.
 ghost use mathlib.Core.Path.{_≡_};
-ghost use Prim.Native.Nat.{_+_, _≤_, _<_};
+ghost use Prim.Native.Nat.{_≤_};
 ghost use lib.ListN.{length};
-ghost use lib.Seq.{sets};
-ghost use Rattle.format.specs.Words.{bytes, longWords};
 ghost use Rattle.ledger.specs.Records.{entryOf};
 ghost use Rattle.ledger.specs.VersionOne.{versionOne};
 ghost use Rattle.records.specs.Views.{asEntry};
@@ -11,6 +9,7 @@ ghost use Rattle.records.specs.Promises.{EntryRead, EntryPut};
 use crate::answers::Entry;
 use crate::scan::long_in;
 use crate::scan::word_in;
+use crate::values::put_long;
 use crate::values::put_word;
 use book::words::long;
 use book::words::word;
@@ -45,15 +44,6 @@ pub fn entry_of(s: &[u8]) -> Entry
         operator: word(s, Entry::OPERATOR_WORD),
         reason: word(s, Entry::REASON_WORD),
     }
-}
-
-// Stores a number of 32 bits at byte `at`, low word first, as far as there is room.
-fn put_long(buf: &mut [u8], at: usize, n: u32)
-    requires { ⌜ at < length (now buf) + 16 ⌝ }
-    ensures { λ _. ⌜ now (buf .exit) ≡ sets (now (buf .entry)) at (bytes (longWords n)) ⌝ }
-{
-    put_word(buf, at, (n % 65536) as u16);
-    put_word(buf, at + 2, (n / 65536) as u16);
 }
 
 // Stores an entry at byte `at`, as far as there is room.

@@ -6,14 +6,15 @@ ghost use Rattle.ledger.specs.Frames.{Accepted};
 ghost use Rattle.ledger.specs.Records.{lengthIn, entriesTo, fitsItem, fits, historyVerdict};
 ghost use Rattle.ledger.specs.VersionOne.{versionOne};
 ghost use Rattle.ledger.specs.PlaneFrames.{planeFrames};
-ghost use Rattle.format.specs.Spots.{Header, headed};
-ghost use Rattle.records.specs.Views.{viewHeaderFound, asEntry, unfit};
+ghost use Rattle.format.specs.Spots as spots;
+ghost use Rattle.records.specs.Views.{viewSpot, asEntry, unfit};
+ghost use Rattle.records.specs.Stored.{stored};
 ghost use Rattle.records.specs.Undoing.{Heads, Undoing};
 ghost use Rattle.records.specs.Promises.{SignedBy, Undone, UndoneFrom};
 use crate::answers::Entry;
-use crate::answers::HeaderFound;
 use crate::answers::Record;
 use crate::answers::Spot;
+use crate::answers::SpotFound;
 use crate::entries::entry_in;
 use crate::entries::entry_of;
 use crate::scan::NONE;
@@ -21,6 +22,7 @@ use crate::scan::header_at;
 use crate::scan::item_noted;
 use crate::scan::long_in;
 use crate::scan::note_heads;
+use crate::scan::spot_of;
 use crate::scan::word_in;
 use crate::values::legal;
 use crate::values::put_in;
@@ -28,6 +30,7 @@ use crate::values::put_value;
 use book::items::Item;
 use book::words::copy;
 use cursor::standing::Standing;
+use cursor::standing::item_at;
 
 // The word noted for a word.
 fn head_at(map: &[u16], w: usize) -> u16
@@ -51,7 +54,7 @@ pub fn signed(operator: u32, reason: u32) -> bool
 
 // Whether an entry fits an item of the kind with the value; none of its tests asks for the item's header.
 fn fits_item(e: Entry, kind: u16, value: u32) -> bool
-    ensures { λ r. ⌜ ((h : Header) → r ≡ fitsItem planeFrames versionOne (asEntry e) (record { kind = kind; value = value; header = h })) ⌝ }
+    ensures { λ r. ⌜ ((h : spots.Header) → r ≡ fitsItem planeFrames versionOne (asEntry e) (record { kind = kind; value = value; header = h })) ⌝ }
 {
     let named = signed(e.operator as u32, e.reason as u32);
     (kind == e.kind) & (value == e.new) & legal(kind, e.old) & (e.old != e.new) & named
@@ -79,23 +82,45 @@ fn entry_fits(f: &[u8], map: &[u16], e: Entry) -> bool
     }
 }
 
-// The header of word w of a frame whose headers are noted in the map.
-pub(crate) fn header_found(f: &[u8], map: &[u16], w: usize) -> HeaderFound
+// What stands at word w of a frame whose headers are noted in the map: the item answer there is taken apart, under its header. It is asked for one
+// word, so that `item_at` will do; `item_noted` stays with the loop over the entries alone, since with a second caller that loop is dearer.
+pub(crate) fn spot_noted(f: &[u8], map: &[u16], w: usize) -> SpotFound
     requires { ⌜ Undoing (now map) (now f) ⌝ }
-    ensures { λ r. ⌜ viewHeaderFound r ≡ headed (now (f .entry)) w ⌝ }
+    ensures { λ r. ⌜ viewSpot r ≡ planeFrames .spot (now (f .entry)) w ⌝ }
 {
     let head = head_at(map, w);
     if head == NONE {
-        return HeaderFound::Nothing;
+        return SpotFound::Nothing;
     }
-    HeaderFound::Header(header_at(f, head))
+    let header = header_at(f, head);
+    let standing = item_at(f, w);
+    let Standing::Item(found) = standing else {
+        return SpotFound::Nothing;
+    };
+    let item = found.item;
+    spot_of(item, header)
 }
 
-// Takes the old value of an entry as standing: an entry that fits says by its own kind where the value is, so the frame is not walked.
+// Takes the old value of an entry as standing: an entry that fits says by its own kind where the value is, so the frame is not walked. Its word index
+// has 16 bits, so that one test tells whether the words surely lie in the frame, as in every record: then no byte is tested again.
+fn undo_at(f: &mut [u8], kind: u16, w: u16, old: u32)
+    ensures { λ _. ⌜ now (f .exit) ≡ stored (now (f .entry)) kind w old ⌝ }
+{
+    let at = w as usize;
+    if at + 2 < f.len() / 2 {
+        if legal(kind, old) {
+            put_in(f, kind, at, old);
+        }
+        return;
+    }
+    put_value(f, kind, at, old);
+}
+
+// Undoes an entry.
 pub fn undo(f: &mut [u8], e: Entry)
     ensures { λ _. ⌜ Undone (now (f .entry)) e (now (f .exit)) ⌝ }
 {
-    put_value(f, e.kind, e.word as usize, e.old);
+    undo_at(f, e.kind, e.word, e.old);
 }
 
 // Undoes the entry that a slice begins with; of one that is whole no more is read than that takes.
@@ -106,10 +131,10 @@ pub fn undo_from(f: &mut [u8], s: &[u8])
         undo(f, entry_of(s));
         return;
     }
-    let kind = word_in(s, 1);
-    let at = word_in(s, 0) as usize;
-    let old = long_in(s, 2);
-    put_value(f, kind, at, old);
+    let kind = word_in(s, Entry::KIND_WORD);
+    let at = word_in(s, Entry::INDEX_WORD);
+    let old = long_in(s, Entry::OLD_WORD);
+    undo_at(f, kind, at, old);
 }
 
 // The number of the newest entry that does not fit, or 0: the entries from number n down, undone in f.
@@ -131,27 +156,13 @@ fn walk_back(f: &mut [u8], map: &[u16], b: &[u8], h: usize, n: usize) -> usize
     0
 }
 
-// The same over a copy of the frame, made in f, with its headers noted in a map of zeros.
-fn unwind(f: &mut [u8], map: &mut [u16], frame: &[u8], b: &[u8], n: usize) -> usize
+// The same over a copy of the frame, made in f, with its headers noted in a map of zeros. A copy and not the frame itself: the frame is lent to be
+// read only and a refused call changes nothing, but each entry is judged on the frame as it stood before the newer ones were made.
+pub(crate) fn unwind(f: &mut [u8], map: &mut [u16], frame: &[u8], b: &[u8], n: usize) -> usize
     requires { ⌜ Accepted planeFrames (now frame) × (length (now f) ≡ length (now frame)) × (4096 ≤ length (now map)) × ((i : ℕ) → getD (now map) i 0 ≡ 0) × (length (now frame) ≡ lengthIn (now b)) × (16 + lengthIn (now b) + 16 * n ≤ length (now b)) ⌝ }
     ensures { λ r. ⌜ (unfit r ≡ historyVerdict planeFrames versionOne (now (frame .entry)) (entriesTo versionOne (now (b .entry)) n)) × Heads (now (frame .entry)) (now (map .exit)) ⌝ }
 {
     note_heads(frame, map);
     copy(frame, f);
     walk_back(f, map, b, Record::HEADER + frame.len(), n)
-}
-
-// In lent memory: a map of 4,096 zeros, in which the frame's headers are noted, and room for the copy.
-pub(crate) fn history_in(
-    map: &mut [u16],
-    scratch: &mut [u8],
-    frame: &[u8],
-    b: &[u8],
-    n: usize,
-) -> usize
-    requires { ⌜ Accepted planeFrames (now frame) × (length (now frame) ≤ length (now scratch)) × (4096 ≤ length (now map)) × ((i : ℕ) → getD (now map) i 0 ≡ 0) × (length (now frame) ≡ lengthIn (now b)) × (16 + lengthIn (now b) + 16 * n ≤ length (now b)) ⌝ }
-    ensures { λ r. ⌜ (unfit r ≡ historyVerdict planeFrames versionOne (now (frame .entry)) (entriesTo versionOne (now (b .entry)) n)) × Heads (now (frame .entry)) (now (map .exit)) ⌝ }
-{
-    let len = frame.len();
-    unwind(&mut scratch[..len], map, frame, b, n)
 }

@@ -28,8 +28,8 @@ use frame::head::MOST;
 use frame::reading::Reading;
 use frame::reading::read;
 use header::header_right;
-use history::header_found;
-use history::history_in;
+use history::spot_noted;
+use history::unwind;
 use scan::spot_in;
 
 // The Sample or Bin that begins at word w of a frame, with its kind, value and header; nothing where another item or none begins there, and
@@ -56,9 +56,10 @@ fn judge_history_in(
     requires { ⌜ Accepted planeFrames (now frame) × (length (now frame) ≤ length (now scratch)) × (4096 ≤ length (now map)) × ((i : ℕ) → getD (now map) i 0 ≡ 0) × (length (now frame) ≡ lengthIn (now b)) × (16 + lengthIn (now b) + 16 * x .count ≤ length (now b)) ⌝ }
     ensures { λ r. ⌜ viewJudged r ≡ historyJudged (now (frame .entry)) (now (b .entry)) (summaryOf x) w ⌝ }
 {
-    let bad = history_in(map, scratch, frame, b, x.count);
+    let len = frame.len();
+    let bad = unwind(&mut scratch[..len], map, frame, b, x.count);
     if bad == 0 {
-        return Judged::Accepted(x, header_found(frame, map, w));
+        return Judged::Accepted(x, spot_noted(frame, map, w));
     }
     Judged::Refused(Refusal {
         number: Refusal::ENTRY,
@@ -79,7 +80,7 @@ fn judge_history(frame: &[u8], b: &[u8], x: Record, w: usize) -> Judged
     judge_history_in(&mut map, &mut scratch, frame, b, x, w)
 }
 
-// Whether a buffer begins with a record, as `record` answers, and the header of the item that begins at word w of its frame.
+// Whether a buffer begins with a record, as `record` answers, and what stands at word w of its frame, as `spot` answers.
 pub fn judge(buf: &[u8], w: usize) -> Judged
     ensures { λ r. ⌜ JudgedTo (now (buf .entry)) w r ⌝ }
 {
@@ -119,7 +120,7 @@ pub fn record(buf: &[u8]) -> RecordFound
     let judged = judge(buf, 0);
     match judged {
         Judged::Refused(r) => RecordFound::Refused(r),
-        Judged::Accepted(x, _header) => RecordFound::Record(x),
+        Judged::Accepted(x, _spot) => RecordFound::Record(x),
     }
 }
 

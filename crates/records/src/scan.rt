@@ -1,6 +1,6 @@
 // An accepted frame scanned along the cursor, with no rules again: the header of every item, and what stands at a word.
 ghost use mathlib.Core.Path.{_≡_};
-ghost use mathlib.Core.List.{_∷_, []};
+ghost use mathlib.Core.Option.{some};
 ghost use Prim.Native.Nat.{ℕ, _+_, _*_, _≤_, _<_};
 ghost use lib.ListN.{length, getD};
 ghost use Rattle.format.specs.Words.{wordAt, longAt};
@@ -38,16 +38,9 @@ fn head_behind(item: Item, at: u16, head: u16) -> u16
     ensures { λ r. ⌜ r ≡ headBy head at (viewItem item) ⌝ }
 {
     match item {
-        Item::Channel(_) => at,
-        Item::Histogram(_) => at,
-        Item::HitCount(_) => head,
-        Item::Sample(_) => head,
-        Item::Bin(_) => head,
-        Item::LastCell(_) => head,
-        Item::TimeBin(_) => head,
-        Item::Text(_) => head,
-        Item::StartEvent(_) => head,
-        Item::EndEvent(_) => head,
+        Item::Channel(_x) => at,
+        Item::Histogram(_x) => at,
+        _ => head,
     }
 }
 
@@ -85,7 +78,7 @@ pub(crate) fn header_at(f: &[u8], head: u16) -> Header
 }
 
 // An item under a header as a spot: anything but a Sample or Bin is nothing.
-fn spot_of(item: Item, header: Header) -> SpotFound
+pub(crate) fn spot_of(item: Item, header: Header) -> SpotFound
     ensures { λ r. ⌜ viewSpot r ≡ spots.spotOf (viewHeader header) (viewItem item) ⌝ }
 {
     match item {
@@ -151,6 +144,13 @@ pub(crate) fn spot_in(f: &[u8], w: usize) -> SpotFound
     SpotFound::Nothing
 }
 
+// The answer that an item stands there, and where the next one begins.
+fn stands(item: Item, next: usize) -> Standing
+    ensures { λ r. ⌜ viewStanding r ≡ some (record { item = viewItem item; next = next }) ⌝ }
+{
+    Standing::Item(FoundItem { item, next })
+}
+
 // The item answer at a word where an item begins. A Sample or a Bin is told by the range of its word, a case of the cursor's law: entries are of
 // little else, and are judged one by one.
 pub(crate) fn item_noted(f: &[u8], at: usize) -> Standing
@@ -159,20 +159,15 @@ pub(crate) fn item_noted(f: &[u8], at: usize) -> Standing
 {
     let w = word_in(f, at);
     if (Class::SAMPLE <= w) & (w < Class::HIT_COUNT) {
-        return Standing::Item(FoundItem {
-            item: Item::Sample(Sample::of_word(w)),
-            next: at + 1,
-        });
+        return stands(Item::Sample(Sample::of_word(w)), at + 1);
     }
     if (Class::BIN <= w) & (w < Class::SAMPLE) {
         let count = long_in(f, at + 1);
-        return Standing::Item(FoundItem {
-            item: Item::Bin(Bin {
-                bin: Bin::of_word(w),
-                count,
-            }),
-            next: at + 3,
-        });
+        let x = Bin {
+            bin: Bin::of_word(w),
+            count,
+        };
+        return stands(Item::Bin(x), at + 3);
     }
     item_at(f, at)
 }

@@ -5,7 +5,7 @@ ghost use mathlib.Core.List.{_∷_, []};
 ghost use Prim.Native.Nat.{_+_, _*_, _≤_, _<_};
 ghost use lib.ListN.{length};
 ghost use lib.Seq.{sets};
-ghost use Rattle.format.specs.Words.{bytes};
+ghost use Rattle.format.specs.Words.{bytes, longWords};
 ghost use Rattle.format.specs.Spots.{legalValue};
 ghost use Rattle.records.specs.Stored.{stored, Inside};
 ghost use Rattle.records.specs.Promises.{MayHold, WordPut, ValuePut};
@@ -46,6 +46,15 @@ pub fn put_word(buf: &mut [u8], at: usize, w: u16)
     word_put(buf, at, w);
 }
 
+// Stores a number of 32 bits at byte `at`, low word first, as far as there is room.
+pub(crate) fn put_long(buf: &mut [u8], at: usize, n: u32)
+    requires { ⌜ at < length (now buf) + 16 ⌝ }
+    ensures { λ _. ⌜ now (buf .exit) ≡ sets (now (buf .entry)) at (bytes (longWords n)) ⌝ }
+{
+    put_word(buf, at, (n % 65536) as u16);
+    put_word(buf, at + 2, (n / 65536) as u16);
+}
+
 // Puts a legal value in the item of the kind at word w: a Sample's in its own word, a Bin's count in the two words after its first.
 fn put_legal(f: &mut [u8], kind: u16, w: usize, value: u32)
     requires { ⌜ (2 * w ≤ length (now f)) × (legalValue kind value ≡ true) ⌝ }
@@ -58,8 +67,7 @@ fn put_legal(f: &mut [u8], kind: u16, w: usize, value: u32)
         put_word(f, 2 * w, x.word());
         return;
     }
-    put_word(f, 2 * w + 2, (value % 65536) as u16);
-    put_word(f, 2 * w + 4, (value / 65536) as u16);
+    put_long(f, 2 * w + 2, value);
 }
 
 // The same where the item's words lie in the frame.
@@ -78,8 +86,7 @@ pub(crate) fn put_in(f: &mut [u8], kind: u16, w: usize, value: u32)
     word_put(f, 2 * w + 4, (value / 65536) as u16);
 }
 
-// Puts a value in the item of the kind whose first word is word w; leaves the bytes where an item of that kind may not hold it. Where the words surely
-// lie in the frame, as in every record, it is put with no test at each byte.
+// Puts a value in the item of the kind whose first word is word w, as far as there is room; leaves the bytes where an item of that kind may not hold it.
 pub fn put_value(f: &mut [u8], kind: u16, w: usize, value: u32)
     ensures { λ _. ⌜ ValuePut (now (f .entry)) kind w value (now (f .exit)) ⌝ }
 {
@@ -87,10 +94,6 @@ pub fn put_value(f: &mut [u8], kind: u16, w: usize, value: u32)
         return;
     }
     if legal(kind, value) {
-        if w + 2 < f.len() / 2 {
-            put_in(f, kind, w, value);
-            return;
-        }
         put_legal(f, kind, w, value);
     }
 }

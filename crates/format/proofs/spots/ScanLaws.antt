@@ -12,13 +12,14 @@ use lib.ListN.{length}
 use borrow.Author.Tests.{ltb-true, ltb-false, eqb-true, eqb-false, eq-eqb, ne-eqb}
 use Rattle.format.specs.Words.{pick, Bytes}
 use Rattle.format.specs.Answers.{Outcome, accepted, refused}
-use Rattle.format.specs.Items.{Item, Channel, Histogram, HitCount, Sample, Bin, LastCell, TimeBin, Text, StartEvent, EndEvent, wordsOf}
+use Rattle.format.specs.Items.{ItemOf, Item, Channel, Histogram, HitCount, Sample, Bin, LastCell, TimeBin, Text, StartEvent, EndEvent, wordsOf}
 use Rattle.format.specs.Frames.{Frame, lastOf, verdict}
 use Rattle.format.specs.Steps.{nextAt}
-use Rattle.format.specs.Questions.{shown, Found}
+use Rattle.format.specs.Questions.{shown, Found, Shown}
 use Rattle.format.specs.Cursor.{standingAt, shownBy, itemsFrom, On}
-use Rattle.format.specs.Spots.{Header, noHeader, Spot, spotOf, under, spotIn, spotFor, spot, headedIn, headedFor, headed, put, legalValue, withValue}
-use Rattle.format.specs.Scans.{headBy, headIn, headFor, head, headerBy, headerAt, headedBy, spotBy, Noted}
+use Rattle.format.specs.Spots.{Header, noHeader, Spot, spotOf, under, spotIn, spotFor, spot, put, legalValue, withValue}
+use Rattle.format.specs.Scans.{headBy, headIn, headFor, head, headerBy, headerAt, spotBy, Noted}
+use Rattle.format.proofs.questions.ItemQuestions.{no-some, some-is}
 use Rattle.format.proofs.rules.AlikeLaws.{blind, same-width}
 use Rattle.format.proofs.spots.SpotLaws.{replaced}
 use Rattle.format.proofs.spots.PutLaws.{changed, stands, spot-in, put-changed}
@@ -69,42 +70,36 @@ head-in : (s : List ℕ) (f : Frame) (w : ℕ) → verdict s ≡ accepted f → 
 unfolding head
 head-in s f w v = ap (λ (o : Outcome Frame). headFor o w) v
 
-headed-in : (s : List ℕ) (f : Frame) (w : ℕ) → verdict s ≡ accepted f → headed s w ≡ headedIn noHeader 3 (f .items) w
-unfolding headed
-headed-in s f w v = ap (λ (o : Outcome Frame). headedFor o w) v
-
 -- what is told of word u, by items from word `at` on, under the header k, whose word is h
 pub record Alike (s : List ℕ) (at h : ℕ) (k : Header) (xs : List Item) (u : ℕ) : Type 0 where
   pub heads : headIn h at xs u ≡ head s u
-  pub headers : headedIn k at xs u ≡ headed s u
   pub spots : spotIn k at xs u ≡ spot s u
 
 -- no item begins at word u
 pub record Blank (s : List ℕ) (u : ℕ) : Type 0 where
   pub head : head s u ≡ 0
-  pub headed : headed s u ≡ none
   pub spot : spot s u ≡ none
 
 module _ (s : List ℕ) (at h : ℕ) (k : Header) where
-  alike-first : (x : Item) (xs : List Item) → Alike s at h k (x ∷ xs) at → (headBy h at x ≡ head s at) × (some (under k x) ≡ headed s at) × (spotOf k x ≡ spot s at)
-  unfolding headIn headedIn spotIn
-  alike-first x xs a = let e = eq-eqb at at refl in (rw e at (a .heads), rw e at (a .headers), rw e at (a .spots))
+  alike-first : (x : Item) (xs : List Item) → Alike s at h k (x ∷ xs) at → (headBy h at x ≡ head s at) × (spotOf k x ≡ spot s at)
+  unfolding headIn spotIn
+  alike-first x xs a = let e = eq-eqb at at refl in (rw e at (a .heads), rw e at (a .spots))
 
   alike-later : (x : Item) (xs : List Item) (u : ℕ) → at < u → Alike s at h k (x ∷ xs) u → Alike s (at + length (wordsOf x)) (headBy h at x) (under k x) xs u
-  unfolding headIn headedIn spotIn
-  alike-later x xs u l a = let e = ne-eqb u at (λ q. omega arith) in record { heads = rw e at (a .heads); headers = rw e at (a .headers); spots = rw e at (a .spots) }
+  unfolding headIn spotIn
+  alike-later x xs u l a = let e = ne-eqb u at (λ q. omega arith) in record { heads = rw e at (a .heads); spots = rw e at (a .spots) }
 
   blank-none : (u : ℕ) → Alike s at h k [] u → Blank s u
-  unfolding headIn headedIn spotIn
-  blank-none u a = record { head = sym (a .heads); headed = sym (a .headers); spot = sym (a .spots) }
+  unfolding headIn spotIn
+  blank-none u a = record { head = sym (a .heads); spot = sym (a .spots) }
 
 -- no item begins before some items
 blank-before : (s : List ℕ) (at h : ℕ) (k : Header) (xs : List Item) (u : ℕ) → u < at → Alike s at h k xs u → Blank s u
-unfolding headIn headedIn spotIn
+unfolding headIn spotIn
 blank-before s at h k [] u l a = blank-none s at h k u a
 blank-before s at h k (x ∷ xs) u l a =
     let e = ne-eqb u at (λ q. omega arith) in
-    blank-before s (at + length (wordsOf x)) (headBy h at x) (under k x) xs u (omega arith) (record { heads = rw e at (a .heads); headers = rw e at (a .headers); spots = rw e at (a .spots) })
+    blank-before s (at + length (wordsOf x)) (headBy h at x) (under k x) xs u (omega arith) (record { heads = rw e at (a .heads); spots = rw e at (a .spots) })
 
 -- ---- the scan
 
@@ -125,7 +120,6 @@ module _ (s : List ℕ) (y : Bytes s) (f : Frame) (v : verdict s ≡ accepted f)
       let i = from-first s y f v in
       record {
         heads = ap (λ (xs : List Item). headIn 1 3 xs u) i ∙ sym (head-in s f u v);
-        headers = ap₂ (λ (k : Header) (xs : List Item). headedIn k 3 xs u) n i ∙ sym (headed-in s f u v);
         spots = ap₂ (λ (k : Header) (xs : List Item). spotIn k 3 xs u) n i ∙ sym (spot-in s f u v);
       }
 
@@ -139,7 +133,6 @@ module _ (s : List ℕ) (y : Bytes s) (f : Frame) (v : verdict s ≡ accepted f)
 -- a turn of the scan past the item x, whose words end before word n
 pub record Passed (s : List ℕ) (at h : ℕ) (x : Item) (n : ℕ) : Type 0 where
   pub head : head s at ≡ headBy h at x
-  pub headed : headed s at ≡ some (under (headerAt s h) x)
   pub spot : spot s at ≡ spotOf (headerAt s h) x
   -- "the words after an item are data"
   pub between : (u : ℕ) → at < u → u < n → Blank s u
@@ -188,8 +181,7 @@ module _ (s : List ℕ) (at h : ℕ) (g : Ahead s at h) where
       (alike-later s at h k x (itemsFrom s n) u l (subst (λ (xs : List Item). Alike s at h k xs u) (t .split) (g .alike u (omega arith)))) in
       record {
         head = sym (first .0);
-        headed = sym (first .1);
-        spot = sym (first .2);
+        spot = sym (first .1);
         between = λ u a b. blank-before s n (headBy h at x) (under k x) (itemsFrom s n) u b (later u a);
         next = record {
           on = t .next;
@@ -206,7 +198,7 @@ module _ (s : List ℕ) (at h : ℕ) (g : Ahead s at h) where
 
 -- an item begins there, or none does
 data Told (s : List ℕ) (w : ℕ) : Type 0 where
-  begins : (x : Item) (n h : ℕ) → standingAt s w ≡ some (record { item = x; next = n }) → 1 ≤ headBy h w x → under (headerAt s h) x ≡ headerAt s (headBy h w x) → Passed s w h x n → Told s w
+  begins : (x : Item) (n h : ℕ) → standingAt s w ≡ some (record { item = x; next = n }) → 1 ≤ headBy h w x → Passed s w h x n → Told s w
   blank : Blank s w → Told s w
 
 tail-is : (x y : Item) (xs ys : List Item) → x ∷ xs ≡ y ∷ ys → xs ≡ ys
@@ -220,7 +212,7 @@ told-turn s at h g w l further = go (ltb at (lastOf s)) refl
     sides : (y : Item) → Turn s at (g .on) y (nextAt s at) → (b : Bool) → eqb at w ≡ b → (c : Bool) → ltb w (nextAt s at) ≡ c → Told s w
     sides y t true q c d =
         subst (Told s) (eqb-true at w q)
-        (begins y (nextAt s at) h (t .there) (head-noted s at h g y (let i = g .on .index in omega arith)) (header-next s at h g y (nextAt s at) (t .there)) (pass s at h g y (nextAt s at) t))
+        (begins y (nextAt s at) h (t .there) (head-noted s at h g y (let i = g .on .index in omega arith)) (pass s at h g y (nextAt s at) t))
     sides y t false q true d = let n = eqb-false at w q in blank (pass s at h g y (nextAt s at) t .between w (omega arith) (ltb-true w (nextAt s at) d))
     sides y t false q false d = further y t (ltb-false w (nextAt s at) d)
 
@@ -241,52 +233,68 @@ told s y f v w = go (ltb w 3) refl
     go true b = blank (blank-first s y f v w (ltb-true w 3 b))
     go false b = told-from s (itemsFrom s 3) 3 1 (ahead-start s y f v) refl w (ltb-false w 3 b)
 
-by-noted : (s : List ℕ) (n : ℕ) → 1 ≤ n → headedBy s n ≡ some (headerAt s n)
-by-noted s zero l = absurd (omega arith)
-by-noted s (suc n) l = refl
+pub by-noted : (s : List ℕ) (n : ℕ) → 1 ≤ n → (r : Shown) → spotBy s n (some r) ≡ spotOf (headerAt s n) (r .item)
+by-noted s zero l r = absurd (omega arith)
+by-noted s (suc n) l r = refl
 
 -- a Sample or Bin is no header, so that the header behind it is the one that it stands under
-under-spot : (k : Header) (x : Item) → spotOf (under k x) x ≡ spotOf k x
-under-spot k (Channel a b c) = refl
-under-spot k (Histogram a b c) = refl
-under-spot k (HitCount a b c) = refl
-under-spot k (Sample v) = refl
-under-spot k (Bin b n) = refl
-under-spot k (LastCell a b) = refl
-under-spot k (TimeBin t) = refl
-under-spot k (Text t) = refl
-under-spot k (StartEvent t ts n) = refl
-under-spot k (EndEvent n) = refl
+behind-spot : (s : List ℕ) (h at : ℕ) (x : Item) → spotOf (headerAt s (headBy h at x)) x ≡ spotOf (headerAt s h) x
+behind-spot s h at (Channel a b c) = refl
+behind-spot s h at (Histogram a b c) = refl
+behind-spot s h at (HitCount a b c) = refl
+behind-spot s h at (Sample v) = refl
+behind-spot s h at (Bin b n) = refl
+behind-spot s h at (LastCell a b) = refl
+behind-spot s h at (TimeBin t) = refl
+behind-spot s h at (Text t) = refl
+behind-spot s h at (StartEvent t ts n) = refl
+behind-spot s h at (EndEvent n) = refl
+
+-- a spot of an item has the header that the item was given
+own-header : (p : Spot) (k : Header) (z : ItemOf ℕ) → some p ≡ spotOf k z → some p ≡ spotOf (p .header) z
+own-header p k (Channel a b c) e = no-some p (sym e)
+own-header p k (Histogram a b c) e = no-some p (sym e)
+own-header p k (HitCount a b c) e = no-some p (sym e)
+own-header p k (Sample v) e = e ∙ ap (λ (q : Spot). some (record { kind = 1; value = v; header = q .header })) (sym (some-is p _ e))
+own-header p k (Bin b n) e = e ∙ ap (λ (q : Spot). some (record { kind = 2; value = n; header = q .header })) (sym (some-is p _ e))
+own-header p k (LastCell a b) e = no-some p (sym e)
+own-header p k (TimeBin t) e = no-some p (sym e)
+own-header p k (Text t) e = no-some p (sym e)
+own-header p k (StartEvent t ts n) e = no-some p (sym e)
+own-header p k (EndEvent n) e = no-some p (sym e)
 
 module _ (s : List ℕ) (y : Bytes s) (w : ℕ) where
-  -- the word noted tells the header of the item there
-  pub headed-by : headed s w ≡ headedBy s (head s w)
-  unfolding head headed
-  headed-by = judged (verdict s) refl
-    where
-      by : Told s w → headed s w ≡ headedBy s (head s w)
-      by (begins x n h e l i p) =
-          p .headed ∙ ap some i ∙ sym (by-noted s (headBy h w x) l) ∙ ap (headedBy s) (sym (p .head))
-      by (blank b) = b .headed ∙ ap (headedBy s) (sym (b .head))
-
-      judged : (o : Outcome Frame) → verdict s ≡ o → headed s w ≡ headedBy s (head s w)
-      judged (accepted f) v = by (told s y f v w)
-      judged (refused n p) v = ap (λ (o : Outcome Frame). headedFor o w) v ∙ ap (λ (o : Outcome Frame). headedBy s (headFor o w)) (sym v)
-
-  -- the header of a word and the item that stands there tell the spot
-  pub spot-by : spot s w ≡ spotBy (headed s w) (shownBy (standingAt s w))
-  unfolding headed spot
+  -- the word noted and the item that stands there tell the spot
+  pub spot-by : spot s w ≡ spotBy s (head s w) (shownBy (standingAt s w))
+  unfolding head spot
   spot-by = judged (verdict s) refl
     where
-      by : Told s w → spot s w ≡ spotBy (headed s w) (shownBy (standingAt s w))
-      by (begins x n h e l i p) =
-          p .spot ∙ sym (under-spot (headerAt s h) x) ∙ sym (shown-spot (under (headerAt s h) x) x)
-          ∙ ap₂ (λ (o : Option Header) (r : Option Found). spotBy o (shownBy r)) (sym (p .headed)) (sym e)
-      by (blank b) = b .spot ∙ ap (λ (o : Option Header). spotBy o (shownBy (standingAt s w))) (sym (b .headed))
+      by : Told s w → spot s w ≡ spotBy s (head s w) (shownBy (standingAt s w))
+      by (begins x n h e l p) =
+          p .spot ∙ sym (behind-spot s h w x) ∙ sym (shown-spot (headerAt s (headBy h w x)) x)
+          ∙ sym (by-noted s (headBy h w x) l (record { item = shown x; next = n }))
+          ∙ ap₂ (λ (i : ℕ) (o : Option Found). spotBy s i (shownBy o)) (sym (p .head)) (sym e)
+      by (blank b) = b .spot ∙ ap (λ (i : ℕ). spotBy s i (shownBy (standingAt s w))) (sym (b .head))
 
-      judged : (o : Outcome Frame) → verdict s ≡ o → spot s w ≡ spotBy (headed s w) (shownBy (standingAt s w))
+      judged : (o : Outcome Frame) → verdict s ≡ o → spot s w ≡ spotBy s (head s w) (shownBy (standingAt s w))
       judged (accepted f) v = by (told s y f v w)
-      judged (refused n p) v = ap (λ (o : Outcome Frame). spotFor o w) v ∙ ap (λ (o : Outcome Frame). spotBy (headedFor o w) (shownBy (standingAt s w))) (sym v)
+      judged (refused n p) v = ap (λ (o : Outcome Frame). spotFor o w) v ∙ ap (λ (o : Outcome Frame). spotBy s (headFor o w) (shownBy (standingAt s w))) (sym v)
+
+  -- where no item stands there is no spot
+  pub no-spot : none ≡ shownBy (standingAt s w) → none ≡ spot s w
+  no-spot e = sym (spot-by ∙ ap (spotBy s (head s w)) (sym e) ∙ go (head s w))
+    where
+      go : (h : ℕ) → spotBy s h none ≡ none
+      go zero = refl
+      go (suc h) = refl
+
+  -- a spot is the item answered at its word, under its header
+  pub spot-shown : (p : Spot) → some p ≡ spot s w → (r : Shown) → some r ≡ shownBy (standingAt s w) → some p ≡ spotOf (p .header) (r .item)
+  spot-shown p e r i = go (head s w) (e ∙ spot-by ∙ ap (spotBy s (head s w)) (sym i))
+    where
+      go : (h : ℕ) → some p ≡ spotBy s h (some r) → some p ≡ spotOf (p .header) (r .item)
+      go zero q = no-some p (sym q)
+      go (suc h) q = own-header p (headerAt s (suc h)) (r .item) q
 
 none-noted : (s : List ℕ) (w n p : ℕ) → verdict s ≡ refused n p → head s w ≡ 0
 unfolding head
@@ -297,7 +305,7 @@ pub noted-there : (s : List ℕ) → Bytes s → (w : ℕ) → 1 ≤ head s w �
 noted-there s y w l = judged (verdict s) refl
   where
     by : Told s w → Noted s w
-    by (begins x n h e m i p) =
+    by (begins x n h e m p) =
         let t = stood s w x n e in
         record { late = t .late; early = t .early; whole = next-at s (lastOf s) (within-bytes s) w x (t .early) (t .token) .within }
     by (blank b) = let z = b .head in absurd (omega arith)

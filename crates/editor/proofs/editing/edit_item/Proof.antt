@@ -8,15 +8,17 @@ use mathlib.Core.Option.{some}
 use lib.ListN.{take, drop}
 use Rattle.format.specs.Words.{Bytes}
 use Rattle.format.specs.Cursor.{standingAt, shownBy}
-use Rattle.format.specs.Spots.{spotOf, headed}
+use Rattle.format.specs.Spots.{spotOf}
 use Rattle.book.specs.Views.{viewItem}
 use Rattle.book.specs.declared.items.Item.{Item}
 use Rattle.ledger.specs.Records.{frameIn}
 use Rattle.cursor.specs.Views.{viewFoundItem, viewStanding}
-use Rattle.records.specs.Views.{viewHeader, viewHeaderFound}
+use Rattle.ledger.specs.PlaneFrames.{planeFrames}
+use Rattle.records.specs.declared.answers.SpotFound.the-variants as found
+use Rattle.records.specs.Views.{viewHeader, viewSpot}
 use Rattle.records.proofs.Scanning.{other-spot}
 use Rattle.editor.proofs.KnownLaws.{sum, inside}
-use Rattle.editor.proofs.EditLaws.{not-headed, not-standing, other-item, item-holds, no-target, edited-refused}
+use Rattle.editor.proofs.EditLaws.{not-standing, other-item, item-holds, no-target, edited-refused}
 use borrow.Author.Needs.{needs}
 use Rattle.editor.proofs.editing.edit_item.Statement.{statement}
 use Rattle.editor.proofs.editing.edit_item.Tie as tie
@@ -24,17 +26,17 @@ use Rattle.editor.proofs.editing.edit_item.Tie as tie
 lent : (c : tie.After-slice-known) → Bytes (now (c .before .args .buf))
 lent c i = (c .slice-known .given i) .fits
 
--- the header of the word, and the item answered there
-header-is : (c : tie.After-header) → some (viewHeader (c .header .given .0 .0)) ≡ headed (frameIn (now (c .before .before .before .args .buf))) (c .before .before .before .args .c .word)
-header-is c = sym (ap viewHeaderFound (c .header .given .1)) ∙ c .before .before .before .pre .1
+-- what judging told of the word, and the item answered there
+spot-is : (c : tie.After-spot) → viewSpot (found.Spot (c .spot .given .0 .0)) ≡ planeFrames .spot (frameIn (now (c .before .before .before .args .buf))) (c .before .before .before .args .c .word)
+spot-is c = sym (ap viewSpot (c .spot .given .1)) ∙ c .before .before .before .pre .1
 
 item-is : (c : tie.After-standing)
     → some (viewFoundItem (c .standing .given .0 .0))
     ≡ shownBy (standingAt (take (16 + c .before .before .before .before .before .before .before .before .before .before .args .x .length - 16) (drop 16 (now (c .before .before .before .before .before .before .before .before .before .before .args .buf)))) (c .before .before .before .before .before .before .before .before .before .before .args .c .word))
 item-is c = sym (ap viewStanding (c .standing .given .1)) ∙ c .before .before .item-at .ensures
 
-enum-known-header : tie.Need-enum-known-header
-enum-known-header c = search needs
+enum-known-spot : tie.Need-enum-known-spot
+enum-known-spot c = search needs
 
 enum-told : tie.Need-enum-told
 enum-told c = search needs
@@ -45,10 +47,9 @@ test-requires c κs = search needs
 returns : tie.Need-returns
 returns c =
     let t = c .before in
-    let k = t .before .before in
-    let start = k .before in
+    let start = t .before .before .before in
     edited-refused _ _ _ 22 0 (c .test .ensures)
-    (no-target _ _ (start .pre .0) (start .args .c) (not-headed _ _ (start .pre .0) (lent k) _ (sym (ap viewHeaderFound (t .enum-told .given .1)) ∙ start .pre .1)))
+    (no-target _ _ (start .pre .0) (start .args .c) (sym (ap viewSpot (t .enum-told .given .1)) ∙ start .pre .1))
 
 add-end : tie.Need-add-end
 add-end c = search needs
@@ -101,7 +102,7 @@ edit-value-requires c κs =
     let h = s .before .before .before .before .before .before .before in
     let k = h .before .before in
     let start = k .before in
-    (start .pre .0, item-holds _ _ (start .pre .0) (lent k) _ _ _ _ (header-is h) (item-is s) _ _ (ap (λ (z : Item). spotOf (viewHeader (h .header .given .0 .0)) (viewItem z)) (sym (t .item .given .1))))
+    (start .pre .0, item-holds _ _ (start .pre .0) (lent k) _ _ _ _ (spot-is h) (item-is s) _ _ (ap (λ (z : Item). spotOf (viewHeader (h .spot .given .0 .0 .header)) (viewItem z)) (sym (t .item .given .1))))
 
 enum-known-item-2 : tie.Need-enum-known-item-2
 enum-known-item-2 c = search needs
@@ -113,7 +114,7 @@ edit-value-requires-2 c κs =
     let h = s .before .before .before .before .before .before .before in
     let k = h .before .before in
     let start = k .before in
-    (start .pre .0, item-holds _ _ (start .pre .0) (lent k) _ _ _ _ (header-is h) (item-is s) _ _ (ap (λ (z : Item). spotOf (viewHeader (h .header .given .0 .0)) (viewItem z)) (sym (t .item2 .given .1))))
+    (start .pre .0, item-holds _ _ (start .pre .0) (lent k) _ _ _ _ (spot-is h) (item-is s) _ _ (ap (λ (z : Item). spotOf (viewHeader (h .spot .given .0 .0 .header)) (viewItem z)) (sym (t .item2 .given .1))))
 
 test-requires-3 : tie.Need-test-requires-3
 test-requires-3 c κs = search needs
@@ -141,13 +142,13 @@ returns-5 c =
     let k = h .before .before in
     let start = k .before in
     edited-refused _ _ _ 22 0 (c .test3 .ensures)
-    (no-target _ _ (start .pre .0) (start .args .c) (other-item _ _ (start .pre .0) (lent k) _ _ _ _ (header-is h) (item-is s) (other-spot (s .standing .given .0 .0 .item) (m .match3 .keys3) _)))
+    (no-target _ _ (start .pre .0) (start .args .c) (other-item _ _ (start .pre .0) (lent k) _ _ _ _ (spot-is h) (item-is s) (other-spot (s .standing .given .0 .0 .item) (m .match3 .keys3) _)))
 
 pub edit-item-spec : {M : Type 1} → statement M
 edit-item-spec =
     tie.close
     (tie.spec
-    enum-known-header
+    enum-known-spot
     enum-told
     test-requires
     returns

@@ -29,14 +29,11 @@ word-in-requires c κs = search needs
 word-in-requires-2 : tie.Need-word-in-requires-2
 word-in-requires-2 c κs = search needs
 
-cast-at : tie.Need-cast-at
-cast-at c = search needs
-
 long-in-requires : tie.Need-long-in-requires
 long-in-requires c κs = search needs
 
-put-value-requires : tie.Need-put-value-requires
-put-value-requires c κs = search needs
+undo-at-requires : tie.Need-undo-at-requires
+undo-at-requires c κs = search needs
 
 same-length-2 : tie.Need-same-length-2
 same-length-2 c = search needs
@@ -45,7 +42,7 @@ returns-2 : tie.Need-returns-2
 returns-2 c =
     let p = c .before .before in
     let l = p .before .before in
-    old-put _ _ _ _ _ _ (l .before .before .word-in .ensures) (l .before .word-in2 .ensures) (l .long-in .ensures) (p .put-value .ensures)
+    old-put _ _ _ _ _ _ (l .before .before .word-in .ensures) (l .before .word-in2 .ensures) (l .long-in .ensures) (p .undo-at .ensures)
 
 pub undo-from-spec : {M : Type 1} → statement M
 undo-from-spec =
@@ -57,8 +54,7 @@ undo-from-spec =
     returns
     word-in-requires
     word-in-requires-2
-    cast-at
     long-in-requires
-    put-value-requires
+    undo-at-requires
     same-length-2
     returns-2)

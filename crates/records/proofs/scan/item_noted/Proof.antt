@@ -1,5 +1,6 @@
 -- `records::scan::item_noted` meets its contract: a Sample or Bin by the range of its word, as the cursor answers it.
 -- Assumes nothing.
+use mathlib.Core.Path.{_∙_}
 use native.Mathlib.Omega.{arith}
 use borrow.Author.Needs.{needs}
 use Rattle.records.proofs.Scanning.{noted-sample, noted-bin, noted-count}
@@ -12,13 +13,17 @@ word-in-requires c κs = let p = c .before .pre in omega (arith, p .early)
 of-word-requires : tie.Need-of-word-requires
 of-word-requires c κs = search needs
 
-add-t10 : tie.Need-add-t10
-add-t10 c = let p = c .before .before .before .before .pre in omega (arith, p .early)
+add-stands : tie.Need-add-stands
+add-stands c = let p = c .before .before .before .before .pre in omega (arith, p .early)
+
+stands-requires : tie.Need-stands-requires
+stands-requires c κs = search needs
 
 returns : tie.Need-returns
 returns c =
-    let w = c .before .before in
-    noted-sample _ _ (w .before .before .pre) _ (w .word-in .ensures) (c .before .if1 .taken) _ (c .of-word .ensures)
+    let o = c .before in
+    let w = o .before .before in
+    c .stands .ensures ∙ noted-sample _ _ (w .before .before .pre) _ (w .word-in .ensures) (o .before .if1 .taken) _ (o .of-word .ensures)
 
 add-long-in : tie.Need-add-long-in
 add-long-in c = let p = c .before .before .before .before .pre in omega (arith, p .early)
@@ -31,14 +36,18 @@ long-in-requires c κs =
 of-word-requires-2 : tie.Need-of-word-requires-2
 of-word-requires-2 c κs = search needs
 
-add-t12 : tie.Need-add-t12
-add-t12 c = let p = c .before .before .before .before .before .before .pre in omega (arith, p .early)
+add-stands-2 : tie.Need-add-stands-2
+add-stands-2 c = let p = c .before .before .before .before .before .before .pre in omega (arith, p .early)
+
+stands-requires-2 : tie.Need-stands-requires-2
+stands-requires-2 c κs = search needs
 
 returns-2 : tie.Need-returns-2
 returns-2 c =
-    let t = c .before .before in
+    let o = c .before in
+    let t = o .before .before in
     let w = t .before .before in
-    noted-count _ _ (w .before .before .pre) _ (w .word-in .ensures) (t .if2 .taken) _ _ (c .of-word2 .ensures) (c .before .long-in .ensures)
+    c .stands2 .ensures ∙ noted-count _ _ (w .before .before .pre) _ (w .word-in .ensures) (t .if2 .taken) _ _ (o .of-word2 .ensures) (o .before .long-in .ensures)
 
 item-at-requires : tie.Need-item-at-requires
 item-at-requires c κs = search needs
@@ -52,12 +61,14 @@ item-noted-spec =
     (tie.spec
     word-in-requires
     of-word-requires
-    add-t10
+    add-stands
+    stands-requires
     returns
     add-long-in
     long-in-requires
     of-word-requires-2
-    add-t12
+    add-stands-2
+    stands-requires-2
     returns-2
     item-at-requires
     returns-3)

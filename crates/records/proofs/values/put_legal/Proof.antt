@@ -1,7 +1,7 @@
 -- `records::values::put_legal` meets its contract.
 -- Assumes nothing.
 use native.Mathlib.Omega.{arith}
-use Rattle.records.proofs.Storing.{sample-fits, sample-stored, bin-stored}
+use Rattle.records.proofs.Storing.{sample-fits, sample-stored, count-stored}
 use borrow.Author.Needs.{needs}
 use Rattle.records.proofs.values.put_legal.Statement.{statement}
 use Rattle.records.proofs.values.put_legal.Tie as tie
@@ -27,29 +27,14 @@ returns c =
     let start = p .before .before .before .before .before in
     sample-stored _ _ _ _ (start .pre .1) (omega arith) _ _ (p .before .word .ensures) (p .put-word .ensures)
 
-mul-put-word-2 : tie.Need-mul-put-word-2
-mul-put-word-2 c = search needs
+mul-put-long : tie.Need-mul-put-long
+mul-put-long c = search needs
 
-add-put-word : tie.Need-add-put-word
-add-put-word c = search needs
+add-put-long : tie.Need-add-put-long
+add-put-long c = search needs
 
-cast-put-word-2 : tie.Need-cast-put-word-2
-cast-put-word-2 c = search needs
-
-put-word-requires-2 : tie.Need-put-word-requires-2
-put-word-requires-2 c κs = search needs
-
-mul-put-word-3 : tie.Need-mul-put-word-3
-mul-put-word-3 c = search needs
-
-add-put-word-2 : tie.Need-add-put-word-2
-add-put-word-2 c = search needs
-
-cast-put-word-3 : tie.Need-cast-put-word-3
-cast-put-word-3 c = search needs
-
-put-word-requires-3 : tie.Need-put-word-requires-3
-put-word-requires-3 c κs = search needs
+put-long-requires : tie.Need-put-long-requires
+put-long-requires c κs = omega (arith, c .before .before .before .pre .0)
 
 same-length-2 : tie.Need-same-length-2
 same-length-2 c = search needs
@@ -57,9 +42,8 @@ same-length-2 c = search needs
 returns-2 : tie.Need-returns-2
 returns-2 c =
     let p = c .before .before in
-    let q = p .before .before .before .before in
-    let start = q .before .before .before .before in
-    bin-stored _ _ _ _ (start .pre .1) (λ e. omega arith) _ _ (q .put-word2 .ensures) (p .put-word3 .ensures)
+    let start = p .before .before .before .before in
+    count-stored _ _ _ _ (start .pre .1) (λ e. omega arith) _ (p .put-long .ensures)
 
 pub put-legal-spec : {M : Type 1} → statement M
 put-legal-spec =
@@ -71,13 +55,8 @@ put-legal-spec =
     put-word-requires
     same-length
     returns
-    mul-put-word-2
-    add-put-word
-    cast-put-word-2
-    put-word-requires-2
-    mul-put-word-3
-    add-put-word-2
-    cast-put-word-3
-    put-word-requires-3
+    mul-put-long
+    add-put-long
+    put-long-requires
     same-length-2
     returns-2)

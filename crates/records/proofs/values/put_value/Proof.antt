@@ -13,11 +13,8 @@ returns c = past-left _ _ _ _ (omega arith)
 legal-requires : tie.Need-legal-requires
 legal-requires c κs = search needs
 
-add-if3 : tie.Need-add-if3
-add-if3 c = search needs
-
-put-in-requires : tie.Need-put-in-requires
-put-in-requires c κs = (record { sample = λ e. omega arith; bin = λ e. omega arith }, sym (c .before .before .before .legal .ensures) ∙ c .before .before .if2 .taken)
+put-legal-requires : tie.Need-put-legal-requires
+put-legal-requires c κs = (omega arith, sym (c .before .before .legal .ensures) ∙ c .before .if2 .taken)
 
 same-length : tie.Need-same-length
 same-length c = search needs
@@ -25,17 +22,8 @@ same-length c = search needs
 returns-2 : tie.Need-returns-2
 returns-2 c = search needs
 
-put-legal-requires : tie.Need-put-legal-requires
-put-legal-requires c κs = (omega arith, sym (c .before .before .before .legal .ensures) ∙ c .before .before .if2 .taken)
-
-same-length-2 : tie.Need-same-length-2
-same-length-2 c = search needs
-
 returns-3 : tie.Need-returns-3
-returns-3 c = search needs
-
-returns-4 : tie.Need-returns-4
-returns-4 c = illegal-left _ _ _ _ (sym (c .before .legal .ensures) ∙ c .if2 .left)
+returns-3 c = illegal-left _ _ _ _ (sym (c .before .legal .ensures) ∙ c .if2 .left)
 
 pub put-value-spec : {M : Type 1} → statement M
 put-value-spec =
@@ -43,11 +31,7 @@ put-value-spec =
     (tie.spec
     returns
     legal-requires
-    add-if3
-    put-in-requires
+    put-legal-requires
     same-length
     returns-2
-    put-legal-requires
-    same-length-2
-    returns-3
-    returns-4)
+    returns-3)

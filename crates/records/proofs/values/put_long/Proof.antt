@@ -1,9 +1,9 @@
--- `records::entries::put_long` meets its contract.
+-- `records::values::put_long` meets its contract.
 -- Assumes nothing.
 use Rattle.records.proofs.Storing.{long-stored}
 use borrow.Author.Needs.{needs}
-use Rattle.records.proofs.entries.put_long.Statement.{statement}
-use Rattle.records.proofs.entries.put_long.Tie as tie
+use Rattle.records.proofs.values.put_long.Statement.{statement}
+use Rattle.records.proofs.values.put_long.Tie as tie
 
 cast-put-word : tie.Need-cast-put-word
 cast-put-word c = search needs
