@@ -3,7 +3,7 @@
 use denote.Ref.{now}
 use native.Mathlib.Omega.{arith}
 use mathlib.Core.Path.{ap, sym, _∙_}
-use Rattle.frame.specs.Views.{viewStanding}
+use Rattle.cursor.specs.Views.{viewStanding}
 use Rattle.records.proofs.UndoLaws.{none-noted, none-stands, spot-told}
 use borrow.Author.Needs.{needs}
 use Rattle.records.proofs.history.spot_noted.Statement.{statement}
