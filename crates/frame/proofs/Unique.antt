@@ -8,7 +8,7 @@ use Rattle.format.specs.Answers.{accepted, refused}
 use Rattle.format.specs.Rules as rules
 use Rattle.format.specs.Steps as steps
 use Rattle.format.specs.Steps.{ReaderState, Stepped, moved, stopped, Summary, Overview}
-use Rattle.format.specs.Questions.{Shown}
+use Rattle.format.specs.Questions.{Shown, IndexedShown}
 use Rattle.book.proofs.Unique.{undone, same-item, same-refusal}
 use Rattle.frame.specs.declared.state.Kind.{Kind}
 use Rattle.frame.specs.declared.state.Kind.the-variants as kind
@@ -26,11 +26,12 @@ use Rattle.frame.specs.declared.reading.Reading.the-variants as reading
 use Rattle.frame.specs.declared.reading.Indexed.{Indexed}
 use Rattle.frame.specs.declared.reading.Indexed.the-variants as indexed
 use Rattle.frame.specs.declared.items.FoundItem.{FoundItem}
+use Rattle.frame.specs.declared.items.IndexedItem.{IndexedItem}
 use Rattle.frame.specs.declared.items.Found.{Found}
 use Rattle.frame.specs.declared.items.Found.the-variants as found
 use Rattle.frame.specs.declared.cursor.Standing.{Standing}
 use Rattle.frame.specs.declared.cursor.Standing.the-variants as standing
-use Rattle.frame.specs.Views.{viewKind, viewMode, viewState, viewStep, viewSummary, viewWalk, viewFrame, viewReading, viewIndexed, viewFoundItem, viewFound, viewStanding}
+use Rattle.frame.specs.Views.{viewKind, viewMode, viewState, viewStep, viewSummary, viewWalk, viewFrame, viewReading, viewIndexed, viewFoundItem, viewIndexedItem, viewFound, viewStanding}
 
 abbrev kindBack : rules.Kind → Kind
 kindBack rules.dataKind = kind.Data
@@ -137,8 +138,15 @@ same-found-item r q e =
     let b : r .next ≡ q .next = ap (λ (x : Shown). x .next) e in
     λ i. record { item = a i; next = b i }
 
+same-indexed-item : (r q : IndexedItem) → viewIndexedItem r ≡ viewIndexedItem q → r ≡ q
+same-indexed-item r q e =
+    let a : r .index ≡ q .index = ap (λ (x : IndexedShown). x .index) e in
+    let b = same-item (r .item) (q .item) (ap (λ (x : IndexedShown). x .item) e) in
+    let c : r .next ≡ q .next = ap (λ (x : IndexedShown). x .next) e in
+    λ i. record { index = a i; item = b i; next = c i }
+
 pub same-found : (r q : Found) → viewFound r ≡ viewFound q → r ≡ q
-same-found (found.Item x) (found.Item y) e = ap found.Item (same-found-item x y (inner _ _ e))
+same-found (found.Item x) (found.Item y) e = ap found.Item (same-indexed-item x y (inner _ _ e))
 same-found (found.Item x) (found.Refused n) e = neither _ _ _ e
 same-found (found.Refused n) (found.Item x) e = neither _ _ _ (sym e)
 same-found (found.Refused n) (found.Refused m) e = ap found.Refused (same-refusal n m e)

@@ -13,7 +13,7 @@ use Rattle.format.specs.Answers.{Outcome, accepted, refused}
 use Rattle.format.specs.Words.{wordAt}
 use Rattle.format.specs.Steps as steps
 use Rattle.format.specs.Steps.{ReaderState, Stepped, moved, stopped, placeBy, endedBy, Summary, Overview}
-use Rattle.format.specs.Questions.{Shown}
+use Rattle.format.specs.Questions.{Shown, IndexedShown}
 use Rattle.book.specs.Views.{viewItem, refusal}
 use Rattle.frame.specs.declared.state.Kind.{Kind}
 use Rattle.frame.specs.declared.state.Kind.the-variants as kind
@@ -29,6 +29,7 @@ use Rattle.frame.specs.declared.reading.Reading.the-variants as reading
 use Rattle.frame.specs.declared.reading.Indexed.{Indexed}
 use Rattle.frame.specs.declared.reading.Indexed.the-variants as indexed
 use Rattle.frame.specs.declared.items.FoundItem.{FoundItem}
+use Rattle.frame.specs.declared.items.IndexedItem.{IndexedItem}
 use Rattle.frame.specs.declared.items.Found.{Found}
 use Rattle.frame.specs.declared.items.Found.the-variants as found
 use Rattle.frame.specs.declared.cursor.Standing.{Standing}
@@ -79,8 +80,11 @@ viewIndexed (indexed.Refused r) = refusal r
 abbrev pub viewFoundItem : FoundItem → Shown
 viewFoundItem x = record { item = viewItem (x .item); next = x .next }
 
-abbrev pub viewFound : Found → Outcome Shown
-viewFound (found.Item x) = accepted (viewFoundItem x)
+abbrev pub viewIndexedItem : IndexedItem → IndexedShown
+viewIndexedItem x = record { index = x .index; item = viewItem (x .item); next = x .next }
+
+abbrev pub viewFound : Found → Outcome IndexedShown
+viewFound (found.Item x) = accepted (viewIndexedItem x)
 viewFound (found.Refused r) = refusal r
 
 abbrev pub viewStanding : Standing → Option Shown

@@ -10,18 +10,25 @@ use crate::reading::judge;
 use book::items::Item;
 use book::refusal::Refusal;
 
-// An item, and the index of the next one, or of the end word.
+// An item, and the index of the next one, or of the end word: what stands at a word (cursor.rt).
 pub struct FoundItem {
     pub item: Item,
     pub next: usize,
 }
 
+// The same with the index of the item's own first word: what stands at an ordinal.
+pub struct IndexedItem {
+    pub index: usize,
+    pub item: Item,
+    pub next: usize,
+}
+
 pub enum Found {
-    Item(FoundItem),
+    Item(IndexedItem),
     Refused(Refusal),
 }
 
-// Item n of a frame, from 0, and the index of the next item or of the end word. Refuses as `read` does, then 13 where there is no such item: the
+// Item n of a frame, from 0, its own word index, and that of the next item or of the end word. Refuses as `read` does, then 13 where there is no such item: the
 // walk then noted word 0, where none stands.
 pub fn item(s: &[u8], n: usize) -> Found
     ensures { λ r. ⌜ ItemAnswered (now (s .entry)) n r ⌝ }
@@ -32,7 +39,14 @@ pub fn item(s: &[u8], n: usize) -> Found
         Indexed::Accepted(_, at) => {
             let standing = item_at(s, at);
             match standing {
-                Standing::Item(x) => Found::Item(x),
+                Standing::Item(x) => {
+                    let item = x.item;
+                    Found::Item(IndexedItem {
+                        index: at,
+                        item,
+                        next: x.next,
+                    })
+                }
                 Standing::Nothing => Found::Refused(Refusal {
                     number: Refusal::ABSENT,
                     place: 0,
