@@ -14,7 +14,7 @@ use Rattle.format.specs.Items.{ItemOf, Item, Channel, Histogram, HitCount, Samp
 use Rattle.format.specs.Rules.{dataKind, same}
 use Rattle.format.specs.Frames.{earlierThen, lastOf}
 use Rattle.format.specs.Cursor.{standingAt, shownBy, unshown, itemsFrom, On}
-use Rattle.format.specs.Questions.{shown, until, past, isChannel}
+use Rattle.format.specs.Questions.{shown, until, pastAt, isChannel}
 use Rattle.format.proofs.book.PrefixLaws.{and-left, and-right}
 use Rattle.format.proofs.items.WordLaws.{word-below}
 use Rattle.format.proofs.book.BookLaws.{ranged, in-range}
@@ -27,7 +27,7 @@ use Rattle.questions.proofs.Turns.{ends-shown, amid-next, one-turn}
 
 pub record Seeking (s : List ℕ) (from chip c at : ℕ) : Type 0 where
   pub amid : Amid s dataKind at
-  pub still : past (isChannel chip c) (until endEvent (itemsFrom s at)) ≡ past (isChannel chip c) (until endEvent (itemsFrom s from))
+  pub still : pastAt (isChannel chip c) at (until endEvent (itemsFrom s at)) ≡ pastAt (isChannel chip c) from (until endEvent (itemsFrom s from))
 
 pub seeking-start : (s : List ℕ) (from chip c : ℕ) → Amid s dataKind from → Seeking s from chip c from
 seeking-start s from chip c a = record { amid = a; still = refl }
@@ -82,21 +82,21 @@ module _ (s : List ℕ) (from chip c at : ℕ) (k : Seeking s from chip c at) wh
   g = k .amid .on
 
   here : (x : Item) (n : ℕ) → Turn s at g x n → same endEvent (classFor x) ≡ false
-      → past (isChannel chip c) (until endEvent (itemsFrom s from)) ≡ past (isChannel chip c) (x ∷ until endEvent (itemsFrom s n))
+      → pastAt (isChannel chip c) from (until endEvent (itemsFrom s from)) ≡ pastAt (isChannel chip c) at (x ∷ until endEvent (itemsFrom s n))
   here x n t e =
-      sym (k .still) ∙ ap (λ (xs : List Item). past (isChannel chip c) (until endEvent xs)) (t .split) ∙ ap (past (isChannel chip c)) (until-other x (itemsFrom s n) e)
+      sym (k .still) ∙ ap (λ (xs : List Item). pastAt (isChannel chip c) at (until endEvent xs)) (t .split) ∙ ap (pastAt (isChannel chip c) at) (until-other x (itemsFrom s n) e)
 
   past-item : (x : Item) (n : ℕ) → Turn s at g x n → same endEvent (classFor x) ≡ false → isChannel chip c x ≡ false → Seeking s from chip c n
   past-item x n t e f = record {
     amid = amid-next s dataKind at (k .amid) x n t;
-    still = sym (here x n t e ∙ past-miss (isChannel chip c) x _ f);
+    still = sym (here x n t e ∙ past-miss (isChannel chip c) at n x _ (t .wide) f);
   }
 
   hit-item : (x : Item) (n : ℕ) → Turn s at g x n → same endEvent (classFor x) ≡ false → isChannel chip c x ≡ true → ChannelAt s from chip c n
   hit-item x n t e f =
       let h = header-of chip c x f in
       record {
-        passed = here x n t e ∙ past-hit (isChannel chip c) x _ f;
+        passed = here x n t e ∙ past-hit (isChannel chip c) at n x _ (t .wide) f;
         headed = record {
           on = t .next;
           card = h .card;
@@ -134,11 +134,11 @@ module _ (s : List ℕ) (from chip c at : ℕ) (k : Seeking s from chip c at) wh
   -- ---- an item that the cursor answers
 
   module _ (z : ItemOf ℕ) (n : ℕ) (r : some (record { item = z; next = n }) ≡ shownBy (standingAt s at)) where
-    pub seeking-end : endsEvent z ≡ true → past (isChannel chip c) (until endEvent (itemsFrom s from)) ≡ none
-    unfolding past
+    pub seeking-end : endsEvent z ≡ true → pastAt (isChannel chip c) from (until endEvent (itemsFrom s from)) ≡ none
+    unfolding pastAt
     seeking-end f =
         let (x, i, t) = answered s at g z n (sym r) in
-        sym (k .still) ∙ ap (λ (xs : List Item). past (isChannel chip c) (until endEvent xs)) (t .split) ∙ ap (past (isChannel chip c)) (until-end x _ (ends-shown x z i ∙ f))
+        sym (k .still) ∙ ap (λ (xs : List Item). pastAt (isChannel chip c) at (until endEvent xs)) (t .split) ∙ ap (pastAt (isChannel chip c) at) (until-end x _ (ends-shown x z i ∙ f))
 
     module _ (f : endsEvent z ≡ false) where
       pub seeking-next : isChannel chip c (unshown z) ≡ false → Seeking s from chip c n
@@ -153,6 +153,6 @@ module _ (s : List ℕ) (from chip c at : ℕ) (k : Seeking s from chip c at) wh
           hit-item x n t (ends-shown x z i ∙ f)
           (as-shown chip c x ∙ ap (λ (y : ItemOf ℕ). isChannel chip c (unshown y)) i ∙ e)
 
-  pub seeking-none : lastOf s ≤ at → past (isChannel chip c) (until endEvent (itemsFrom s from)) ≡ none
-  unfolding past until
-  seeking-none l = sym (k .still) ∙ ap (λ (xs : List Item). past (isChannel chip c) (until endEvent xs)) (run-out s at g l .0)
+  pub seeking-none : lastOf s ≤ at → pastAt (isChannel chip c) from (until endEvent (itemsFrom s from)) ≡ none
+  unfolding pastAt until
+  seeking-none l = sym (k .still) ∙ ap (λ (xs : List Item). pastAt (isChannel chip c) at (until endEvent xs)) (run-out s at g l .0)

@@ -12,7 +12,7 @@ use Rattle.format.specs.Items.{ItemOf, Item, Channel, Histogram, HitCount, Samp
 use Rattle.format.specs.Rules.{monitorKind}
 use Rattle.format.specs.Frames.{lastOf}
 use Rattle.format.specs.Cursor.{standingAt, shownBy, unshown, itemsFrom, On}
-use Rattle.format.specs.Questions.{shown, past, isHistogram}
+use Rattle.format.specs.Questions.{shown, pastAt, isHistogram}
 use Rattle.format.proofs.book.PrefixLaws.{and-right}
 use Rattle.format.proofs.reader.CursorLaws.{Turn, histogram-turn, bin-turn, answered, run-out}
 use Rattle.book.specs.Fields.{histogramOf}
@@ -23,7 +23,7 @@ use Rattle.questions.proofs.Turns.{amid-next, header-word, bin-word}
 
 pub record Seeking (s : List ℕ) (chip c at : ℕ) : Type 0 where
   pub amid : Amid s monitorKind at
-  pub still : past (isHistogram chip c) (itemsFrom s at) ≡ past (isHistogram chip c) (itemsFrom s 3)
+  pub still : pastAt (isHistogram chip c) at (itemsFrom s at) ≡ pastAt (isHistogram chip c) 3 (itemsFrom s 3)
 
 pub seeking-start : (s : List ℕ) (chip c : ℕ) → Amid s monitorKind 3 → Seeking s chip c 3
 seeking-start s chip c a = record { amid = a; still = refl }
@@ -45,14 +45,14 @@ module _ (s : List ℕ) (chip c at : ℕ) (k : Seeking s chip c at) where
   abbrev g : On s at
   g = k .amid .on
 
-  here : (x : Item) (n : ℕ) → Turn s at g x n → past (isHistogram chip c) (itemsFrom s 3) ≡ past (isHistogram chip c) (x ∷ itemsFrom s n)
-  here x n t = sym (k .still) ∙ ap (past (isHistogram chip c)) (t .split)
+  here : (x : Item) (n : ℕ) → Turn s at g x n → pastAt (isHistogram chip c) 3 (itemsFrom s 3) ≡ pastAt (isHistogram chip c) at (x ∷ itemsFrom s n)
+  here x n t = sym (k .still) ∙ ap (pastAt (isHistogram chip c) at) (t .split)
 
   past-item : (x : Item) (n : ℕ) → Turn s at g x n → isHistogram chip c x ≡ false → Seeking s chip c n
-  past-item x n t f = record { amid = amid-next s monitorKind at (k .amid) x n t; still = sym (here x n t ∙ past-miss (isHistogram chip c) x _ f) }
+  past-item x n t f = record { amid = amid-next s monitorKind at (k .amid) x n t; still = sym (here x n t ∙ past-miss (isHistogram chip c) at n x _ (t .wide) f) }
 
   hit-item : (x : Item) (n : ℕ) → Turn s at g x n → isHistogram chip c x ≡ true → HistogramAt s chip c n
-  hit-item x n t f = record { passed = here x n t ∙ past-hit (isHistogram chip c) x _ f; on = t .next }
+  hit-item x n t f = record { passed = here x n t ∙ past-hit (isHistogram chip c) at n x _ (t .wide) f; on = t .next }
 
   -- ---- a word that tells it
 
@@ -87,6 +87,6 @@ module _ (s : List ℕ) (chip c at : ℕ) (k : Seeking s chip c at) where
         let (x, i, t) = answered s at g z n (sym r) in
         hit-item x n t (as-shown chip c x ∙ ap (λ (y : ItemOf ℕ). isHistogram chip c (unshown y)) i ∙ e)
 
-  pub seeking-none : lastOf s ≤ at → past (isHistogram chip c) (itemsFrom s 3) ≡ none
-  unfolding past
-  seeking-none l = sym (k .still) ∙ ap (past (isHistogram chip c)) (run-out s at g l .0)
+  pub seeking-none : lastOf s ≤ at → pastAt (isHistogram chip c) 3 (itemsFrom s 3) ≡ none
+  unfolding pastAt
+  seeking-none l = sym (k .still) ∙ ap (pastAt (isHistogram chip c) at) (run-out s at g l .0)

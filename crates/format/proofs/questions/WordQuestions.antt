@@ -47,16 +47,21 @@ split-run left before run after rest h t y =
 header-card : (kind : Kind) (card : ℕ) (xs left rest : List Item) (x : Item) → Sound kind card [] xs → xs ≡ left ++ (x ∷ rest) → Limits card x
 header-card kind card xs left rest x s i = allowed-limits kind card _ x (sound-head kind card _ x rest (sound-right kind card [] left (x ∷ rest) (subst (Sound kind card []) i s)))
 
+module _ (s : List ℕ) (f : Frame) (v : verdict s ≡ accepted f) where
+  pub sample-word-of : (e chip c t : ℕ) → sampleWordAt s e chip c t ≡ andThen (channelAt e chip c (f .items)) (λ h. present (sampleWord t 0 (h .index) (h .items)))
+  unfolding sampleWordAt
+  sample-word-of e chip c t = rw v
+
+  pub bin-word-of : (chip c b : ℕ) → binWordAt s chip c b ≡ andThen (present (pastAt (isHistogram chip c) 3 (f .items))) (λ h. present (binWord b (h .index) (h .items)))
+  unfolding binWordAt
+  bin-word-of chip c b = rw v
+
 module _ (s : List ℕ) (bs : Bytes s) (f : Frame) (v : verdict s ≡ accepted f) where
   good : Sounds f
   good = sounds s bs f v
 
-  sample-word-of : (e chip c t : ℕ) → sampleWordAt s e chip c t ≡ andThen (channelAt e chip c (f .items)) (λ h. present (sampleWord t 0 (h .index) (h .items)))
-  unfolding sampleWordAt
-  sample-word-of e chip c t = rw v
-
   pub sample-stands : (e chip c t w : ℕ) → sampleWordAt s e chip c t ≡ accepted w → (n : ℕ) × SampleAt (f .items) e chip c t w n
-  sample-stands e chip c t w i = go (channelAt e chip c (f .items)) refl (sym (sample-word-of e chip c t) ∙ i)
+  sample-stands e chip c t w i = go (channelAt e chip c (f .items)) refl (sym (sample-word-of s f v e chip c t) ∙ i)
     where
       at-word : (b : Behind) (h : Headed (f .items) e chip c b) → SampleFound 0 (b .index) (b .items) t w → (n : ℕ) × SampleAt (f .items) e chip c t w n
       at-word b h (first n k j) =
@@ -111,7 +116,7 @@ module _ (s : List ℕ) (bs : Bytes s) (f : Frame) (v : verdict s ≡ accepted f
   pub sample-absent : (e chip c t : ℕ) → (sampleWordAt s e chip c t ≡ refused 13 0) ↔ ((ys : List Item) (n : ℕ) → ChannelIn (f .items) e chip c ys → SampleIn ys t n → ⊥)
   sample-absent e chip c t =
       let H : Outcome Behind = channelAt e chip c (f .items) in
-      let q = sample-word-of e chip c t in (
+      let q = sample-word-of s f v e chip c t in (
         λ i ys n h k. no-word H (λ h. sampleWord t 0 (h .index) (h .items)) (sample-header e chip c t ys n h k) (sym q ∙ i),
         λ never. q ∙ no-words H (λ h. sampleWord t 0 (h .index) (h .items)) (channel-sought e chip c (f .items))
             (λ w i. (let (n, a) = sample-stands e chip c t w (q ∙ i) in never (a .items) n (a .channel) (a .sample))),
@@ -138,19 +143,15 @@ module _ (s : List ℕ) (bs : Bytes s) (f : Frame) (v : verdict s ≡ accepted f
       back : (n : ℕ) × SampleAt (f .items) e chip c t w n → sampleWordAt s e chip c t ≡ accepted w
       back (n, a) =
           let x = sample-header e chip c t (a .items) n (a .channel) (a .sample) in
-          let i : sampleWordAt s e chip c t ≡ accepted (x .word) = sample-word-of e chip c t ∙ worded _ _ x in
+          let i : sampleWordAt s e chip c t ≡ accepted (x .word) = sample-word-of s f v e chip c t ∙ worded _ _ x in
           let (m, b) = sample-stands e chip c t (x .word) i in
           i ∙ ap accepted (alike m n (x .word) w b a)
 
   -- ---- and of bins
 
-  bin-word-of : (chip c b : ℕ) → binWordAt s chip c b ≡ andThen (present (pastAt (isHistogram chip c) 3 (f .items))) (λ h. present (binWord b (h .index) (h .items)))
-  unfolding binWordAt
-  bin-word-of chip c b = rw v
-
   pub bin-stands : (chip c b w : ℕ) → binWordAt s chip c b ≡ accepted w → (n : ℕ) × BinAt (f .items) chip c b w n
   unfolding allWords wordsOf
-  bin-stands chip c b w i = go (pastAt (isHistogram chip c) 3 (f .items)) refl (sym (bin-word-of chip c b) ∙ i)
+  bin-stands chip c b w i = go (pastAt (isHistogram chip c) 3 (f .items)) refl (sym (bin-word-of s f v chip c b) ∙ i)
     where
       at-word : (h : Behind) → pastAt (isHistogram chip c) 3 (f .items) ≡ some h → BinFound (h .index) (h .items) b w → (n : ℕ) × BinAt (f .items) chip c b w n
       at-word h p k =
@@ -194,7 +195,7 @@ module _ (s : List ℕ) (bs : Bytes s) (f : Frame) (v : verdict s ≡ accepted f
   pub bin-absent : (chip c b : ℕ) → (binWordAt s chip c b ≡ refused 13 0) ↔ ((ys : List Item) (n : ℕ) → HistogramIn (f .items) chip c ys → BinIn ys b n → ⊥)
   bin-absent chip c b =
       let H : Outcome Behind = present (pastAt (isHistogram chip c) 3 (f .items)) in
-      let q = bin-word-of chip c b in (
+      let q = bin-word-of s f v chip c b in (
         λ i ys n h k. no-word H (λ h. binWord b (h .index) (h .items)) (bin-header chip c b ys n h k) (sym q ∙ i),
         λ never. q ∙ no-words H (λ h. binWord b (h .index) (h .items)) (one-sought (pastAt (isHistogram chip c) 3 (f .items)))
             (λ w i. (let (n, a) = bin-stands chip c b w (q ∙ i) in never (a .items) n (a .histogram) (a .bin))),
@@ -217,7 +218,7 @@ module _ (s : List ℕ) (bs : Bytes s) (f : Frame) (v : verdict s ≡ accepted f
       back : (n : ℕ) × BinAt (f .items) chip c b w n → binWordAt s chip c b ≡ accepted w
       back (n, a) =
           let x = bin-header chip c b (a .items) n (a .histogram) (a .bin) in
-          let i : binWordAt s chip c b ≡ accepted (x .word) = bin-word-of chip c b ∙ worded _ _ x in
+          let i : binWordAt s chip c b ≡ accepted (x .word) = bin-word-of s f v chip c b ∙ worded _ _ x in
           let (m, y) = bin-stands chip c b (x .word) i in
           i ∙ ap accepted (alike m n (x .word) w y a)
 
