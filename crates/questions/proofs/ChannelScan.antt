@@ -9,11 +9,11 @@ use native.Mathlib.Omega.{arith}
 use lib.Dec.{leb, ltb, eqb, lit<}
 use borrow.Author.Tests.{leb-true, ltb-true}
 use Rattle.format.specs.Words.{wordAt}
-use Rattle.format.specs.Book.{channel, endEvent}
+use Rattle.format.specs.Book.{channel, histogram, endEvent}
 use Rattle.format.specs.Items.{ItemOf, Item, Channel, Histogram, HitCount, Sample, Bin, LastCell, TimeBin, Text, StartEvent, EndEvent, classFor}
-use Rattle.format.specs.Rules.{dataKind, same}
+use Rattle.format.specs.Rules.{dataKind, same, place}
 use Rattle.format.specs.Frames.{earlierThen, lastOf}
-use Rattle.format.specs.Cursor.{standingAt, shownBy, unshown, itemsFrom, On}
+use Rattle.format.specs.Cursor.{standingAt, shownBy, itemsFrom, On}
 use Rattle.format.specs.Questions.{shown, until, pastAt, isChannel}
 use Rattle.format.proofs.book.PrefixLaws.{and-left, and-right}
 use Rattle.format.proofs.items.WordLaws.{word-below}
@@ -21,9 +21,9 @@ use Rattle.format.proofs.book.BookLaws.{ranged, in-range}
 use Rattle.format.proofs.reader.CursorLaws.{Turn, channel-turn, answered, run-out}
 use Rattle.book.specs.Fields.{channelOf}
 use Rattle.book.specs.declared.items.Channel as ch
-use Rattle.questions.specs.Sought.{Amid, endsEvent, ChannelAt}
+use Rattle.questions.specs.Sought.{Amid, endsEvent, isHeader, ChannelAt}
 use Rattle.questions.proofs.PastLaws.{past-hit, past-miss, until-other, until-end}
-use Rattle.questions.proofs.Turns.{ends-shown, amid-next, one-turn}
+use Rattle.questions.proofs.Turns.{ends-shown, never-in-data, amid-next, placed, one-turn}
 
 pub record Seeking (s : List ℕ) (from chip c at : ℕ) : Type 0 where
   pub amid : Amid s dataKind at
@@ -64,18 +64,18 @@ module _ (chip c : ℕ) where
   header-of (StartEvent t ts n) e = absurd (true≢false (sym e))
   header-of (EndEvent n) e = absurd (true≢false (sym e))
 
-  -- and the answer tells whether it does
-  as-shown : (x : Item) → isChannel chip c x ≡ isChannel chip c (unshown (shown x))
-  as-shown (Channel a b d) = refl
-  as-shown (Histogram a b d) = refl
-  as-shown (HitCount a b d) = refl
-  as-shown (Sample v) = refl
-  as-shown (Bin b n) = refl
-  as-shown (LastCell a b) = refl
-  as-shown (TimeBin t) = refl
-  as-shown (Text s) = refl
-  as-shown (StartEvent t ts n) = refl
-  as-shown (EndEvent n) = refl
+  -- and the answer tells whether it does: it shows no Histogram
+  as-shown : (x : Item) → (histogram ≡ classFor x → ⊥) → isChannel chip c x ≡ isHeader chip c (shown x)
+  as-shown (Channel a b d) f = refl
+  as-shown (Histogram a b d) f = absurd (f refl)
+  as-shown (HitCount a b d) f = refl
+  as-shown (Sample v) f = refl
+  as-shown (Bin b n) f = refl
+  as-shown (LastCell a b) f = refl
+  as-shown (TimeBin t) f = refl
+  as-shown (Text s) f = refl
+  as-shown (StartEvent t ts n) f = refl
+  as-shown (EndEvent n) f = refl
 
 module _ (s : List ℕ) (from chip c at : ℕ) (k : Seeking s from chip c at) where
   abbrev g : On s at
@@ -106,6 +106,11 @@ module _ (s : List ℕ) (from chip c at : ℕ) (k : Seeking s from chip c at) wh
           header = t .latest ∙ ap (λ (y : Item). y ∷ earlierThen [] (g .before)) (h .is);
         };
       }
+
+  none-in-data : (x : Item) (n : ℕ) → Turn s at g x n → histogram ≡ classFor x → ⊥
+  none-in-data x n t e =
+      never-in-data histogram refl refl refl refl refl (earlierThen [] (g .before))
+      (ap (place dataKind (earlierThen [] (g .before))) e ∙ placed s dataKind at (k .amid) x n t)
 
   -- ---- a word that tells it
 
@@ -141,17 +146,15 @@ module _ (s : List ℕ) (from chip c at : ℕ) (k : Seeking s from chip c at) wh
         sym (k .still) ∙ ap (λ (xs : List Item). pastAt (isChannel chip c) at (until endEvent xs)) (t .split) ∙ ap (pastAt (isChannel chip c) at) (until-end x _ (ends-shown x z i ∙ f))
 
     module _ (f : endsEvent z ≡ false) where
-      pub seeking-next : isChannel chip c (unshown z) ≡ false → Seeking s from chip c n
+      pub seeking-next : isHeader chip c z ≡ false → Seeking s from chip c n
       seeking-next e =
           let (x, i, t) = answered s at g z n (sym r) in
-          past-item x n t (ends-shown x z i ∙ f)
-          (as-shown chip c x ∙ ap (λ (y : ItemOf ℕ). isChannel chip c (unshown y)) i ∙ e)
+          past-item x n t (ends-shown x z i ∙ f) (as-shown chip c x (none-in-data x n t) ∙ ap (isHeader chip c) i ∙ e)
 
-      pub seeking-found : isChannel chip c (unshown z) ≡ true → ChannelAt s from chip c n
+      pub seeking-found : isHeader chip c z ≡ true → ChannelAt s from chip c n
       seeking-found e =
           let (x, i, t) = answered s at g z n (sym r) in
-          hit-item x n t (ends-shown x z i ∙ f)
-          (as-shown chip c x ∙ ap (λ (y : ItemOf ℕ). isChannel chip c (unshown y)) i ∙ e)
+          hit-item x n t (ends-shown x z i ∙ f) (as-shown chip c x (none-in-data x n t) ∙ ap (isHeader chip c) i ∙ e)
 
   pub seeking-none : lastOf s ≤ at → pastAt (isChannel chip c) from (until endEvent (itemsFrom s from)) ≡ none
   unfolding pastAt until

@@ -3,8 +3,9 @@
 use Prim.Native.Nat.{ℕ, _+_, _%_, _<_}
 use mathlib.Core.Path.{_≡_}
 use mathlib.Core.List.{List, [], _∷_}
-use mathlib.Core.Bool.{Bool, true, false}
+use mathlib.Core.Bool.{Bool, true, false, _&&_}
 use mathlib.Core.Option.{Option, none, some}
+use lib.Dec.{eqb}
 use lib.ListN.{length}
 use Rattle.format.specs.Words.{wordAt, timeAt, longAt}
 use Rattle.format.specs.Answers.{Outcome, accepted, refused, andThen, Done}
@@ -46,6 +47,19 @@ endsEvent (TimeBin t) = false
 endsEvent (Text n) = false
 endsEvent (StartEvent t ts n) = false
 endsEvent (EndEvent n) = true
+
+-- one that is a header of a chip and a channel
+abbrev pub isHeader : ℕ → ℕ → ItemOf ℕ → Bool
+isHeader chip c (Channel a b d) = eqb b chip && eqb d c
+isHeader chip c (Histogram a b d) = eqb b chip && eqb d c
+isHeader chip c (HitCount a b d) = false
+isHeader chip c (Sample v) = false
+isHeader chip c (Bin b n) = false
+isHeader chip c (LastCell a b) = false
+isHeader chip c (TimeBin t) = false
+isHeader chip c (Text n) = false
+isHeader chip c (StartEvent t ts n) = false
+isHeader chip c (EndEvent n) = false
 
 -- the event whose Start event stands at word q
 abbrev pub openedAt : List ℕ → ℕ → Opened
