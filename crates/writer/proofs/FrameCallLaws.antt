@@ -14,7 +14,7 @@ use Rattle.format.specs.Handing.{ItemAnswer, Answers, tokenOfCall, callOf, writ
 use Rattle.format.specs.Handing as handing
 use Rattle.format.proofs.writer.Completeness.{begin-on, begin-stops, add-on, add-stops, close-on}
 use Rattle.frame.specs.declared.state.Kind.{Kind}
-use Rattle.frame.specs.Views.{viewKind, viewFoundItem}
+use Rattle.frame.specs.Views.{viewKind, viewIndexedItem}
 use Rattle.writer.specs.declared.answers.Written.{Written}
 use Rattle.writer.specs.declared.answers.Written.the-variants as written
 use Rattle.writer.specs.Views.{viewWritten}
@@ -93,7 +93,7 @@ asked no-more = record { told = []; answers = handing.no-more; handed = refl; co
 asked {s = s} {n = n} (with-item x a e k) =
     let q = asked k in
     record {
-      told = record { answer = viewFoundItem x; text = textAt (now s) n } ∷ q .told;
+      told = record { answer = viewIndexedItem x; text = textAt (now s) n } ∷ q .told;
       answers = handing.then (sym a) refl (q .answers);
       handed = ap₂ _∷_ (rw e) (q .handed);
       count = ap suc (q .count);
@@ -101,7 +101,7 @@ asked {s = s} {n = n} (with-item x a e k) =
 asked {s = s} {n = n} (with-text x t a e b k) =
     let q = asked k in
     record {
-      told = record { answer = viewFoundItem x; text = now t } ∷ q .told;
+      told = record { answer = viewIndexedItem x; text = now t } ∷ q .told;
       answers = handing.then (sym a) (sym (b .0)) (q .answers);
       handed = ap₂ _∷_ (rw e) (q .handed);
       count = ap suc (q .count);
