@@ -34,6 +34,8 @@ pub(crate) fn answer(case: Case, p: &mut [u8], q: &mut [u8], line: &mut [u8]) ->
         15 => ops_editor::edit(p, case.a0, case.a1, case.a2, case.a3, line),
         16 => ops_editor::restore(p, q, case.a0, line),
         17 => ops_list::list(p, q, line),
+        18 => ops_questions::sample_word(p, case.a0, case.a1, case.a2, case.a3, line),
+        19 => ops_questions::bin_word(p, case.a0, case.a1, case.a2, line),
         _ => 0,
     }
 }

@@ -4,7 +4,7 @@ use crate::sums;
 use book::class::Class;
 use book::items::Item;
 use frame::items::Found;
-use frame::items::FoundItem;
+use frame::items::IndexedItem;
 use frame::reading::Frame;
 use frame::reading::Reading;
 use frame::state::Kind;
@@ -104,7 +104,7 @@ fn content(x: Fields, line: &mut [u8]) -> usize {
     }
 }
 
-fn found(x: FoundItem, line: &mut [u8]) -> usize {
+fn found(x: IndexedItem, line: &mut [u8]) -> usize {
     let item = x.item;
     let at = content(fields_of(item), line);
     let next = reply::append(line, at, b" next");

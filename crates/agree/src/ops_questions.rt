@@ -1,10 +1,11 @@
-// The ops over the questions on a frame: events, samples, counts.
+// The ops over the questions on a frame: events, samples, counts, the word of a sample and of a bin.
 use crate::cases;
 use crate::reply;
 use crate::sums;
 use questions::answers::Event;
 use questions::answers::EventFound;
 use questions::answers::Filled;
+use questions::answers::WordFound;
 
 fn told(x: Event, line: &mut [u8]) -> usize {
     let at = reply::ok4(
@@ -85,4 +86,33 @@ pub(crate) fn counts(p: &[u8], a0: u64, a1: u64, a2: u64, a3: u64, line: &mut [u
     let before = cases::low32(a3);
     let mut out = [before; 4200];
     counts_into(p, cases::low16(a0), cases::low16(a1), &mut out[0..n], line)
+}
+
+fn worded(answer: WordFound, line: &mut [u8]) -> usize {
+    match answer {
+        WordFound::Word(w) => reply::ok1(line, w as u64),
+        WordFound::Refused(r) => reply::refused(line, r.number, r.place),
+    }
+}
+
+// Op 18: the word of the sample of event a0, chip a1, channel a2 at time a3 of the frame p.
+pub(crate) fn sample_word(p: &[u8], a0: u64, a1: u64, a2: u64, a3: u64, line: &mut [u8]) -> usize {
+    worded(
+        questions::words::sample_word(
+            p,
+            a0 as usize,
+            cases::low16(a1),
+            cases::low16(a2),
+            cases::low16(a3),
+        ),
+        line,
+    )
+}
+
+// Op 19: the word of the bin of chip a0, channel a1, number a2 of the frame p.
+pub(crate) fn bin_word(p: &[u8], a0: u64, a1: u64, a2: u64, line: &mut [u8]) -> usize {
+    worded(
+        questions::words::bin_word(p, cases::low16(a0), cases::low16(a1), cases::low16(a2)),
+        line,
+    )
 }

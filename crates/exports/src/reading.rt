@@ -160,6 +160,7 @@ fn flat_found(found: Found) -> PlaneFound
             PlaneFound {
                 refused: 0,
                 place: 0,
+                index: x.index,
                 next: x.next,
                 item: flat,
             }
@@ -169,6 +170,7 @@ fn flat_found(found: Found) -> PlaneFound
             PlaneFound {
                 refused: r.number,
                 place: r.place,
+                index: 0,
                 next: 0,
                 item: flat,
             }
