@@ -269,10 +269,13 @@ binWord b at (Text s ∷ xs) = none
 binWord b at (StartEvent k ts n ∷ xs) = none
 binWord b at (EndEvent n ∷ xs) = none
 
--- the items after the header of a channel in event e, and where they begin: a Start event has six words
+-- the word at which the items of an event begin: its Start event has six words
+unfoldable pub firstInside : Opened → ℕ
+firstInside o = o .event .index + 6
+
+-- the items after the header of a channel in event e, and where they begin
 unfoldable pub channelAt : ℕ → ℕ → ℕ → List Item → Outcome Behind
-channelAt e chip c xs =
-    andThen (present (pickNth e (events 3 xs))) (λ o. present (pastAt (isChannel chip c) (o .event .index + 6) (until endEvent (o .items))))
+channelAt e chip c xs = andThen (present (pickNth e (events 3 xs))) (λ o. present (pastAt (isChannel chip c) (firstInside o) (until endEvent (o .items))))
 
 -- Order: frame refusals, 13
 unfoldable pub sampleWordAt : List ℕ → ℕ → ℕ → ℕ → ℕ → Outcome ℕ

@@ -9,7 +9,7 @@ use Rattle.format.specs.Answers.{Outcome, accepted, refused, andThen}
 use Rattle.format.specs.Items.{ItemOf, Channel, Histogram, Sample, Bin, TimeBin, StartEvent, EndEvent}
 use Rattle.format.specs.Rules.{dataKind, monitorKind}
 use Rattle.format.specs.Frames.{Frame, verdict}
-use Rattle.format.specs.Questions.{IndexedShown, shownAt, Event, eventAt, samplesAt, samplesLeft, countsAt, countsLeft, sampleWordAt, binWordAt}
+use Rattle.format.specs.Questions.{IndexedShown, shownAt, Event, eventAt, samplesAt, samplesLeft, countsAt, countsLeft}
 use Rattle.format.specs.Figures.{empty, pulse, pedestal}
 
 pub data Question : Type 0 where
@@ -23,9 +23,6 @@ pub data Question : Type 0 where
   samples : List ℕ → ℕ → ℕ → ℕ → List ℕ → Question
   -- of a histogram's chip and channel: what stands in 4,096 lent words at these bins
   counts : List ℕ → ℕ → ℕ → List ℕ → Question
-  -- the word of the sample of event e, chip, channel at a time; of the bin of a histogram's chip and channel
-  sampleAt : List ℕ → ℕ → ℕ → ℕ → ℕ → Question
-  binAt : List ℕ → ℕ → ℕ → ℕ → Question
   -- the follower in a state, fed some words one after another
   following : follower.State → List ℕ → Question
 
@@ -34,7 +31,6 @@ pub data Reply : Type 0 where
   showing : Outcome IndexedShown → Reply
   told : Outcome Event → Reply
   standing : Outcome (List ℕ) → Reply
-  word : Outcome ℕ → Reply
   followed : List follower.Answer → Reply
 
 -- the elements at these places
@@ -50,8 +46,6 @@ ask (samples s e chip c times) =
     standing (andThen (samplesAt s e chip c 512) (λ xs. accepted (elements (samplesLeft (accepted xs) (replicate 512 1)) times)))
 ask (counts s chip c bins) =
     standing (andThen (countsAt s chip c 4096) (λ xs. accepted (elements (countsLeft (accepted xs) (replicate 4096 1)) bins)))
-ask (sampleAt s e chip c t) = word (sampleWordAt s e chip c t)
-ask (binAt s chip c b) = word (binWordAt s chip c b)
 ask (following s words) = followed (answers s words)
 
 pub record Row : Type 0 where
@@ -93,9 +87,6 @@ table =
     ∷ row (event (pulse 0x0E03 0x001A) 1) (told (refused 13 0))
     ∷ row (samples (pulse 0x0E03 0x001A) 0 2 10 (2 ∷ 3 ∷ 4 ∷ 5 ∷ [])) (standing (accepted (0xFFFF ∷ 250 ∷ 251 ∷ 0xFFFF ∷ [])))
     ∷ row (samples (pulse 0x0E03 0x001A) 0 2 11 (3 ∷ [])) (standing (refused 13 0))
-    ∷ row (sampleAt (pulse 0x0E03 0x001A) 0 2 10 3) (word (accepted 11))
-    ∷ row (sampleAt (pulse 0x0E03 0x001A) 0 2 10 4) (word (accepted 12))
-    ∷ row (sampleAt (pulse 0x0E03 0x001A) 0 2 10 5) (word (refused 13 0))
     -- 4. "9 at 13", 5. "8 at 10", 6. "10 at 12"
     ∷ row (reading (pulse 0x0E03 0x001C)) (frame (refused 9 13))
     ∷ row (reading (pulse 0x30FA 0x001A)) (frame (refused 8 10))
@@ -106,8 +97,6 @@ table =
     ∷ row (ordinal (pedestal 0x8A4E 0x1170 0x0001) 0) (at 3 (Histogram 5 0 78) 4)
     ∷ row (ordinal (pedestal 0x8A4E 0x1170 0x0001) 1) (at 4 (Bin 256 70000) 7)
     ∷ row (counts (pedestal 0x8A4E 0x1170 0x0001) 0 78 (255 ∷ 256 ∷ 257 ∷ [])) (standing (accepted (0 ∷ 70000 ∷ 0 ∷ [])))
-    ∷ row (binAt (pedestal 0x8A4E 0x1170 0x0001) 0 78 256) (word (accepted 4))
-    ∷ row (binAt (pedestal 0x8A4E 0x1170 0x0001) 0 78 257) (word (refused 13 0))
     -- 8. "9 at 3", 9. "9 at 4"
     ∷ row (reading (pedestal 0x8A4F 0x1170 0x0001)) (frame (refused 9 3))
     ∷ row (reading (pedestal 0x8A4E 0x0000 0x0000)) (frame (refused 9 4))

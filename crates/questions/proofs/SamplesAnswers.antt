@@ -11,7 +11,7 @@ use Rattle.format.specs.Book.{endEvent}
 use Rattle.format.specs.Items.{Item, Channel, Histogram, HitCount, Sample, Bin, LastCell, TimeBin, Text, StartEvent, EndEvent}
 use Rattle.format.specs.Rules.{Kind}
 use Rattle.format.specs.Frames.{verdict}
-use Rattle.format.specs.Questions.{Behind, Opened, events, pickNth, present, until, pastAt, isChannel, channelAt, done, cleared, fillSamples, channelIn, samplesAt, samplesLeft, Sampled}
+use Rattle.format.specs.Questions.{Behind, Opened, events, pickNth, present, until, pastAt, firstInside, isChannel, channelAt, done, cleared, fillSamples, channelIn, samplesAt, samplesLeft, Sampled}
 use Rattle.format.proofs.questions.FillQuestions.{samples-of, samples-room, samples-refused}
 use Rattle.format.proofs.questions.WordFinds.{channel-items}
 use Rattle.format.specs.Cursor.{itemsFrom}
@@ -23,14 +23,14 @@ use Rattle.questions.proofs.Reading.{Accepted, items-first}
 -- ---- no such channel
 
 abbrev behind-header : (chip c : ℕ) → Option Opened → Outcome Behind
-behind-header chip c o = andThen (present o) (λ o. present (pastAt (isChannel chip c) (o .event .index + 6) (until endEvent (o .items))))
+behind-header chip c o = andThen (present o) (λ o. present (pastAt (isChannel chip c) (firstInside o) (until endEvent (o .items))))
 
 pub no-event : (s : List ℕ) (e chip c : ℕ) → pickNth e (events 3 (itemsFrom s 3)) ≡ none → channelAt e chip c (itemsFrom s 3) ≡ refused 13 0
 unfolding channelAt
 no-event s e chip c h = ap (behind-header chip c) h
 
 in-event : (s : List ℕ) (e chip c q : ℕ) → EventAt s e q → channelAt e chip c (itemsFrom s 3) ≡ present (pastAt (isChannel chip c) (q + 6) (until endEvent (itemsFrom s (q + 6))))
-unfolding channelAt
+unfolding channelAt firstInside
 in-event s e chip c q h = ap (behind-header chip c) (h .picked)
 
 -- what the search in the event finds

@@ -11,9 +11,9 @@ use Rattle.format.specs.Book.{classOf}
 use Rattle.format.specs.Items.{wordsOf, decode, tokenOf, tokens}
 use Rattle.format.specs.Rules.{since, count, total, gather, above, check}
 use Rattle.format.specs.Frames.{earlierThen, headFault, front, walk, judged, verdict}
-use Rattle.format.specs.Questions.{nth, itemAt, shownAt, events, pickNth, eventAt, until, past, cleared, fillSamples, fillCounts, channelIn, samplesAt, countsAt, pastAt, sampleWord, binWord, channelAt, sampleWordAt, binWordAt}
+use Rattle.format.specs.Questions.{nth, itemAt, shownAt, events, pickNth, eventAt, until, past, cleared, fillSamples, fillCounts, channelIn, samplesAt, countsAt}
 use Rattle.format.specs.Table.{Row, ask, table}
 
 pub figures : map (λ (r : Row). ask (r .asked)) table ≡ map (λ (r : Row). r .answer) table
-unfolding bytes words nonZero allZero find classOf wordsOf decode tokenOf tokens since count total gather above check earlierThen headFault front walk judged verdict nth itemAt shownAt events pickNth eventAt until past cleared fillSamples fillCounts channelIn samplesAt countsAt pastAt sampleWord binWord channelAt sampleWordAt binWordAt numbered follow answers
+unfolding bytes words nonZero allZero find classOf wordsOf decode tokenOf tokens since count total gather above check earlierThen headFault front walk judged verdict nth itemAt shownAt events pickNth eventAt until past cleared fillSamples fillCounts channelIn samplesAt countsAt numbered follow answers
 figures = refl

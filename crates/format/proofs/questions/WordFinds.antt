@@ -16,7 +16,7 @@ use Rattle.format.specs.Book.{Class, channel, histogram, bin, sample, ti
 use Rattle.format.specs.Items.{Item, Channel, Histogram, HitCount, Sample, Bin, LastCell, TimeBin, Text, StartEvent, EndEvent, classFor, wordsOf}
 use Rattle.format.specs.Rules.{Kind, same, inEvent, count, among}
 use Rattle.format.specs.Frames.{Sound, earlierThen, allWords}
-use Rattle.format.specs.Questions.{Behind, Opened, events, pickNth, present, until, past, pastAt, isChannel, isHistogram, channelIn, channelAt, sampleWord, binWord}
+use Rattle.format.specs.Questions.{Behind, Opened, events, pickNth, present, until, past, pastAt, firstInside, isChannel, isHistogram, channelIn, channelAt, sampleWord, binWord}
 use Rattle.format.proofs.questions.ItemQuestions.{no-some, some-is, all-words}
 use Rattle.format.proofs.questions.EventQuestions.{picked-event, event-picked}
 use Rattle.format.proofs.questions.FindLaws.{as-channel, until-end, present-is}
@@ -58,7 +58,7 @@ module _ (f : Item → Bool) where
   pub passed-at : (at : ℕ) (xs : List Item) (b : Behind) → pastAt f at xs ≡ some b → Passed at xs b
   unfolding pastAt allWords
   passed-at at [] b e = no-some b e
-  passed-at at (x ∷ xs) b e = go (f x) refl (passed-at (at + length (wordsOf x)) xs b)
+  passed-at at (x ∷ xs) b e = go (f x) refl (passed-at (at + length (wordsOf x)) xs b) e
     where
       later : Passed (at + length (wordsOf x)) xs b → Passed at (x ∷ xs) b
       later r =
@@ -80,9 +80,15 @@ module _ (f : Item → Bool) where
         index = sym (ap (λ (c : Behind). c .index) q) ∙ omega arith;
       }
 
-      go : (p : Bool) → f x ≡ p → (pastAt f (at + length (wordsOf x)) xs ≡ some b → Passed (at + length (wordsOf x)) xs b) → Passed at (x ∷ xs) b
-      go true p r = here p (some-is _ _ (sym (rw p) ∙ e))
-      go false p r = later (r (sym (rw p) ∙ e))
+      go : (p : Bool) → f x ≡ p → (pastAt f (at + length (wordsOf x)) xs ≡ some b → Passed (at + length (wordsOf x)) xs b)
+          → pick p (some (record { index = at + length (wordsOf x); items = xs })) (pastAt f (at + length (wordsOf x)) xs) ≡ some b → Passed at (x ∷ xs) b
+      go true p r i = here p (some-is _ _ i)
+      go false p r i = later (r i)
+
+-- one of two, by a test
+either-way : {R : Type 0} (b : Bool) (x y : Option ℕ) (w : ℕ) → pick b x y ≡ some w → (b ≡ true → x ≡ some w → R) → (b ≡ false → y ≡ some w → R) → R
+either-way true x y w e f g = f refl e
+either-way false x y w e f g = g refl e
 
 -- ---- the word of a Sample among those that come first
 
@@ -97,29 +103,33 @@ sample-found t u at w [] e = no-some w e
 sample-found t u at w (Channel a b c ∷ xs) e = no-some w e
 sample-found t u at w (Histogram a b c ∷ xs) e = no-some w e
 sample-found t u at w (HitCount a b c ∷ xs) e = no-some w e
-sample-found t u at w (Sample n ∷ xs) e = go (eqb u t) refl (sample-found t (suc u) (at + 1) w xs)
+sample-found t u at w (Sample n ∷ xs) e =
+    either-way (eqb u t) _ _ w e
+    (λ p i. here (eqb-true u t p) _ (some-is _ w i) (omega arith))
+    (λ p i. later _ _ (sample-found t _ _ w xs i) (omega arith) (omega arith))
   where
-    later : SampleFound (suc u) (at + 1) xs t w → SampleFound u at (Sample n ∷ xs) t w
-    later (first v h i) =
-        let k = h .at in
-        first v (record { run = Sample n ∷ h .run; after = h .after; items = ap (λ (l : List Item). Sample n ∷ l) (h .items); samples = h .samples; at = omega (arith, k) }) (omega (arith, i))
-    later (timed v h i) = timed v (record { before = Sample n ∷ h .before; time = h .time; run = h .run; after = h .after; items = ap (λ (l : List Item). Sample n ∷ l) (h .items); same-channel = h .same-channel; samples = h .samples; at = h .at }) (omega (arith, i))
+    here : u ≡ t → (k : ℕ) → k ≡ w → k ≡ at → SampleFound u at (Sample n ∷ xs) t w
+    here q k i j = first n (record { run = []; after = xs; items = refl; samples = refl; at = omega arith }) (omega arith)
 
-    go : (b : Bool) → eqb u t ≡ b → (sampleWord t (suc u) (at + 1) xs ≡ some w → SampleFound (suc u) (at + 1) xs t w) → SampleFound u at (Sample n ∷ xs) t w
-    go true p r =
-        let q : u ≡ t = eqb-true u t p in
-        let i : at ≡ w = some-is at w (sym (rw p) ∙ e) in
-        first n (record { run = []; after = xs; items = refl; samples = refl; at = omega arith }) (omega arith)
-    go false p r = later (r (sym (rw p) ∙ e))
+    later : (v k : ℕ) → SampleFound v k xs t w → v ≡ suc u → k ≡ at + 1 → SampleFound u at (Sample n ∷ xs) t w
+    later v k (first m h i) p q =
+        let j = h .at in
+        first m (record { run = Sample n ∷ h .run; after = h .after; items = ap (λ (l : List Item). Sample n ∷ l) (h .items); samples = h .samples; at = omega (arith, j) }) (omega (arith, i))
+    later v k (timed m h i) p q =
+        timed m (record { before = Sample n ∷ h .before; time = h .time; run = h .run; after = h .after; items = ap (λ (l : List Item). Sample n ∷ l) (h .items); same-channel = h .same-channel; samples = h .samples; at = h .at })
+        (omega (arith, i))
 sample-found t u at w (Bin b n ∷ xs) e = no-some w e
 sample-found t u at w (LastCell a b ∷ xs) e = no-some w e
-sample-found t u at w (TimeBin n ∷ xs) e = go (sample-found t n (at + 1) w xs e)
+sample-found t u at w (TimeBin n ∷ xs) e = later _ _ (sample-found t _ _ w xs e) (omega arith) (omega arith)
   where
-    go : SampleFound n (at + 1) xs t w → SampleFound u at (TimeBin n ∷ xs) t w
-    go (first v h i) =
-        timed v (record { before = []; time = n; run = h .run; after = h .after; items = ap (λ (l : List Item). TimeBin n ∷ l) (h .items); same-channel = refl; samples = h .samples; at = h .at })
+    later : (v k : ℕ) → SampleFound v k xs t w → v ≡ n → k ≡ at + 1 → SampleFound u at (TimeBin n ∷ xs) t w
+    later v k (first m h i) p q =
+        let j = h .at in
+        timed m (record { before = []; time = n; run = h .run; after = h .after; items = ap (λ (l : List Item). TimeBin n ∷ l) (h .items); same-channel = refl; samples = h .samples; at = omega (arith, j) })
         (omega (arith, i))
-    go (timed v h i) = timed v (record { before = TimeBin n ∷ h .before; time = h .time; run = h .run; after = h .after; items = ap (λ (l : List Item). TimeBin n ∷ l) (h .items); same-channel = h .same-channel; samples = h .samples; at = h .at }) (omega (arith, i))
+    later v k (timed m h i) p q =
+        timed m (record { before = TimeBin n ∷ h .before; time = h .time; run = h .run; after = h .after; items = ap (λ (l : List Item). TimeBin n ∷ l) (h .items); same-channel = h .same-channel; samples = h .samples; at = h .at })
+        (omega (arith, i))
 sample-found t u at w (Text s ∷ xs) e = no-some w e
 sample-found t u at w (StartEvent k ts n ∷ xs) e = no-some w e
 sample-found t u at w (EndEvent n ∷ xs) e = no-some w e
@@ -158,18 +168,20 @@ bin-found b at w (Channel x y c ∷ xs) e = no-some w e
 bin-found b at w (Histogram x y c ∷ xs) e = no-some w e
 bin-found b at w (HitCount x y c ∷ xs) e = no-some w e
 bin-found b at w (Sample v ∷ xs) e = no-some w e
-bin-found b at w (Bin d n ∷ xs) e = go (eqb d b) refl (bin-found b (at + 3) w xs)
+bin-found b at w (Bin d n ∷ xs) e =
+    either-way (eqb d b) _ _ w e
+    (λ p i. here (eqb-true d b p) _ (some-is _ w i) (omega arith))
+    (λ p i. later _ (bin-found b _ w xs i) (omega arith))
   where
-    go : (p : Bool) → eqb d b ≡ p → (binWord b (at + 3) xs ≡ some w → BinFound (at + 3) xs b w) → BinFound at (Bin d n ∷ xs) b w
-    go true p r =
-        let i : at ≡ w = some-is at w (sym (rw p) ∙ e) in
-        record {
-          count-is = n;
-          is = record { before = []; after = xs; items = ap (λ (j : ℕ). Bin j n ∷ xs) (eqb-true d b p); same-histogram = refl };
-          index = omega arith;
-        }
-    go false p r =
-        let h = r (sym (rw p) ∙ e) in
+    here : d ≡ b → (k : ℕ) → k ≡ w → k ≡ at → BinFound at (Bin d n ∷ xs) b w
+    here q k i j = record {
+      count-is = n;
+      is = record { before = []; after = xs; items = ap (λ (j : ℕ). Bin j n ∷ xs) q; same-histogram = refl };
+      index = omega arith;
+    }
+
+    later : (k : ℕ) → BinFound k xs b w → k ≡ at + 3 → BinFound at (Bin d n ∷ xs) b w
+    later k h q =
         let i = h .index in
         record {
           count-is = h .count-is;
@@ -216,10 +228,10 @@ channel-items e chip c xs = go (pickNth e (events 3 xs))
   where
     go : (o : Option Opened)
         → andThen (present o) (λ o. present (past (isChannel chip c) (until endEvent (o .items))))
-        ≡ andThen (andThen (present o) (λ o. present (pastAt (isChannel chip c) (o .event .index + 6) (until endEvent (o .items))))) (λ b. accepted (b .items))
+        ≡ andThen (andThen (present o) (λ o. present (pastAt (isChannel chip c) (firstInside o) (until endEvent (o .items))))) (λ b. accepted (b .items))
     go none = refl
     go (some o) =
-        let at : ℕ = o .event .index + 6 in
+        let at : ℕ = firstInside o in
         ap present (past-of (isChannel chip c) at (until endEvent (o .items))) ∙ then-items (pastAt (isChannel chip c) at (until endEvent (o .items)))
 
 -- the items before it, and the word behind it
@@ -229,15 +241,15 @@ pub record Headed (xs : List Item) (e chip c : ℕ) (b : Behind) : Type 0 where
 
 pub headed-at : (kind : Kind) (card : ℕ) (xs : List Item) → Sound kind card [] xs → inEvent (earlierThen [] xs) ≡ false
     → (e chip c : ℕ) (b : Behind) → channelAt e chip c xs ≡ accepted b → Headed xs e chip c b
-unfolding channelAt wordsOf
+unfolding channelAt firstInside wordsOf
 headed-at kind card xs sound closed e chip c b i = go (pickNth e (events 3 xs)) refl i
   where
-    within : (o : Opened) → pickNth e (events 3 xs) ≡ some o → pastAt (isChannel chip c) (o .event .index + 6) (until endEvent (o .items)) ≡ some b → Headed xs e chip c b
+    within : (o : Opened) → pickNth e (events 3 xs) ≡ some o → pastAt (isChannel chip c) (firstInside o) (until endEvent (o .items)) ≡ some b → Headed xs e chip c b
     within o p q =
         let h = picked-event kind card xs sound closed e o p in
         let l : until endEvent (o .items) ≡ h .between =
         ap (λ (o : Opened). until endEvent (o .items)) (some-is _ _ (sym p ∙ event-picked xs e (o .event) h)) ∙ until-end (h .between) (h .after) (o .event .size) (h .ended) in
-        let r = passed-at (isChannel chip c) (o .event .index + 6) (until endEvent (o .items)) b q in
+        let r = passed-at (isChannel chip c) (firstInside o) (until endEvent (o .items)) b q in
         let (a, j) = as-channel chip c (r .item) (r .passes) in
         let n : length (wordsOf (r .item)) ≡ 1 = ap (λ (x : Item). length (wordsOf x)) j in
         record {
@@ -246,7 +258,7 @@ headed-at kind card xs sound closed e chip c b i = go (pickNth e (events 3 xs)) 
         }
 
     go : (o : Option Opened) → pickNth e (events 3 xs) ≡ o
-        → andThen (present o) (λ o. present (pastAt (isChannel chip c) (o .event .index + 6) (until endEvent (o .items)))) ≡ accepted b → Headed xs e chip c b
+        → andThen (present o) (λ o. present (pastAt (isChannel chip c) (firstInside o) (until endEvent (o .items)))) ≡ accepted b → Headed xs e chip c b
     go none p j = let z : _≡_ {A = ℕ} 0 1 = cc in absurd (omega arith)
     go (some o) p j = within o p (present-is _ b j)
 
@@ -267,9 +279,9 @@ pub channel-sought : (e chip c : ℕ) (xs : List Item) → Sought (channelAt e c
 unfolding channelAt
 channel-sought e chip c xs = go (pickNth e (events 3 xs))
   where
-    go : (o : Option Opened) → Sought (andThen (present o) (λ o. present (pastAt (isChannel chip c) (o .event .index + 6) (until endEvent (o .items)))))
+    go : (o : Option Opened) → Sought (andThen (present o) (λ o. present (pastAt (isChannel chip c) (firstInside o) (until endEvent (o .items)))))
     go none = missing refl
-    go (some o) = one-sought (pastAt (isChannel chip c) (o .event .index + 6) (until endEvent (o .items)))
+    go (some o) = one-sought (pastAt (isChannel chip c) (firstInside o) (until endEvent (o .items)))
 
 pub same-behind : (o : Outcome Behind) (ys : List Item) → andThen o (λ b. accepted (b .items)) ≡ accepted ys → (b : Behind) × (o ≡ accepted b) × (b .items ≡ ys)
 same-behind (accepted b) ys e = (b, refl, inner (b .items) ys e)
