@@ -21,7 +21,7 @@
 #include <stdint.h>
 
 /* Raised by one where a program written for the version before has to be changed or compiled again. Header and archive are of one version. */
-#define PLANE_RECORD_VERSION 1
+#define PLANE_RECORD_VERSION 2
 
 #ifdef __cplusplus
 extern "C" {
@@ -42,7 +42,7 @@ enum plane_refusal {
     PLANE_REFUSED_ORDER = 10,     /* times, channels, histograms or bins do not rise */
     PLANE_REFUSED_OPEN = 11,      /* the last event has no End event */
     PLANE_REFUSED_ROOM = 12,      /* the output buffer is too short, or a frame that is written would pass 8,192 bytes */
-    PLANE_REFUSED_ABSENT = 13,    /* no such item, event, channel or histogram */
+    PLANE_REFUSED_ABSENT = 13,    /* no such item, event, channel, histogram, sample or bin */
     PLANE_REFUSED_NO_START = 14,  /* a sequence number 1 to 255 before the first 0x0100 */
     PLANE_REFUSED_HEADER = 20,    /* buffer under 16 bytes, a header word wrong, or buffer under the total length */
     PLANE_REFUSED_ENTRY = 21,     /* a history entry doesn't fit the frame */
@@ -139,7 +139,8 @@ struct plane_item_fields {
 struct plane_found {
     uint32_t refused;
     size_t place;
-    size_t next; /* the word index of the next item, or of the end word */
+    size_t index; /* the word index of the item */
+    size_t next;  /* that of the next item, or of the end word */
     struct plane_item_fields item;
 };
 
@@ -181,6 +182,20 @@ struct plane_done plane_samples(const uint8_t *frame, size_t length, size_t ordi
 /* The counts of a chip's and a channel's histogram: into the first 4,096 words of `out`, each at its bin, 0 where no bin stands; words beyond are
  * untouched. Refused as plane_read refuses, then by 12 where `room` is under 4,096, then by 13. */
 struct plane_done plane_counts(const uint8_t *frame, size_t length, uint16_t chip, uint16_t channel, uint32_t *out, size_t room);
+
+struct plane_word_found {
+    uint32_t refused;
+    size_t place;
+    size_t word; /* the index that plane_edit takes */
+};
+
+/* The word of the sample at a time, of event `ordinal`, a chip and a channel. Refused as plane_read refuses, then by 13 where there is no such event,
+ * channel or sample: exactly where plane_samples is refused by 13 or writes PLANE_NO_SAMPLE at that time, and for a time over 511. */
+struct plane_word_found plane_sample_word(const uint8_t *frame, size_t length, size_t ordinal, uint16_t chip, uint16_t channel, uint16_t time);
+
+/* The word of a bin, the first of its three, of a chip's and a channel's histogram. Refused as plane_read refuses, then by 13 where there is no such
+ * histogram or bin: exactly where plane_counts is refused by 13 or writes 0 at that bin, and for a bin over 4,095. */
+struct plane_word_found plane_bin_word(const uint8_t *frame, size_t length, uint16_t chip, uint16_t channel, uint16_t bin);
 
 /* ---- frames are written: a partial frame stands in the first bytes of a buffer, and each call answers its new length */
 
@@ -255,7 +270,7 @@ struct plane_entry_found plane_entry(const uint8_t *buffer, size_t room, size_t 
 struct plane_done plane_open(uint8_t *buffer, size_t room, const uint8_t *frame, size_t length);
 
 struct plane_correction {
-    size_t word; /* the item's first word, in its frame */
+    size_t word; /* the item's first word, in its frame: plane_sample_word and plane_bin_word find it */
     uint32_t value;
     uint32_t operator_id;
     uint32_t reason;

@@ -52,12 +52,14 @@ int main(void) {
     for (size_t i = 0; i < PLANE_HEADER_BYTES / 2; i++) printf(" %04X", word_at(buffer, i));
     printf("\n");
 
-    const struct plane_correction correction = { .word = 11, .value = 260, .operator_id = 9, .reason = 2 };
+    // The sample at time 3 of event 0, chip 2, channel 10: nobody counts words by hand.
+    const struct plane_word_found found = plane_sample_word(frame, length, 0, 2, 10, 3);
+    const struct plane_correction correction = { .word = found.word, .value = 260, .operator_id = 9, .reason = 2 };
     told("edit", plane_edit(buffer, sizeof buffer, correction));
     told("the same edit again", plane_edit(buffer, sizeof buffer, correction));
     list(buffer, sizeof buffer);
 
     told("restore to 0", plane_restore(buffer, sizeof buffer, 0, before, sizeof before));
-    printf("word 11: %04X, and as it was %04X\n", word_at(buffer + PLANE_HEADER_BYTES, 11), word_at(before, 11));
+    printf("word %zu: %04X, and as it was %04X\n", found.word, word_at(buffer + PLANE_HEADER_BYTES, found.word), word_at(before, found.word));
     return 0;
 }

@@ -1,4 +1,4 @@
-// The calls that the other examples leave out: the class of a word, counts, texts, what is no kind and no item, and the follower.
+// The calls that the other examples leave out: the class of a word, counts, the word of a bin, texts, what is no kind and no item, and the follower.
 #include "plane_record.h"
 #include <stdio.h>
 
@@ -16,6 +16,13 @@ static void print_counts(void) {
     if (!plane_counts(frame, sizeof frame, 0, 78, counts, PLANE_COUNTS).refused)
         for (size_t bin = 0; bin < PLANE_COUNTS; bin++)
             if (counts[bin]) printf("chip 0 channel 78 bin %zu: %u\n", bin, counts[bin]);
+    for (uint16_t bin = 256; bin < 258; bin++) {
+        const struct plane_word_found found = plane_bin_word(frame, sizeof frame, 0, 78, bin);
+        if (found.refused)
+            printf("bin %u: refused %u %s at %zu\n", bin, found.refused, plane_refusal_name(found.refused), found.place);
+        else
+            printf("bin %u: word %zu\n", bin, found.word);
+    }
 }
 
 static struct plane_written told(const char *what, struct plane_written w) {

@@ -25,13 +25,11 @@ static void list(const uint8_t *frame, size_t length) {
         return;
     }
     printf("frame %c card %u seq %04X bytes %zu items %zu\n", "?DMC"[f.kind], f.card, f.sequence, length, f.items);
-    size_t word = PLANE_FIRST_ITEM;
     for (size_t n = 0; n < f.items; n++) {
         const struct plane_found found = plane_item(frame, length, n);
-        printf("item %zu at word %zu: ", n, word);
+        printf("item %zu at word %zu: ", n, found.index);
         print_item(found.item);
         printf("\n");
-        word = found.next;
     }
 }
 

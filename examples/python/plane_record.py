@@ -3,7 +3,7 @@
     gcc -shared -o libplane_record.so -Wl,--whole-archive target/staticlib/libexports.a -Wl,--no-whole-archive
     python3 examples/python/plane_record.py ./libplane_record.so samples/data.frame samples/plane-14.record
 
-The structs are those of include/plane_record.h, field by field; a further call is declared as the five below are. Bytes that are only read are lent
+The structs are those of include/plane_record.h, field by field; a further call is declared as the ones below are. Bytes that are only read are lent
 as they are; for a call that writes, lend ctypes.create_string_buffer(n).
 """
 import ctypes
@@ -27,7 +27,11 @@ class Item(ctypes.Structure):
 
 
 class Found(ctypes.Structure):
-    _fields_ = [("refused", c_uint32), ("place", c_size_t), ("next", c_size_t), ("item", Item)]
+    _fields_ = [("refused", c_uint32), ("place", c_size_t), ("index", c_size_t), ("next", c_size_t), ("item", Item)]
+
+
+class Word(ctypes.Structure):
+    _fields_ = [("refused", c_uint32), ("place", c_size_t), ("word", c_size_t)]
 
 
 class Record(ctypes.Structure):
@@ -65,6 +69,12 @@ class Library:
     def item(self, frame, ordinal):
         return self.call("plane_item", Found, frame, ordinal)
 
+    def sample_word(self, frame, ordinal, chip, channel, time):
+        return self.call("plane_sample_word", Word, frame, ordinal, chip, channel, time).word
+
+    def bin_word(self, frame, chip, channel, number):
+        return self.call("plane_bin_word", Word, frame, chip, channel, number).word
+
     def record(self, data):
         return self.call("plane_record", Record, data)
 
@@ -85,8 +95,11 @@ def main(library, frame_file, record_file):
     print("%s frame of card %d, sequence word %04X, %d items" % (KINDS[f.kind], f.card, f.sequence, f.items))
     for n in range(f.items):
         print("item %d: %s" % (n, shown(plane.item(frame, n).item)))
+    print("the sample at time 502 of event 1, chip 0, channel 78: word %d" % plane.sample_word(frame, 1, 0, 78, 502))
     record = open(record_file, "rb").read()
-    for n in range(1, plane.record(record).count + 1):
+    r = plane.record(record)
+    print("bin 248 of chip 0, channel 17: word %d" % plane.bin_word(record[16 : 16 + r.length], 0, 17, 248))
+    for n in range(1, r.count + 1):
         e = plane.entry(record, n)
         print("entry %d: word %d, %d -> %d, by %d, reason %d" % (n, e.word, e.old_value, e.new_value, e.operator_id, e.reason))
     try:

@@ -2,7 +2,7 @@
 mod plane_record;
 use plane_record::{
     Answer, Correction, HEADER_BYTES, Item, MOST_FRAME, add, begin, class, close, corrected, edit,
-    entry, kind, open, read, record, restore,
+    entry, kind, open, read, record, restore, sample_word,
 };
 
 fn word_at(s: &[u8], i: usize) -> u16 {
@@ -63,16 +63,18 @@ fn main() -> Answer<()> {
         (0..HEADER_BYTES / 2).map(|i| format!("{:04X}", word_at(&buffer, i))).collect();
     println!("header {}", header.join(" "));
 
-    let correction = Correction { word: 11, value: 260, operator_id: 9, reason: 2 };
+    // The sample at time 3 of event 0, chip 2, channel 10: nobody counts words by hand.
+    let word = sample_word(&frame[..length], 0, 2, 10, 3)?;
+    let correction = Correction { word, value: 260, operator_id: 9, reason: 2 };
     told("edit", edit(&mut buffer, correction));
     told("the same edit again", edit(&mut buffer, correction));
     list(&buffer)?;
 
     told("restore to 0", restore(&buffer, 0, &mut before));
     println!(
-        "word 11: {:04X}, and as it was {:04X}",
-        word_at(&buffer[HEADER_BYTES..], 11),
-        word_at(&before, 11)
+        "word {word}: {:04X}, and as it was {:04X}",
+        word_at(&buffer[HEADER_BYTES..], word),
+        word_at(&before, word)
     );
     Ok(())
 }

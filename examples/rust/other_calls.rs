@@ -1,8 +1,8 @@
-//! The calls that the other examples leave out: the class of a word, counts, texts, what is no kind and no item, and the follower.
+//! The calls that the other examples leave out: the class of a word, counts, the word of a bin, texts, what is no kind and no item, and the follower.
 mod plane_record;
 use plane_record::{
-    Answer, COUNTS, Follower, Item, add, add_text, begin, class, classify, close, counts, follow,
-    kind, text,
+    Answer, COUNTS, Follower, Item, add, add_text, begin, bin_word, class, classify, close, counts,
+    follow, kind, text,
 };
 
 /// Case 7 of document 01.
@@ -14,6 +14,12 @@ fn print_counts() -> Answer<()> {
     counts(&frame, 0, 78, &mut out)?;
     for (bin, count) in out.iter().enumerate().filter(|(_, count)| **count != 0) {
         println!("chip 0 channel 78 bin {bin}: {count}");
+    }
+    for bin in 256..258 {
+        match bin_word(&frame, 0, 78, bin) {
+            Ok(word) => println!("bin {bin}: word {word}"),
+            Err(refused) => println!("bin {bin}: {refused}"),
+        }
     }
     Ok(())
 }

@@ -10,7 +10,7 @@
 use std::fmt;
 
 /// That of the header whose layouts these are.
-pub const VERSION: u32 = 1;
+pub const VERSION: u32 = 2;
 
 /// No frame has more bytes.
 pub const MOST_FRAME: usize = 8192;
@@ -89,7 +89,7 @@ pub enum Refusal {
     Open = 11,
     /// The output buffer is too short, or a frame that is written would pass 8,192 bytes.
     Room = 12,
-    /// There is no such item, event, channel or histogram.
+    /// There is no such item, event, channel, histogram, sample or bin.
     Absent = 13,
     /// A sequence number 1 to 255 before the first 0x0100.
     NoStart = 14,
@@ -220,9 +220,10 @@ pub struct Item {
     pub timestamp: u64,
 }
 
-/// An item, and the word index of the next one, or of the end word.
+/// An item, its own word index, and that of the next one, or of the end word.
 #[derive(Clone, Copy, Debug, PartialEq, Eq)]
 pub struct Found {
+    pub index: usize,
     pub next: usize,
     pub item: Item,
 }
@@ -283,7 +284,7 @@ pub struct Entry {
 #[repr(C)]
 #[derive(Clone, Copy, Debug, PartialEq, Eq)]
 pub struct Correction {
-    /// The item's first word, in its frame.
+    /// The item's first word, in its frame: `sample_word` and `bin_word` find it.
     pub word: usize,
     pub value: u32,
     pub operator_id: u32,
@@ -314,6 +315,7 @@ pub mod ffi {
     pub struct Found {
         pub refused: u32,
         pub place: usize,
+        pub index: usize,
         pub next: usize,
         pub item: ItemFields,
     }
@@ -333,6 +335,13 @@ pub mod ffi {
         pub number: u32,
         pub size: u32,
         pub index: usize,
+    }
+
+    #[repr(C)]
+    pub struct WordFound {
+        pub refused: u32,
+        pub place: usize,
+        pub word: usize,
     }
 
     #[repr(C)]
@@ -394,6 +403,21 @@ pub mod ffi {
             out: *mut u32,
             room: usize,
         ) -> Done;
+        pub fn plane_sample_word(
+            frame: *const u8,
+            length: usize,
+            ordinal: usize,
+            chip: u16,
+            channel: u16,
+            time: u16,
+        ) -> WordFound;
+        pub fn plane_bin_word(
+            frame: *const u8,
+            length: usize,
+            chip: u16,
+            channel: u16,
+            bin: u16,
+        ) -> WordFound;
         pub fn plane_begin(
             buffer: *mut u8,
             room: usize,
@@ -450,7 +474,7 @@ pub fn read(frame: &[u8]) -> Answer<Frame> {
 /// Item `ordinal`, from 0. Refused as `read` refuses, then by 13. Each call judges the whole frame.
 pub fn item(frame: &[u8], ordinal: usize) -> Answer<Found> {
     let r = unsafe { ffi::plane_item(frame.as_ptr(), frame.len(), ordinal) };
-    answer(r.refused, r.place, Found { next: r.next, item: r.item })
+    answer(r.refused, r.place, Found { index: r.index, next: r.next, item: r.item })
 }
 
 /// The bytes of the text that is item `ordinal`, without the final zero: a slice of your own frame, not copied. Refuses nothing: it is empty on any
@@ -490,6 +514,28 @@ pub fn counts(frame: &[u8], chip: u16, channel: u16, out: &mut [u32]) -> Answer<
     let r =
         unsafe { ffi::plane_counts(frame.as_ptr(), length, chip, channel, out.as_mut_ptr(), room) };
     answer(r.refused, r.place, ())
+}
+
+/// The word of the sample at a time, of event `ordinal`, a chip and a channel: what `Correction::word` takes. Refused as `read` refuses, then by 13
+/// where there is no such event, channel or sample: exactly where `samples` is refused by 13 or writes `NO_SAMPLE` at that time, and for a time over
+/// 511.
+pub fn sample_word(
+    frame: &[u8],
+    ordinal: usize,
+    chip: u16,
+    channel: u16,
+    time: u16,
+) -> Answer<usize> {
+    let (start, length) = (frame.as_ptr(), frame.len());
+    let r = unsafe { ffi::plane_sample_word(start, length, ordinal, chip, channel, time) };
+    answer(r.refused, r.place, r.word)
+}
+
+/// The word of a bin, the first of its three, of a chip's and a channel's histogram: what `Correction::word` takes. Refused as `read` refuses, then by
+/// 13 where there is no such histogram or bin: exactly where `counts` is refused by 13 or writes 0 at that bin, and for a bin over 4,095.
+pub fn bin_word(frame: &[u8], chip: u16, channel: u16, bin: u16) -> Answer<usize> {
+    let r = unsafe { ffi::plane_bin_word(frame.as_ptr(), frame.len(), chip, channel, bin) };
+    answer(r.refused, r.place, r.word)
 }
 
 fn written(w: ffi::Written) -> Answer<usize> {

@@ -1,8 +1,6 @@
 //! Reads a frame: its first words, its items, an event and the samples of a channel; then the same frame with a wrong size in its End event.
 mod plane_record;
-use plane_record::{
-    Answer, FIRST_ITEM, Item, NO_SAMPLE, SAMPLES, class, event, item, read, samples,
-};
+use plane_record::{Answer, Item, NO_SAMPLE, SAMPLES, class, event, item, read, samples};
 
 /// Case 3 of document 01.
 const WORDS: [u16; 17] = [
@@ -33,11 +31,9 @@ fn list(frame: &[u8]) -> Answer<()> {
         frame.len(),
         f.items
     );
-    let mut word = FIRST_ITEM;
     for n in 0..f.items {
         let found = item(frame, n)?;
-        println!("item {n} at word {word}: {}", shown(found.item));
-        word = found.next;
+        println!("item {n} at word {}: {}", found.index, shown(found.item));
     }
     Ok(())
 }

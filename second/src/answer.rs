@@ -45,7 +45,7 @@ fn numbers(values: &[u64]) -> Vec<String> {
 pub fn answer(case: &mut Case) -> String {
     match case.op {
         CLASSIFY => verdict(Ok(numbers(&[classify(case.a[0] as u16).row()]))),
-        READ..=COUNTS => question(case),
+        READ..=COUNTS | SAMPLE_WORD | BIN_WORD => question(case),
         BEGIN..=CLOSE => {
             let written = write(case).map(|length| numbers(&[length as u64]));
             format!("{} | {}", verdict(written), sum(&case.p))
@@ -53,6 +53,10 @@ pub fn answer(case: &mut Case) -> String {
         FOLLOW => verdict(follow_coded(case.a[0], case.a[1] as u16)),
         _ => record_call(case),
     }
+}
+
+fn word_line(word: Result<usize, Refusal>) -> String {
+    verdict(word.map(|index| numbers(&[index as u64])))
 }
 
 fn question(case: &Case) -> String {
@@ -73,6 +77,8 @@ fn question(case: &Case) -> String {
             frame::event(p, a[0])
                 .map(|e| numbers(&[e.kind, e.timestamp, e.number, e.size, e.index as u64])),
         ),
+        SAMPLE_WORD => word_line(frame::sample_word(p, a[0], a[1], a[2], a[3])),
+        BIN_WORD => word_line(frame::bin_word(p, a[0], a[1], a[2])),
         SAMPLES => {
             let mut out = vec![a[4] as u16; a[3] as usize];
             let done = frame::samples(p, a[0], a[1], a[2], &mut out);

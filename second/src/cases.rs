@@ -8,7 +8,7 @@
 
 use crate::book::Class;
 
-pub const OPS: usize = 18;
+pub const OPS: usize = 20;
 pub const MAX_PAYLOAD: usize = 24_576;
 const FIXED_BYTES: usize = 72;
 
@@ -30,10 +30,30 @@ pub const OPEN: u8 = 14;
 pub const EDIT: u8 = 15;
 pub const RESTORE: u8 = 16;
 pub const LIST: u8 = 17;
+pub const SAMPLE_WORD: u8 = 18;
+pub const BIN_WORD: u8 = 19;
 
 pub const NAMES: [&str; OPS] = [
-    "classify", "read", "item", "text", "event", "samples", "counts", "begin", "add", "add text",
-    "close", "follow", "record", "entry", "open", "edit", "restore", "list",
+    "classify",
+    "read",
+    "item",
+    "text",
+    "event",
+    "samples",
+    "counts",
+    "begin",
+    "add",
+    "add text",
+    "close",
+    "follow",
+    "record",
+    "entry",
+    "open",
+    "edit",
+    "restore",
+    "list",
+    "sample word",
+    "bin word",
 ];
 
 /// One call: the op, its arguments, and the payloads P and Q.
@@ -95,6 +115,8 @@ fn table(case: &Case) -> Option<(Vec<u64>, bool, bool)> {
         ITEM | TEXT | EVENT | CLOSE | ENTRY => (vec![ANY], true, false),
         SAMPLES => (vec![ANY, U16, U16, 600, U16], true, false),
         COUNTS => (vec![U16, U16, 4200, U32], true, false),
+        SAMPLE_WORD => (vec![ANY, U16, U16, U16], true, false),
+        BIN_WORD => (vec![U16, U16, U16], true, false),
         BEGIN => (vec![2, U16, U16], true, false),
         ADD => ([vec![ANY, 13], field_limits(case.a[1])?].concat(), true, false),
         ADD_TEXT | RESTORE => (vec![ANY], true, true),

@@ -38,6 +38,8 @@ fn all() -> Vec<Case> {
         corpus_record::edit_cases(),
         corpus_record::restore_cases(),
         corpus_list::list_cases(),
+        sample_word_cases(),
+        bin_word_cases(),
     ]
     .concat();
     cases.sort_by_key(|case| case.op);
@@ -217,6 +219,55 @@ fn counts_cases() -> Vec<Case> {
         cases.push(Case::new(COUNTS, &[0, 78, 4095, 9]).p(frame));
     }
     cases.push(Case::new(COUNTS, &[0, 0, 4096, 9]).p(&known[3]));
+    cases
+}
+
+fn sample_word_cases() -> Vec<Case> {
+    let frame = two_events();
+    let ask = |e: u64, chip: u64, channel: u64, time: u64| {
+        Case::new(SAMPLE_WORD, &[e, chip, channel, time]).p(&frame)
+    };
+    // Every sample that stands, and the pauses, both ends and far beyond.
+    let times = [0, 1, 2, 3, 4, 5, 15, 16, 17, 509, 510, 511, 512, 513, 0x1FF + 0x200, 0xFFFF];
+    let mut cases = Vec::new();
+    for (event, chip, channel) in [(0, 0, 5), (1, 0, 5), (1, 3, 78)] {
+        cases.extend(times.map(|time| ask(event, chip, channel, time)));
+    }
+    cases.extend([(3, 78), (0, 6), (1, 5), (4, 5), (0, 133)].map(|(b, c)| ask(0, b, c, 0)));
+    cases.extend([2, 3].iter().chain(&FAR).map(|event| ask(*event, 0, 5, 0)));
+    let known = [third(), seventh(), five_texts(), framed(DATA, &filled(DATA, 4092))];
+    for frame in &known {
+        for time in [3, 4, 5, 511] {
+            cases.push(Case::new(SAMPLE_WORD, &[0, 2, 10, time]).p(frame));
+        }
+    }
+    for frame in &refused_frames(1) {
+        cases.push(Case::new(SAMPLE_WORD, &[0, 2, 10, 3]).p(frame));
+    }
+    cases
+}
+
+fn bin_word_cases() -> Vec<Case> {
+    let frame = three_histograms();
+    let ask =
+        |chip: u64, channel: u64, bin: u64| Case::new(BIN_WORD, &[chip, channel, bin]).p(&frame);
+    // Every bin that stands under its own header and under the others.
+    let bins = [0, 1, 2, 0x0FF, 0x100, 0x101, 0x1FF, 0x200, 0x201, 0xFFE, 0xFFF, 0x1000, 0xFFFF];
+    let mut cases = Vec::new();
+    for (chip, channel) in [(0, 0), (0, 78), (3, 78)] {
+        cases.extend(bins.map(|bin| ask(chip, channel, bin)));
+    }
+    cases.extend([(0, 1), (1, 0), (0, 79), (4, 0), (0, 128)].map(|(b, c)| ask(b, c, 0)));
+    let known = [third(), seventh(), five_texts(), framed(MONITOR, &filled(MONITOR, 4092))];
+    for frame in &known {
+        for bin in [0, 255, 256, 257] {
+            cases.push(Case::new(BIN_WORD, &[0, 78, bin]).p(frame));
+        }
+    }
+    cases.extend([0, 5, 4095].map(|bin| Case::new(BIN_WORD, &[0, 0, bin]).p(&known[3])));
+    for frame in &refused_frames(1) {
+        cases.push(Case::new(BIN_WORD, &[0, 78, 256]).p(frame));
+    }
     cases
 }
 

@@ -210,3 +210,42 @@ pub fn counts(bytes: &[u8], chip: u64, channel: u64, out: &mut [u32]) -> Result<
     }
     Ok(())
 }
+
+/// The word index of the sample at a time, of one channel of event `ordinal`:
+/// what an edit takes.
+pub fn sample_word(
+    bytes: &[u8],
+    ordinal: u64,
+    chip: u64,
+    channel: u64,
+    time: u64,
+) -> Result<usize, Refusal> {
+    let frame = read(bytes)?;
+    let header = Item::Channel { card: frame.card, chip, channel };
+    let items = event_items(&frame, ordinal).unwrap_or(&[]);
+    let mut next = 0;
+    for found in items.iter().skip_while(|found| found.item != header).skip(1) {
+        match found.item {
+            Item::TimeBin { time: start } => next = start,
+            Item::Sample { .. } if next == time => return Ok(found.index),
+            Item::Sample { .. } => next += 1,
+            _ => break,
+        }
+    }
+    refuse(ABSENT)
+}
+
+/// The word index of a bin of one histogram.
+pub fn bin_word(bytes: &[u8], chip: u64, channel: u64, number: u64) -> Result<usize, Refusal> {
+    let frame = read(bytes)?;
+    let header = Item::Histogram { card: frame.card, chip, channel };
+    let behind = frame.items.iter().skip_while(|found| found.item != header).skip(1);
+    let mut bins = behind.map_while(|found| match found.item {
+        Item::Bin { bin, .. } => Some((bin, found.index)),
+        _ => None,
+    });
+    match bins.find(|(bin, _)| *bin == number) {
+        Some((_, index)) => Ok(index),
+        None => refuse(ABSENT),
+    }
+}

@@ -65,7 +65,7 @@ fn draw(rng: &mut Rng, op: u8, sink: &mut Sink) {
     let chain = rng.percent(4);
     match op {
         CLASSIFY => sink.emit(&classify_case(rng)),
-        READ..=COUNTS => sink.emit(&question(rng, op)),
+        READ..=COUNTS | SAMPLE_WORD | BIN_WORD => sink.emit(&question(rng, op)),
         BEGIN..=CLOSE if chain => chains::writing(rng, sink),
         BEGIN => sink.emit(&make_writer::begin_case(rng)),
         ADD..=CLOSE => sink.emit(&make_writer::partial_case(rng, op)),
@@ -97,8 +97,8 @@ fn kind_for(rng: &mut Rng, op: u8) -> Kind {
     let any = rng.pick(&Kind::ALL);
     let suited = match op {
         TEXT => Kind::Command,
-        EVENT | SAMPLES => Kind::Data,
-        COUNTS => Kind::Monitor,
+        EVENT | SAMPLES | SAMPLE_WORD => Kind::Data,
+        COUNTS | BIN_WORD => Kind::Monitor,
         _ => any,
     };
     if rng.percent(75) {
@@ -128,6 +128,8 @@ fn question(rng: &mut Rng, op: u8) -> Case {
             let fill = rng.pick(&[0, 1, 0xFFFF_FFFF, 0x1234_5678]);
             vec![chip, channel, elements(rng, 4096), fill]
         }
+        SAMPLE_WORD => aim_at_value(rng, &items).to_vec(),
+        BIN_WORD => aim_at_value(rng, &items)[1..].to_vec(),
         _ => vec![ordinal(rng, items.len())],
     };
     Case::new(op, &arguments).p(&bytes)
@@ -182,6 +184,46 @@ fn aim_at_channel(rng: &mut Rng, items: &[Found]) -> [u64; 3] {
     aim
 }
 
+/// Event, chip, channel and time or bin of a Sample or Bin that stands,
+/// mostly; else beside one, in a pause, or under another header.
+fn aim_at_value(rng: &mut Rng, items: &[Found]) -> [u64; 4] {
+    let mut standing = Vec::new();
+    let (mut event, mut under, mut next) = (0u64, [0, 0], 0);
+    for found in items {
+        match found.item {
+            Item::StartEvent { .. } => event += 1,
+            Item::Channel { chip, channel, .. } => under = [chip, channel],
+            Item::Histogram { chip, channel, .. } => under = [chip, channel],
+            Item::TimeBin { time } => next = time,
+            Item::Sample { .. } => {
+                standing.push([event - 1, under[0], under[1], next]);
+                next += 1;
+            }
+            Item::Bin { bin, .. } => standing.push([0, under[0], under[1], bin]),
+            _ => {}
+        }
+    }
+    let [event, chip, channel] = aim_at_channel(rng, items);
+    let mut aim = [event, chip, channel, rng.within(0, 600)];
+    if !standing.is_empty() && rng.percent(85) {
+        aim = rng.pick(&standing);
+    }
+    if !standing.is_empty() && rng.percent(20) {
+        // A time or number of some other one, under this header or not.
+        aim[3] = rng.pick(&standing)[3];
+    }
+    if rng.percent(20) {
+        let at = rng.below(4);
+        let edges = [0, 3, 4, 78, 79, 511, 512, 4095, 4096, 0xFFFF];
+        let old = aim[at];
+        let beside = [old.wrapping_add(1), old.saturating_sub(1), old ^ 0x200, old ^ 0x1000];
+        let new = if rng.percent(30) { rng.pick(&edges) } else { rng.pick(&beside) };
+        // All but the event are of 16 bits.
+        aim[at] = if at == 0 { new } else { new & 0xFFFF };
+    }
+    aim
+}
+
 #[cfg(test)]
 mod tests {
     use super::*;
@@ -190,9 +232,9 @@ mod tests {
     #[test]
     fn every_refusal_of_every_op_comes_up() {
         let ops: Vec<u8> = (0..OPS as u8).collect();
-        let tally = Tally::of_cases(&make(1, 40_000, &ops));
+        let tally = Tally::of_cases(&make(2, 60_000, &ops));
         assert_eq!(tally.missing(), Vec::<String>::new());
-        assert_eq!(tally.cases(), 40_000);
+        assert_eq!(tally.cases(), 60_000);
     }
 
     #[test]

@@ -9,7 +9,7 @@ use std::fmt::Write;
 pub fn possible(op: u8) -> &'static [u8] {
     match op {
         READ => &[1, 2, 3, 4, 5, 6, 7, 8, 9, 10, 11],
-        ITEM | EVENT => &[1, 2, 3, 4, 5, 6, 7, 8, 9, 10, 11, 13],
+        ITEM | EVENT | SAMPLE_WORD | BIN_WORD => &[1, 2, 3, 4, 5, 6, 7, 8, 9, 10, 11, 13],
         SAMPLES | COUNTS => &[1, 2, 3, 4, 5, 6, 7, 8, 9, 10, 11, 12, 13],
         BEGIN => &[4, 9, 12],
         ADD | ADD_TEXT => &[1, 2, 3, 4, 6, 7, 8, 9, 10, 12],
@@ -72,7 +72,7 @@ impl Tally {
     /// One row for each op that came up: op, name, cases, accepted, and every
     /// refusal that it can give with how often it did.
     pub fn table(&self) -> String {
-        let mut table = format!("{:>2} {:<9}{:>9}{:>9}  refused\n", "op", "call", "cases", "ok");
+        let mut table = format!("{:>2} {:<12}{:>9}{:>9}  refused\n", "op", "call", "cases", "ok");
         for op in 0..OPS as u8 {
             let numbers = self.counts.iter().filter(|(key, _)| key.0 == op);
             let all: u64 = numbers.clone().map(|(_, count)| count).sum();
@@ -84,7 +84,7 @@ impl Tally {
             refusals.sort();
             refusals.dedup();
             let name = NAMES[op as usize];
-            write!(table, "{op:>2} {name:<9}{all:>9}{:>9} ", self.get(op, 0)).unwrap();
+            write!(table, "{op:>2} {name:<12}{all:>9}{:>9} ", self.get(op, 0)).unwrap();
             for number in refusals {
                 write!(table, " {number}:{}", self.get(op, number)).unwrap();
             }

@@ -25,6 +25,8 @@ int main(void) {
     wants("samples, no room", plane_samples(command, sizeof command, 0, 0, 0, NULL, 0).refused, PLANE_REFUSED_ROOM);
     wants("counts", plane_counts(NULL, 0, 0, 0, NULL, 0).refused, PLANE_REFUSED_LENGTH);
     wants("counts, no room", plane_counts(command, sizeof command, 0, 0, NULL, 0).refused, PLANE_REFUSED_ROOM);
+    wants("sample word", plane_sample_word(NULL, 0, 0, 0, 0, 0).refused, PLANE_REFUSED_LENGTH);
+    wants("bin word", plane_bin_word(NULL, 0, 0, 0, 0).refused, PLANE_REFUSED_LENGTH);
     wants("begin", plane_begin(NULL, 0, PLANE_COMMAND, 5, 0).refused, PLANE_REFUSED_ROOM);
     wants("add", plane_add(NULL, 0, 0, sample).refused, PLANE_REFUSED_LENGTH);
     wants("add behind 6 bytes", plane_add(NULL, 0, 6, sample).refused, PLANE_REFUSED_LENGTH);

@@ -14,7 +14,7 @@ import sys
 
 ROOT = os.path.dirname(os.path.dirname(os.path.dirname(os.path.abspath(__file__))))
 # A struct's tag is another word than the function of that name, which C++ would hide it behind.
-TAGS = {"PlaneItem": "item_fields", "PlaneText": "text_part", "PlaneEvent": "event_found", "PlaneRecord": "record_found", "PlaneEntry": "entry_found"}
+TAGS = {"PlaneItem": "item_fields", "PlaneText": "text_part", "PlaneEvent": "event_found", "PlaneWord": "word_found", "PlaneRecord": "record_found", "PlaneEntry": "entry_found"}
 NUMBERS = {"u8": ctypes.c_uint8, "u16": ctypes.c_uint16, "u32": ctypes.c_uint32, "u64": ctypes.c_uint64, "usize": ctypes.c_size_t}
 
 

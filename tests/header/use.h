@@ -2,7 +2,7 @@
 #include "plane_record.h"
 #include "plane_record.h"
 
-#if PLANE_RECORD_VERSION != 1
+#if PLANE_RECORD_VERSION != 2
 #error "the version is not the one that this test was written for"
 #endif
 
@@ -26,11 +26,14 @@ int use_reading(const uint8_t *frame, size_t length, uint16_t *samples, uint32_t
     const STRUCT plane_event_found event = plane_event(frame, length, 0);
     const STRUCT plane_done sampled = plane_samples(frame, length, 0, 1, 2, samples, PLANE_SAMPLES);
     const STRUCT plane_done counted = plane_counts(frame, length, 1, 2, counts, PLANE_COUNTS);
+    const STRUCT plane_word_found sample = plane_sample_word(frame, length, 0, 1, 2, 511);
+    const STRUCT plane_word_found bin = plane_bin_word(frame, length, 1, 2, 4095);
     const ENUM plane_kind kind = PLANE_MONITOR;
     const ENUM plane_class item_class = PLANE_BIN;
     const ENUM plane_sizes first = PLANE_FIRST_ITEM;
     return accepted(f.refused, f.place) && f.kind == kind && accepted(found.refused, found.place) && item.item_class == item_class &&
-           found.next > (size_t)first && text.offset + text.length <= length && accepted(event.refused, event.place) &&
+           found.index == (size_t)first && found.next > found.index && accepted(sample.refused, sample.place) && accepted(bin.refused, bin.place) &&
+           sample.word < bin.word && text.offset + text.length <= length && accepted(event.refused, event.place) &&
            accepted(sampled.refused, sampled.place) && samples[0] != PLANE_NO_SAMPLE && accepted(counted.refused, counted.place) &&
            plane_classify(0x0100) == PLANE_TEXT;
 }

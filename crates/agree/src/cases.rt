@@ -150,6 +150,8 @@ impl Case {
             ),
             16 => self.within(u64::MAX, 0, 0, 0, 0, true, true),
             17 => self.within(0, 0, 0, 0, 0, true, true),
+            18 => self.within(u64::MAX, Case::WORD, Case::WORD, Case::WORD, 0, true, false),
+            19 => self.within(Case::WORD, Case::WORD, Case::WORD, 0, 0, true, false),
             _ => false,
         }
     }

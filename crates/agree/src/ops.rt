@@ -26,6 +26,8 @@ fn asked(case: Case, p: &[u8]) -> Reply {
         11 => ops_follower::follow(case.a0, case.a1),
         12 => ops_record::record(p),
         13 => ops_record::entry(p, case.a0),
+        18 => ops_questions::sample_word(p, case.a0, case.a1, case.a2, case.a3),
+        19 => ops_questions::bin_word(p, case.a0, case.a1, case.a2),
         _ => no_case(),
     }
 }

@@ -1,10 +1,11 @@
-// The ops over the questions on a frame: events, samples, counts.
+// The ops over the questions on a frame: events, samples, counts, the word of a sample and of a bin.
 use crate::cases;
 use crate::reply;
 use crate::reply::Reply;
 use crate::sums;
 use questions::answers::EventFound;
 use questions::answers::Filled;
+use questions::answers::WordFound;
 
 // Op 4: event a0 of the frame p.
 pub(crate) fn event(p: &[u8], a0: u64) -> Reply {
@@ -66,4 +67,26 @@ pub(crate) fn counts(p: &[u8], a0: u64, a1: u64, a2: u64, a3: u64) -> Reply {
     let before = cases::low32(a3);
     let mut out = [before; 4200];
     counts_into(p, cases::low16(a0), cases::low16(a1), &mut out[0..n])
+}
+
+fn worded(answer: WordFound) -> Reply {
+    match answer {
+        WordFound::Word(w) => reply::few(1, w as u64, 0, 0),
+        WordFound::Refused(r) => reply::refused(r),
+    }
+}
+
+// Op 18: the word of the sample of event a0, chip a1, channel a2 at time a3 of the frame p.
+pub(crate) fn sample_word(p: &[u8], a0: u64, a1: u64, a2: u64, a3: u64) -> Reply {
+    let chip = cases::low16(a1);
+    let channel = cases::low16(a2);
+    let time = cases::low16(a3);
+    worded(questions::words::sample_word(p, a0 as usize, chip, channel, time))
+}
+
+// Op 19: the word of the bin of chip a0, channel a1, number a2 of the frame p.
+pub(crate) fn bin_word(p: &[u8], a0: u64, a1: u64, a2: u64) -> Reply {
+    let chip = cases::low16(a0);
+    let channel = cases::low16(a1);
+    worded(questions::words::bin_word(p, chip, channel, cases::low16(a2)))
 }

@@ -15,7 +15,7 @@ use Rattle.format.specs.Items.{Item, Text, Token, whole, flawed}
 use Rattle.format.specs.Rules.{Kind, check}
 use Rattle.format.specs.Frames.{verdict}
 use Rattle.format.specs.Steps.{readOf}
-use Rattle.format.specs.Questions.{nth, itemAt, shownAt, present, events, pickNth, eventAt, until, past, isChannel, isHistogram, channelIn, samplesAt, countsAt, done}
+use Rattle.format.specs.Questions.{nth, itemAt, shownAt, present, events, pickNth, eventAt, until, past, isChannel, isHistogram, channelIn, samplesAt, countsAt, done, pastAt, channelAt, sampleWord, binWord, sampleWordAt, binWordAt}
 use Rattle.format.specs.Writing.{partialVerdict, addAnswer, closeAnswer}
 use Rattle.format.specs.WriterCases.{oneOf, handed}
 use Rattle.format.proofs.front.Refusals.{places}
@@ -95,6 +95,20 @@ module _ (s : List ℕ) (bs : Bytes s) where
   unfolding countsAt
   counts-numbered chip c room =
       numbered-done _ (numbered-then (verdict s) _ verdict-numbered (λ f. numbered-pick (leb 4096 room) _ _ (numbered-present (past (isHistogram chip c) (f .items))) (by 12 0 (omega arith))))
+
+  pub sample-word-numbered : (e chip c t : ℕ) → Numbered (sampleWordAt s e chip c t)
+  unfolding sampleWordAt channelAt
+  sample-word-numbered e chip c t =
+      numbered-then (verdict s) _ verdict-numbered
+      (λ f. numbered-then (channelAt e chip c (f .items)) _
+      (numbered-asked (pickNth e (events 3 (f .items))) _ (λ o. numbered-present (pastAt (isChannel chip c) _ (until endEvent (o .items)))))
+      (λ h. numbered-present (sampleWord t 0 (h .index) (h .items))))
+
+  pub bin-word-numbered : (chip c b : ℕ) → Numbered (binWordAt s chip c b)
+  unfolding binWordAt
+  bin-word-numbered chip c b =
+      numbered-then (verdict s) _ verdict-numbered
+      (λ f. numbered-asked (pastAt (isHistogram chip c) 3 (f .items)) _ (λ h. numbered-present (binWord b (h .index) (h .items))))
 
 -- ---- the writer
 

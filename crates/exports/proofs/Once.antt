@@ -6,7 +6,7 @@ use mathlib.Core.Path.{_≡_, sym, _∙_}
 use mathlib.Core.List.{List}
 use Rattle.format.specs.Book.{classOf, rowOf}
 use Rattle.format.specs.Steps.{readOf}
-use Rattle.format.specs.Questions.{shownAt, eventAt}
+use Rattle.format.specs.Questions.{shownAt, eventAt, sampleWordAt, binWordAt}
 use Rattle.follower.specs.Follow.{follow}
 use Rattle.ledger.specs.Formats.{Correction}
 use Rattle.ledger.specs.Calls.{recordAnswer, entryAnswer}
@@ -18,15 +18,16 @@ use Rattle.exports.specs.declared.answers.PlaneFrame.{PlaneFrame}
 use Rattle.exports.specs.declared.answers.PlaneFound.{PlaneFound}
 use Rattle.exports.specs.declared.answers.PlaneItem.{PlaneItem}
 use Rattle.exports.specs.declared.answers.PlaneEvent.{PlaneEvent}
+use Rattle.exports.specs.declared.answers.PlaneWord.{PlaneWord}
 use Rattle.exports.specs.declared.answers.PlaneText.{PlaneText}
 use Rattle.exports.specs.declared.answers.PlaneFollower.{PlaneFollower}
 use Rattle.exports.specs.declared.answers.PlaneFollowed.{PlaneFollowed}
 use Rattle.exports.specs.declared.answers.PlaneRecord.{PlaneRecord}
 use Rattle.exports.specs.declared.answers.PlaneEntry.{PlaneEntry}
 use Rattle.exports.specs.declared.answers.PlaneWritten.{PlaneWritten}
-use Rattle.exports.specs.Flat.{flatFrame, flatFound, flatEvent, flatFollowed, flatRecord, flatEntry}
+use Rattle.exports.specs.Flat.{flatFrame, flatFound, flatEvent, flatWord, flatFollowed, flatRecord, flatEntry}
 use Rattle.exports.specs.Given.{followerOf}
-use Rattle.exports.specs.Promises.{ClassNumbered, FrameTold, ItemTold, TextPart, EventTold, FollowTold, RecordTold, EntryTold, Leaves, Sampled, Counted, Begun, Added, AddedText, Closed, Opened, Edited, Restored}
+use Rattle.exports.specs.Promises.{ClassNumbered, FrameTold, ItemTold, TextPart, EventTold, SampleWordTold, BinWordTold, FollowTold, RecordTold, EntryTold, Leaves, Sampled, Counted, Begun, Added, AddedText, Closed, Opened, Edited, Restored}
 
 -- ---- an answer alone
 
@@ -47,6 +48,12 @@ text-once s n r q e f =
 
 pub event-once : (s : List ℕ) (e : ℕ) (r q : PlaneEvent) → EventTold s e r → EventTold s e q → r ≡ q
 event-once s e = equal-once (flatEvent (eventAt s e))
+
+pub sample-word-once : (s : List ℕ) (e chip c t : ℕ) (r q : PlaneWord) → SampleWordTold s e chip c t r → SampleWordTold s e chip c t q → r ≡ q
+sample-word-once s e chip c t = equal-once (flatWord (sampleWordAt s e chip c t))
+
+pub bin-word-once : (s : List ℕ) (chip c b : ℕ) (r q : PlaneWord) → BinWordTold s chip c b r → BinWordTold s chip c b q → r ≡ q
+bin-word-once s chip c b = equal-once (flatWord (binWordAt s chip c b))
 
 pub follow-once : (x : PlaneFollower) (word : ℕ) (r q : PlaneFollowed) → FollowTold x word r → FollowTold x word q → r ≡ q
 follow-once x word = equal-once (flatFollowed x (follow (followerOf x) word))

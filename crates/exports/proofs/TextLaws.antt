@@ -8,7 +8,7 @@ use lib.ListN.{length, take, drop, length-take, length-drop}
 use Rattle.format.specs.Words.{Bytes}
 use Rattle.format.specs.Answers.{Outcome, accepted, refused}
 use Rattle.format.specs.Items.{ItemOf, Channel, Histogram, HitCount, Sample, Bin, LastCell, TimeBin, Text, StartEvent, EndEvent}
-use Rattle.format.specs.Questions.{Shown, shownAt, textAt}
+use Rattle.format.specs.Questions.{IndexedShown, shownAt, textAt}
 use Rattle.frame.specs.Parts.{textCount, textFrom}
 use Rattle.frame.proofs.Finding.{Empty, text-refused, text-none, text-part}
 use Rattle.exports.specs.declared.answers.PlaneFound.{PlaneFound}
@@ -37,9 +37,9 @@ module _ (s : List ℕ) (n : ℕ) where
   unfolding flatFound
   text-empty f e h = go (shownAt s n) refl (subst (λ (g : PlaneFound). g .item .length < 1) e h)
     where
-      go : (o : Outcome Shown) → shownAt s n ≡ o → flatFound o .item .length < 1 → TextPart s n (record { offset = 0; length = 0 })
+      go : (o : Outcome IndexedShown) → shownAt s n ≡ o → flatFound o .item .length < 1 → TextPart s n (record { offset = 0; length = 0 })
       go (refused k p) i l = none (text-refused s n k p (sym i))
-      go (accepted x) i l = none (text-none s n (x .item) (x .next) (sym i) (flatItem (x .item) .length) (length-is (x .item)) l)
+      go (accepted x) i l = none (text-none s n (x .index) (x .item) (x .next) (sym i) (flatItem (x .item) .length) (length-is (x .item)) l)
 
   -- a text of so many bytes, the final zero included, that ends before word `next`
   pub record There (next count : ℕ) : Type 0 where
@@ -47,9 +47,9 @@ module _ (s : List ℕ) (n : ℕ) where
     pub inside : 2 * (next - (count + 1) / 2) + (count - 1) ≤ length s
     pub part : Bytes s → TextPart s n (record { offset = 2 * (next - (count + 1) / 2); length = count - 1 })
 
-  there-in : (x : Shown) → accepted x ≡ shownAt s n → 1 ≤ flatItem (x .item) .length → There (x .next) (flatItem (x .item) .length)
+  there-in : (x : IndexedShown) → accepted x ≡ shownAt s n → 1 ≤ flatItem (x .item) .length → There (x .next) (flatItem (x .item) .length)
   there-in x e h =
-      let p = text-part s n (x .item) (x .next) e (flatItem (x .item) .length) (length-is (x .item)) h in
+      let p = text-part s n (x .index) (x .item) (x .next) e (flatItem (x .item) .length) (length-is (x .item)) h in
       let from = 2 * (x .next - (flatItem (x .item) .length + 1) / 2) in
       let size = flatItem (x .item) .length - 1 in
       let same : from + size - from ≡ size = omega arith in
@@ -66,6 +66,6 @@ module _ (s : List ℕ) (n : ℕ) where
   unfolding flatFound
   there f e h = subst (λ (g : PlaneFound). There (g .next) (g .item .length)) (sym e) (go (shownAt s n) refl (subst (λ (g : PlaneFound). 1 ≤ g .item .length) e h))
     where
-      go : (o : Outcome Shown) → shownAt s n ≡ o → 1 ≤ flatFound o .item .length → There (flatFound o .next) (flatFound o .item .length)
+      go : (o : Outcome IndexedShown) → shownAt s n ≡ o → 1 ≤ flatFound o .item .length → There (flatFound o .next) (flatFound o .item .length)
       go (refused k p) i l = absurd (omega arith)
       go (accepted x) i l = there-in x (sym i) l

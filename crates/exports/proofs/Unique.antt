@@ -14,7 +14,7 @@ use Rattle.format.specs.Book.{Class, rowOf, classAt}
 use Rattle.format.proofs.front.Book.{book-row-stands}
 use Rattle.format.specs.Items.{ItemOf, Channel, Histogram, HitCount, Sample, Bin, LastCell, TimeBin, Text, StartEvent, EndEvent}
 use Rattle.format.specs.Rules.{Kind, dataKind, monitorKind, commandKind}
-use Rattle.format.specs.Questions.{Shown}
+use Rattle.format.specs.Questions.{IndexedShown}
 use Rattle.format.specs.Writing.{given}
 use Rattle.follower.specs.Follow as follow
 use Rattle.ledger.specs.Formats.{Correction}
@@ -24,7 +24,7 @@ use Rattle.exports.specs.declared.answers.PlaneItem.{PlaneItem}
 use Rattle.exports.specs.declared.answers.PlaneFound.{PlaneFound}
 use Rattle.exports.specs.declared.answers.PlaneFollower.{PlaneFollower}
 use Rattle.exports.specs.declared.answers.PlaneCorrection.{PlaneCorrection}
-use Rattle.exports.specs.Flat.{kindNumber, flatDone, flatFrame, flatItem, flatFound, flatEvent, flatWritten, flatFollower, flatFollowed, flatRecord, flatEntry}
+use Rattle.exports.specs.Flat.{kindNumber, flatDone, flatFrame, flatItem, flatFound, flatEvent, flatWord, flatWritten, flatFollower, flatFollowed, flatRecord, flatEntry}
 use Rattle.exports.specs.Given.{asked, followerOf, kindOf, tokenOf}
 use Rattle.exports.specs.FlatTells.{Numbered, Tells, FrameSeen, seenFrame, seenEntry}
 
@@ -151,14 +151,14 @@ frame-tells = record {
   places = λ n p. refl;
 }
 
-abbrev foundContent : PlaneFound → Shown
-foundContent r = record { item = itemBack (r .item); next = r .next }
+abbrev foundContent : PlaneFound → IndexedShown
+foundContent r = record { index = r .index; item = itemBack (r .item); next = r .next }
 
 pub found-tells : Tells (λ x. x) flatFound (λ r. r .refused) (λ r. r .place) foundContent
 unfolding flatFound
 found-tells = record {
   accepts = λ a. refl;
-  contains = λ a. (λ i. record { item = item-back (a .item) i; next = a .next });
+  contains = λ a. (λ i. record { index = a .index; item = item-back (a .item) i; next = a .next });
   numbers = λ n p. refl;
   places = λ n p. refl;
 }
@@ -166,6 +166,10 @@ found-tells = record {
 pub event-tells : Tells (λ x. x) flatEvent (λ r. r .refused) (λ r. r .place) (λ r. record { kind = r .kind; timestamp = r .timestamp; number = r .number; size = r .size; index = r .index })
 unfolding flatEvent
 event-tells = record { accepts = λ a. refl; contains = λ a. refl; numbers = λ n p. refl; places = λ n p. refl }
+
+pub word-tells : Tells (λ x. x) flatWord (λ r. r .refused) (λ r. r .place) (λ r. r .word)
+unfolding flatWord
+word-tells = record { accepts = λ a. refl; contains = λ a. refl; numbers = λ n p. refl; places = λ n p. refl }
 
 pub written-tells : Tells (λ x. x) flatWritten (λ r. r .refused) (λ r. r .place) (λ r. r .length)
 unfolding flatWritten

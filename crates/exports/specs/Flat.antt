@@ -9,7 +9,7 @@ use Rattle.format.specs.Book.{rowOf}
 use Rattle.format.specs.Items.{ItemOf, Channel, Histogram, HitCount, Sample, Bin, LastCell, TimeBin, Text, StartEvent, EndEvent}
 use Rattle.format.specs.Rules.{Kind, dataKind, monitorKind, commandKind}
 use Rattle.format.specs.Steps.{Overview}
-use Rattle.format.specs.Questions.{Shown, Event}
+use Rattle.format.specs.Questions.{IndexedShown, Event}
 use Rattle.follower.specs.Follow as follow
 use Rattle.ledger.specs.Formats as formats
 use Rattle.ledger.specs.Calls.{Summary}
@@ -18,6 +18,7 @@ use Rattle.exports.specs.declared.answers.PlaneFrame.{PlaneFrame}
 use Rattle.exports.specs.declared.answers.PlaneItem.{PlaneItem}
 use Rattle.exports.specs.declared.answers.PlaneFound.{PlaneFound}
 use Rattle.exports.specs.declared.answers.PlaneEvent.{PlaneEvent}
+use Rattle.exports.specs.declared.answers.PlaneWord.{PlaneWord}
 use Rattle.exports.specs.declared.answers.PlaneWritten.{PlaneWritten}
 use Rattle.exports.specs.declared.answers.PlaneFollower.{PlaneFollower}
 use Rattle.exports.specs.declared.answers.PlaneFollowed.{PlaneFollowed}
@@ -73,13 +74,17 @@ flatItem (Text n) = row (rowOf book.text) 0 0 0 0 0 0 0 0 n 0 0 0 0 0
 flatItem (StartEvent k ts n) = row (rowOf book.startEvent) 0 0 0 0 0 0 0 0 0 k 0 n 0 ts
 flatItem (EndEvent n) = row (rowOf book.endEvent) 0 0 0 0 0 0 0 0 0 0 0 0 n 0
 
-unfoldable pub flatFound : Outcome Shown → PlaneFound
-flatFound (answers.accepted x) = record { refused = 0; place = 0; next = x .next; item = flatItem (x .item) }
-flatFound (answers.refused n p) = record { refused = n; place = p; next = 0; item = blank (rowOf book.unassigned) }
+unfoldable pub flatFound : Outcome IndexedShown → PlaneFound
+flatFound (answers.accepted x) = record { refused = 0; place = 0; index = x .index; next = x .next; item = flatItem (x .item) }
+flatFound (answers.refused n p) = record { refused = n; place = p; index = 0; next = 0; item = blank (rowOf book.unassigned) }
 
 unfoldable pub flatEvent : Outcome Event → PlaneEvent
 flatEvent (answers.accepted v) = record { refused = 0; place = 0; kind = v .kind; timestamp = v .timestamp; number = v .number; size = v .size; index = v .index }
 flatEvent (answers.refused n p) = record { refused = n; place = p; kind = 0; timestamp = 0; number = 0; size = 0; index = 0 }
+
+unfoldable pub flatWord : Outcome ℕ → PlaneWord
+flatWord (answers.accepted w) = record { refused = 0; place = 0; word = w }
+flatWord (answers.refused n p) = record { refused = n; place = p; word = 0 }
 
 unfoldable pub flatWritten : Outcome ℕ → PlaneWritten
 flatWritten (answers.accepted n) = record { refused = 0; place = 0; length = n }

@@ -8,7 +8,7 @@ use lib.ListN.{length, take, drop}
 use Rattle.format.specs.Book.{classOf, rowOf}
 use Rattle.format.specs.Items.{Text, whole}
 use Rattle.format.specs.Steps.{readOf}
-use Rattle.format.specs.Questions.{shownAt, eventAt, textAt, done, samplesAt, samplesLeft, countsAt, countsLeft}
+use Rattle.format.specs.Questions.{shownAt, eventAt, textAt, done, samplesAt, samplesLeft, countsAt, countsLeft, sampleWordAt, binWordAt}
 use Rattle.format.specs.Writing.{addAnswer, addLeft, closeAnswer, closeLeft}
 use Rattle.follower.specs.Follow.{follow}
 use Rattle.frame.specs.Parts.{textFrom}
@@ -21,13 +21,14 @@ use Rattle.exports.specs.declared.answers.PlaneFrame.{PlaneFrame}
 use Rattle.exports.specs.declared.answers.PlaneFound.{PlaneFound}
 use Rattle.exports.specs.declared.answers.PlaneItem.{PlaneItem}
 use Rattle.exports.specs.declared.answers.PlaneEvent.{PlaneEvent}
+use Rattle.exports.specs.declared.answers.PlaneWord.{PlaneWord}
 use Rattle.exports.specs.declared.answers.PlaneText.{PlaneText}
 use Rattle.exports.specs.declared.answers.PlaneFollower.{PlaneFollower}
 use Rattle.exports.specs.declared.answers.PlaneFollowed.{PlaneFollowed}
 use Rattle.exports.specs.declared.answers.PlaneRecord.{PlaneRecord}
 use Rattle.exports.specs.declared.answers.PlaneEntry.{PlaneEntry}
 use Rattle.exports.specs.declared.answers.PlaneWritten.{PlaneWritten}
-use Rattle.exports.specs.Flat.{flatDone, flatFrame, flatFound, flatEvent, flatFollowed, flatRecord, flatEntry, flatWritten}
+use Rattle.exports.specs.Flat.{flatDone, flatFrame, flatFound, flatEvent, flatWord, flatFollowed, flatRecord, flatEntry, flatWritten}
 use Rattle.exports.specs.Given.{followerOf, kindOf, begun, begunLeft, tokenOf}
 
 -- ---- an answer alone
@@ -49,6 +50,12 @@ pub record TextPart (s : List ℕ) (n : ℕ) (r : PlaneText) : Type 0 where
 
 abbrev pub EventTold : List ℕ → ℕ → PlaneEvent → Type 0
 EventTold s e r = r ≡ flatEvent (eventAt s e)
+
+abbrev pub SampleWordTold : List ℕ → ℕ → ℕ → ℕ → ℕ → PlaneWord → Type 0
+SampleWordTold s e chip c time r = r ≡ flatWord (sampleWordAt s e chip c time)
+
+abbrev pub BinWordTold : List ℕ → ℕ → ℕ → ℕ → PlaneWord → Type 0
+BinWordTold s chip c bin r = r ≡ flatWord (binWordAt s chip c bin)
 
 abbrev pub FollowTold : PlaneFollower → ℕ → PlaneFollowed → Type 0
 FollowTold follower word r = r ≡ flatFollowed follower (follow (followerOf follower) word)

@@ -50,11 +50,12 @@ pub struct PlaneItem {
     pub timestamp: u64,
 }
 
-// An item, and the word index of the next one, or of the end word.
+// An item, its own word index, and that of the next one, or of the end word.
 #[repr(C)]
 pub struct PlaneFound {
     pub refused: u32,
     pub place: usize,
+    pub index: usize,
     pub next: usize,
     pub item: PlaneItem,
 }
@@ -76,6 +77,14 @@ pub struct PlaneEvent {
     pub number: u32,
     pub size: u32,
     pub index: usize,
+}
+
+// The word index of a sample or a bin: what an edit takes.
+#[repr(C)]
+pub struct PlaneWord {
+    pub refused: u32,
+    pub place: usize,
+    pub word: usize,
 }
 
 // The new length of the partial frame, or of the closed one.

@@ -1,15 +1,19 @@
-// The questions on a frame's events, samples and counts.
+// The questions on a frame's events, samples and counts, and on the word of a sample or a bin.
 ghost use mathlib.Core.Path.{_≡_};
-ghost use Rattle.questions.specs.Views.{viewEvent, viewFilled};
-ghost use Rattle.exports.specs.Flat.{flatDone, flatEvent};
-ghost use Rattle.exports.specs.Promises.{EventTold, Sampled, Counted};
+ghost use Rattle.questions.specs.Views.{viewEvent, viewFilled, viewWord};
+ghost use Rattle.exports.specs.Flat.{flatDone, flatEvent, flatWord};
+ghost use Rattle.exports.specs.Promises.{EventTold, Sampled, Counted, SampleWordTold, BinWordTold};
 use crate::answers::PlaneDone;
 use crate::answers::PlaneEvent;
+use crate::answers::PlaneWord;
 use questions::answers::EventFound;
 use questions::answers::Filled;
+use questions::answers::WordFound;
 use questions::counts::counts;
 use questions::event::event;
 use questions::samples::samples;
+use questions::words::bin_word;
+use questions::words::sample_word;
 
 fn flat_event(found: EventFound) -> PlaneEvent
     ensures { λ r. ⌜ r ≡ flatEvent (viewEvent found) ⌝ }
@@ -79,4 +83,43 @@ pub extern "C" fn plane_counts(frame: &[u8], chip: u16, channel: u16, out: &mut 
     ensures { λ r. ⌜ Counted (now (frame .entry)) chip channel (now (out .entry)) r (now (out .exit)) ⌝ }
 {
     flat_filled(counts(frame, chip, channel, out))
+}
+
+fn flat_word(found: WordFound) -> PlaneWord
+    ensures { λ r. ⌜ r ≡ flatWord (viewWord found) ⌝ }
+{
+    match found {
+        WordFound::Word(word) => PlaneWord {
+            refused: 0,
+            place: 0,
+            word,
+        },
+        WordFound::Refused(r) => PlaneWord {
+            refused: r.number,
+            place: r.place,
+            word: 0,
+        },
+    }
+}
+
+// The word of the sample at a time, of event e, a chip and a channel: `questions::sample_word`.
+#[no_mangle]
+pub extern "C" fn plane_sample_word(
+    frame: &[u8],
+    e: usize,
+    chip: u16,
+    channel: u16,
+    time: u16,
+) -> PlaneWord
+    ensures { λ r. ⌜ SampleWordTold (now (frame .entry)) e chip channel time r ⌝ }
+{
+    flat_word(sample_word(frame, e, chip, channel, time))
+}
+
+// The word of the bin of a number, of a chip's and a channel's histogram: `questions::bin_word`.
+#[no_mangle]
+pub extern "C" fn plane_bin_word(frame: &[u8], chip: u16, channel: u16, bin: u16) -> PlaneWord
+    ensures { λ r. ⌜ BinWordTold (now (frame .entry)) chip channel bin r ⌝ }
+{
+    flat_word(bin_word(frame, chip, channel, bin))
 }

@@ -161,6 +161,7 @@ fn flat_found(found: Found) -> PlaneFound
             PlaneFound {
                 refused: 0,
                 place: 0,
+                index: x.index,
                 next: x.next,
                 item: flat,
             }
@@ -170,6 +171,7 @@ fn flat_found(found: Found) -> PlaneFound
             PlaneFound {
                 refused: r.number,
                 place: r.place,
+                index: 0,
                 next: 0,
                 item: flat,
             }

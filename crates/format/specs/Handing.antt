@@ -11,7 +11,7 @@ use Rattle.format.specs.Book.{text, pageRange}
 use Rattle.format.specs.Items.{ItemOf, Item, Channel, Histogram, HitCount, Sample, Bin, LastCell, TimeBin, Text, StartEvent, EndEvent, classFor, Token, whole}
 use Rattle.format.specs.Rules.{Kind, same}
 use Rattle.format.specs.Frames.{Frame, startWord, encode, Legal}
-use Rattle.format.specs.Questions.{Shown, shown, shownAt, textIn, textAt}
+use Rattle.format.specs.Questions.{IndexedShown, shown, shownAt, textIn, textAt}
 use Rattle.format.specs.Steps.{Overview, overview, readOf}
 use Rattle.format.specs.Writing.{given}
 use Rattle.format.specs.WriterCalls.{CallsDone, writeAll}
@@ -28,12 +28,12 @@ pub record StandsFor (s : List ℕ) (o : Overview) : Type 0 where
 
 -- of an item: what `item` answers, and the bytes that `text` answers
 pub record ItemAnswer : Type 0 where
-  pub answer : Shown
+  pub answer : IndexedShown
   pub text : List ℕ
 
--- what is told of the item x that ends before word `next`
-abbrev pub itemAnswerOf : Item → ℕ → ItemAnswer
-itemAnswerOf x next = record { answer = record { item = shown x; next = next }; text = textIn x }
+-- what is told of the item x that stands at word `index` and ends before word `next`
+abbrev pub itemAnswerOf : ℕ → Item → ℕ → ItemAnswer
+itemAnswerOf index x next = record { answer = record { index = index; item = shown x; next = next }; text = textIn x }
 
 -- the answers as they come, from ordinal n on: the one question asked and then the other, as often as the caller likes
 pub data Answers (s : List ℕ) : ℕ → List ItemAnswer → Type 0 where

@@ -29,27 +29,42 @@ shown (Text s) = Text (length s + 1)
 shown (StartEvent t ts n) = StartEvent t ts n
 shown (EndEvent n) = EndEvent n
 
--- an item and the index of the next one, or of the end word
+-- an item and the index of the next one, or of the end word: what the cursor finds at a word (specs/Cursor)
 pub record Found : Type 0 where
   pub item : Item
   pub next : ℕ
-
--- item n of those that begin at word `at`; 13 where there is none
-unfoldable pub nth : ℕ → ℕ → List Item → Outcome Found
-nth n at [] = refused 13 0
-nth zero at (x ∷ xs) = accepted (record { item = x; next = at + length (wordsOf x) })
-nth (suc n) at (x ∷ xs) = nth n (at + length (wordsOf x)) xs
-
-unfoldable pub itemAt : List ℕ → ℕ → Outcome Found
-itemAt s n = andThen (verdict s) (λ f. nth n 3 (f .items))
 
 -- as it is answered
 pub record Shown : Type 0 where
   pub item : ItemOf ℕ
   pub next : ℕ
 
-unfoldable pub shownAt : List ℕ → ℕ → Outcome Shown
-shownAt s n = andThen (itemAt s n) (λ r. accepted (record { item = shown (r .item); next = r .next }))
+-- the same with the index of the item's own first word: what the item question finds
+pub record IndexedItem : Type 0 where
+  pub index : ℕ
+  pub item : Item
+  pub next : ℕ
+
+-- as it is answered
+pub record IndexedShown : Type 0 where
+  pub index : ℕ
+  pub item : ItemOf ℕ
+  pub next : ℕ
+
+-- item n of those that begin at word `at`; 13 where there is none
+unfoldable pub nth : ℕ → ℕ → List Item → Outcome IndexedItem
+nth n at [] = refused 13 0
+nth zero at (x ∷ xs) = accepted (record { index = at; item = x; next = at + length (wordsOf x) })
+nth (suc n) at (x ∷ xs) = nth n (at + length (wordsOf x)) xs
+
+unfoldable pub itemAt : List ℕ → ℕ → Outcome IndexedItem
+itemAt s n = andThen (verdict s) (λ f. nth n 3 (f .items))
+
+abbrev pub showing : IndexedItem → IndexedShown
+showing r = record { index = r .index; item = shown (r .item); next = r .next }
+
+unfoldable pub shownAt : List ℕ → ℕ → Outcome IndexedShown
+shownAt s n = andThen (itemAt s n) (λ r. accepted (showing r))
 
 -- "A text's content .. without the final zero"; on any refusal or another class an empty part
 abbrev pub textIn : Item → List ℕ
@@ -64,7 +79,7 @@ textIn (Text s) = s
 textIn (StartEvent t ts n) = []
 textIn (EndEvent n) = []
 
-abbrev pub textFound : Outcome Found → List ℕ
+abbrev pub textFound : Outcome IndexedItem → List ℕ
 textFound (accepted r) = textIn (r .item)
 textFound (refused n p) = []
 
@@ -211,6 +226,67 @@ samplesAt s e chip c room = andThen (verdict s) (λ f. pick (leb 512 room) (chan
 
 unfoldable pub countsAt : List ℕ → ℕ → ℕ → ℕ → Outcome (List Item)
 countsAt s chip c room = andThen (verdict s) (λ f. pick (leb 4096 room) (present (past (isHistogram chip c) (f .items))) (refused 12 0))
+
+-- ---- the words of samples and bins: the index that a correction takes
+
+-- the items behind one, and the word at which they begin
+pub record Behind : Type 0 where
+  pub index : ℕ
+  pub items : List Item
+
+-- those after the first one that passes the test, where the first of all stands at word `at`
+unfoldable pub pastAt : (Item → Bool) → ℕ → List Item → Option Behind
+pastAt f at [] = none
+pastAt f at (x ∷ xs) =
+    pick (f x) (some (record { index = at + length (wordsOf x); items = xs })) (pastAt f (at + length (wordsOf x)) xs)
+
+-- the word of the sample at time t, among the samples that come first: the next one is at time u, and the first item stands at word `at`. A
+-- Sample and a Time bin have one word
+unfoldable pub sampleWord : ℕ → ℕ → ℕ → List Item → Option ℕ
+sampleWord t u at [] = none
+sampleWord t u at (Channel a b c ∷ xs) = none
+sampleWord t u at (Histogram a b c ∷ xs) = none
+sampleWord t u at (HitCount a b c ∷ xs) = none
+sampleWord t u at (Sample v ∷ xs) = pick (eqb u t) (some at) (sampleWord t (suc u) (at + 1) xs)
+sampleWord t u at (Bin b n ∷ xs) = none
+sampleWord t u at (LastCell a b ∷ xs) = none
+sampleWord t u at (TimeBin w ∷ xs) = sampleWord t w (at + 1) xs
+sampleWord t u at (Text s ∷ xs) = none
+sampleWord t u at (StartEvent k ts n ∷ xs) = none
+sampleWord t u at (EndEvent n ∷ xs) = none
+
+-- the first word of bin b, among the bins that come first: a Bin has three words
+unfoldable pub binWord : ℕ → ℕ → List Item → Option ℕ
+binWord b at [] = none
+binWord b at (Channel x y c ∷ xs) = none
+binWord b at (Histogram x y c ∷ xs) = none
+binWord b at (HitCount x y c ∷ xs) = none
+binWord b at (Sample v ∷ xs) = none
+binWord b at (Bin d n ∷ xs) = pick (eqb d b) (some at) (binWord b (at + 3) xs)
+binWord b at (LastCell x y ∷ xs) = none
+binWord b at (TimeBin t ∷ xs) = none
+binWord b at (Text s ∷ xs) = none
+binWord b at (StartEvent k ts n ∷ xs) = none
+binWord b at (EndEvent n ∷ xs) = none
+
+-- the word at which the items of an event begin: its Start event has six words
+unfoldable pub firstInside : Opened → ℕ
+firstInside o = o .event .index + 6
+
+-- the items after the header of a channel in event e, and where they begin
+unfoldable pub channelAt : ℕ → ℕ → ℕ → List Item → Outcome Behind
+channelAt e chip c xs = andThen (present (pickNth e (events 3 xs))) (λ o. present (pastAt (isChannel chip c) (firstInside o) (until endEvent (o .items))))
+
+-- Order: frame refusals, 13
+unfoldable pub sampleWordAt : List ℕ → ℕ → ℕ → ℕ → ℕ → Outcome ℕ
+sampleWordAt s e chip c t =
+    andThen (verdict s) (λ f. andThen (channelAt e chip c (f .items)) (λ h. present (sampleWord t 0 (h .index) (h .items))))
+
+unfoldable pub binWordAt : List ℕ → ℕ → ℕ → ℕ → Outcome ℕ
+binWordAt s chip c b =
+    andThen (verdict s) (λ f. andThen (present (pastAt (isHistogram chip c) 3 (f .items))) (λ h. present (binWord b (h .index) (h .items))))
+
+-- ---- what the samples and counts questions leave
 
 abbrev pub done : {A : Type 0} → Outcome A → Done
 done (accepted a) = accepted tt

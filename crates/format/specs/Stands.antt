@@ -72,6 +72,30 @@ pub record BinIn (ys : List Item) (b n : ℕ) : Type 0 where
   pub items : ys ≡ before ++ (Bin b n ∷ after)
   pub same-histogram : only (bin ∷ []) before ≡ true
 
+-- the items before a Sample of a channel: those before its event, the Start event, those before the header, the header, and those from there on
+abbrev pub beforeSample : {xs ys : List Item} {e chip c t v : ℕ} → ChannelIn xs e chip c ys → SampleIn ys t v → List Item
+beforeSample {chip = chip} {c = c} h k =
+    h .within .before
+    ++ (StartEvent (h .event .kind) (h .event .timestamp) (h .event .number)
+    ∷ (h .left ++ (Channel (h .card) chip c ∷ (k .before ++ (TimeBin (k .time) ∷ k .run)))))
+
+abbrev pub beforeBin : {xs ys : List Item} {chip c b n : ℕ} → HistogramIn xs chip c ys → BinIn ys b n → List Item
+beforeBin {chip = chip} {c = c} h k = h .left ++ (Histogram (h .card) chip c ∷ k .before)
+
+-- a Sample v stands at word w and at time t of a channel in event e
+pub record SampleAt (xs : List Item) (e chip c t w v : ℕ) : Type 0 where
+  pub items : List Item
+  pub channel : ChannelIn xs e chip c items
+  pub sample : SampleIn items t v
+  pub index : w ≡ 3 + length (allWords (beforeSample channel sample))
+
+-- a Bin b of count n stands at word w, in a histogram
+pub record BinAt (xs : List Item) (chip c b w n : ℕ) : Type 0 where
+  pub items : List Item
+  pub histogram : HistogramIn xs chip c items
+  pub bin : BinIn items b n
+  pub index : w ≡ 3 + length (allWords (beforeBin histogram bin))
+
 -- what a question leaves in lent words: of the first n, each holds the value that stands at its place, or is blank where none stands; the
 -- words beyond are as found
 pub record Fill (n blank : ℕ) (Standing : ℕ → ℕ → Type 0) (found left : List ℕ) : Type 0 where

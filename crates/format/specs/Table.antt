@@ -9,7 +9,7 @@ use Rattle.format.specs.Answers.{Outcome, accepted, refused, andThen}
 use Rattle.format.specs.Items.{ItemOf, Channel, Histogram, Sample, Bin, TimeBin, StartEvent, EndEvent}
 use Rattle.format.specs.Rules.{dataKind, monitorKind}
 use Rattle.format.specs.Frames.{Frame, verdict}
-use Rattle.format.specs.Questions.{Shown, shownAt, Event, eventAt, samplesAt, samplesLeft, countsAt, countsLeft}
+use Rattle.format.specs.Questions.{IndexedShown, shownAt, Event, eventAt, samplesAt, samplesLeft, countsAt, countsLeft}
 use Rattle.format.specs.Figures.{empty, pulse, pedestal}
 
 pub data Question : Type 0 where
@@ -28,7 +28,7 @@ pub data Question : Type 0 where
 
 pub data Reply : Type 0 where
   frame : Outcome Frame → Reply
-  showing : Outcome Shown → Reply
+  showing : Outcome IndexedShown → Reply
   told : Outcome Event → Reply
   standing : Outcome (List ℕ) → Reply
   followed : List follower.Answer → Reply
@@ -55,9 +55,9 @@ pub record Row : Type 0 where
 abbrev pub row : Question → Reply → Row
 row q a = record { asked = q; answer = a }
 
--- an item as it is answered, and the index of the next
-abbrev pub at : ItemOf ℕ → ℕ → Reply
-at x next = showing (accepted (record { item = x; next = next }))
+-- an item as it is answered, between its own index and that of the next
+abbrev pub at : ℕ → ItemOf ℕ → ℕ → Reply
+at index x next = showing (accepted (record { index = index; item = x; next = next }))
 
 -- each row under its case's words
 abbrev pub table : List Row
@@ -76,12 +76,12 @@ table =
       sequence = 0x0100;
       items = StartEvent 1 1000 7 ∷ Channel 5 2 10 ∷ TimeBin 3 ∷ Sample 250 ∷ Sample 251 ∷ EndEvent 26 ∷ [];
     })))
-    ∷ row (ordinal (pulse 0x0E03 0x001A) 0) (at (StartEvent 1 1000 7) 9)
-    ∷ row (ordinal (pulse 0x0E03 0x001A) 1) (at (Channel 5 2 10) 10)
-    ∷ row (ordinal (pulse 0x0E03 0x001A) 2) (at (TimeBin 3) 11)
-    ∷ row (ordinal (pulse 0x0E03 0x001A) 3) (at (Sample 250) 12)
-    ∷ row (ordinal (pulse 0x0E03 0x001A) 4) (at (Sample 251) 13)
-    ∷ row (ordinal (pulse 0x0E03 0x001A) 5) (at (EndEvent 26) 16)
+    ∷ row (ordinal (pulse 0x0E03 0x001A) 0) (at 3 (StartEvent 1 1000 7) 9)
+    ∷ row (ordinal (pulse 0x0E03 0x001A) 1) (at 9 (Channel 5 2 10) 10)
+    ∷ row (ordinal (pulse 0x0E03 0x001A) 2) (at 10 (TimeBin 3) 11)
+    ∷ row (ordinal (pulse 0x0E03 0x001A) 3) (at 11 (Sample 250) 12)
+    ∷ row (ordinal (pulse 0x0E03 0x001A) 4) (at 12 (Sample 251) 13)
+    ∷ row (ordinal (pulse 0x0E03 0x001A) 5) (at 13 (EndEvent 26) 16)
     ∷ row (ordinal (pulse 0x0E03 0x001A) 6) (showing (refused 13 0))
     ∷ row (event (pulse 0x0E03 0x001A) 0) (told (accepted (record { kind = 1; timestamp = 1000; number = 7; size = 26; index = 3 })))
     ∷ row (event (pulse 0x0E03 0x001A) 1) (told (refused 13 0))
@@ -94,8 +94,8 @@ table =
     -- 7. "chip 0, channel 78, bin 256, count 70,000"
     ∷ row (reading (pedestal 0x8A4E 0x1170 0x0001))
     (frame (accepted (record { kind = monitorKind; card = 5; sequence = 0; items = Histogram 5 0 78 ∷ Bin 256 70000 ∷ [] })))
-    ∷ row (ordinal (pedestal 0x8A4E 0x1170 0x0001) 0) (at (Histogram 5 0 78) 4)
-    ∷ row (ordinal (pedestal 0x8A4E 0x1170 0x0001) 1) (at (Bin 256 70000) 7)
+    ∷ row (ordinal (pedestal 0x8A4E 0x1170 0x0001) 0) (at 3 (Histogram 5 0 78) 4)
+    ∷ row (ordinal (pedestal 0x8A4E 0x1170 0x0001) 1) (at 4 (Bin 256 70000) 7)
     ∷ row (counts (pedestal 0x8A4E 0x1170 0x0001) 0 78 (255 ∷ 256 ∷ 257 ∷ [])) (standing (accepted (0 ∷ 70000 ∷ 0 ∷ [])))
     -- 8. "9 at 3", 9. "9 at 4"
     ∷ row (reading (pedestal 0x8A4F 0x1170 0x0001)) (frame (refused 9 3))

@@ -6,8 +6,8 @@ use native.Mathlib.Omega.{arith}
 use Rattle.format.specs.Answers.{accepted, refused}
 use Rattle.format.specs.Steps as steps
 use Rattle.format.specs.Steps.{Summary, Overview}
-use Rattle.book.proofs.Unique.{undone, same-refusal}
-use Rattle.cursor.proofs.Unique.{same-found-item}
+use Rattle.format.specs.Questions.{IndexedShown}
+use Rattle.book.proofs.Unique.{undone, same-item, same-refusal}
 use Rattle.rules.proofs.Unique.{kindBack, kind-back, stateBack, state-back}
 use Rattle.frame.specs.declared.walk.Summary as declared
 use Rattle.frame.specs.declared.walk.Walked.{Walked}
@@ -17,9 +17,10 @@ use Rattle.frame.specs.declared.reading.Reading.{Reading}
 use Rattle.frame.specs.declared.reading.Reading.the-variants as reading
 use Rattle.frame.specs.declared.reading.Indexed.{Indexed}
 use Rattle.frame.specs.declared.reading.Indexed.the-variants as indexed
+use Rattle.frame.specs.declared.items.IndexedItem.{IndexedItem}
 use Rattle.frame.specs.declared.items.Found.{Found}
 use Rattle.frame.specs.declared.items.Found.the-variants as found
-use Rattle.frame.specs.Views.{viewSummary, viewWalk, viewFrame, viewReading, viewIndexed, viewFound}
+use Rattle.frame.specs.Views.{viewSummary, viewWalk, viewFrame, viewReading, viewIndexed, viewIndexedItem, viewFound}
 
 abbrev frameBack : Overview → Frame
 frameBack f = record { kind = kindBack (f .kind); card = f .card; sequence = f .sequence; items = f .items; state = stateBack (f .state) }
@@ -64,8 +65,15 @@ same-walk (walk.Ended x) (walk.Refused n) e = neither _ _ _ e
 same-walk (walk.Refused n) (walk.Ended x) e = neither _ _ _ (sym e)
 same-walk (walk.Refused n) (walk.Refused m) e = ap walk.Refused (same-refusal n m e)
 
+same-indexed-item : (r q : IndexedItem) → viewIndexedItem r ≡ viewIndexedItem q → r ≡ q
+same-indexed-item r q e =
+    let a : r .index ≡ q .index = ap (λ (x : IndexedShown). x .index) e in
+    let b = same-item (r .item) (q .item) (ap (λ (x : IndexedShown). x .item) e) in
+    let c : r .next ≡ q .next = ap (λ (x : IndexedShown). x .next) e in
+    λ i. record { index = a i; item = b i; next = c i }
+
 pub same-found : (r q : Found) → viewFound r ≡ viewFound q → r ≡ q
-same-found (found.Item x) (found.Item y) e = ap found.Item (same-found-item x y (inner _ _ e))
+same-found (found.Item x) (found.Item y) e = ap found.Item (same-indexed-item x y (inner _ _ e))
 same-found (found.Item x) (found.Refused n) e = neither _ _ _ e
 same-found (found.Refused n) (found.Item x) e = neither _ _ _ (sym e)
 same-found (found.Refused n) (found.Refused m) e = ap found.Refused (same-refusal n m e)

@@ -5,7 +5,7 @@ use mathlib.Core.List.{List}
 use lib.ListN.{length}
 use Rattle.format.specs.Answers.{Outcome, accepted, refused}
 use Rattle.format.specs.Items.{ItemOf, Item, Channel, Histogram, HitCount, Sample, Bin, LastCell, TimeBin, Text, StartEvent, EndEvent, wordsOf}
-use Rattle.format.specs.Questions.{Found, itemAt}
+use Rattle.format.specs.Questions.{IndexedItem, itemAt}
 
 -- the n of a text as it is answered, 0 for another class
 abbrev pub textCount : ItemOf ℕ → ℕ
@@ -33,7 +33,7 @@ fromIn (Text s) next = 2 * (next - length (wordsOf (Text s))) + 2
 fromIn (StartEvent t ts n) next = 0
 fromIn (EndEvent n) next = 0
 
-abbrev pub fromFound : Outcome Found → ℕ
+abbrev pub fromFound : Outcome IndexedItem → ℕ
 fromFound (accepted r) = fromIn (r .item) (r .next)
 fromFound (refused n p) = 0
 

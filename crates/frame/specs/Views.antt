@@ -7,9 +7,8 @@ use Rattle.format.specs.Rules as rules
 use Rattle.format.specs.Answers.{Outcome, accepted, refused}
 use Rattle.format.specs.Steps as steps
 use Rattle.format.specs.Steps.{endedBy, Summary, Overview}
-use Rattle.format.specs.Questions.{Shown}
-use Rattle.book.specs.Views.{refusal}
-use Rattle.cursor.specs.Views.{viewFoundItem}
+use Rattle.format.specs.Questions.{IndexedShown}
+use Rattle.book.specs.Views.{viewItem, refusal}
 use Rattle.rules.specs.Views.{viewKind, viewState}
 use Rattle.frame.specs.declared.walk.Summary as declared
 use Rattle.frame.specs.declared.walk.Walked.{Walked}
@@ -19,6 +18,7 @@ use Rattle.frame.specs.declared.reading.Reading.{Reading}
 use Rattle.frame.specs.declared.reading.Reading.the-variants as reading
 use Rattle.frame.specs.declared.reading.Indexed.{Indexed}
 use Rattle.frame.specs.declared.reading.Indexed.the-variants as indexed
+use Rattle.frame.specs.declared.items.IndexedItem.{IndexedItem}
 use Rattle.frame.specs.declared.items.Found.{Found}
 use Rattle.frame.specs.declared.items.Found.the-variants as found
 
@@ -40,8 +40,11 @@ abbrev pub viewIndexed : Indexed → Outcome steps.Indexed
 viewIndexed (indexed.Accepted f i) = accepted (record { frame = viewFrame f; index = i })
 viewIndexed (indexed.Refused r) = refusal r
 
-abbrev pub viewFound : Found → Outcome Shown
-viewFound (found.Item x) = accepted (viewFoundItem x)
+abbrev pub viewIndexedItem : IndexedItem → IndexedShown
+viewIndexedItem x = record { index = x .index; item = viewItem (x .item); next = x .next }
+
+abbrev pub viewFound : Found → Outcome IndexedShown
+viewFound (found.Item x) = accepted (viewIndexedItem x)
 viewFound (found.Refused r) = refusal r
 
 -- what is answered where the items of a frame were walked through

@@ -7,17 +7,23 @@ use crate::reading::Indexed;
 use crate::reading::judge;
 use book::items::Item;
 use book::refusal::Refusal;
-use cursor::standing::FoundItem;
 use cursor::standing::Standing;
 use cursor::standing::item_at;
 
+// An item, the index of its own first word, and that of the next item, or of the end word.
+pub struct IndexedItem {
+    pub index: usize,
+    pub item: Item,
+    pub next: usize,
+}
+
 pub enum Found {
-    Item(FoundItem),
+    Item(IndexedItem),
     Refused(Refusal),
 }
 
-// Item n of a frame, from 0, and the index of the next item or of the end word. Refuses as `read` does, then 13 where there is no such item: the
-// walk then noted word 0, where none stands.
+// Item n of a frame, from 0, its own word index, and that of the next item or of the end word. Refuses as `read` does, then 13 where there is no
+// such item: the walk then noted word 0, where none stands.
 pub fn item(s: &[u8], n: usize) -> Found
     ensures { λ r. ⌜ ItemAnswered (now (s .entry)) n r ⌝ }
 {
@@ -27,7 +33,14 @@ pub fn item(s: &[u8], n: usize) -> Found
         Indexed::Accepted(_, at) => {
             let standing = item_at(s, at);
             match standing {
-                Standing::Item(x) => Found::Item(x),
+                Standing::Item(x) => {
+                    let item = x.item;
+                    Found::Item(IndexedItem {
+                        index: at,
+                        item,
+                        next: x.next,
+                    })
+                }
                 Standing::Nothing => Found::Refused(Refusal {
                     number: Refusal::ABSENT,
                     place: 0,

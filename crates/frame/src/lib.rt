@@ -16,6 +16,7 @@ pub use cursor::standing::FoundItem;
 pub use cursor::standing::Standing;
 pub use cursor::standing::item_at;
 pub use items::Found;
+pub use items::IndexedItem;
 pub use items::item;
 pub use items::text;
 pub use reading::Frame;

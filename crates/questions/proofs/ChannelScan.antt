@@ -9,25 +9,25 @@ use native.Mathlib.Omega.{arith}
 use lib.Dec.{leb, ltb, eqb, lit<}
 use borrow.Author.Tests.{leb-true, ltb-true}
 use Rattle.format.specs.Words.{wordAt}
-use Rattle.format.specs.Book.{channel, endEvent}
+use Rattle.format.specs.Book.{channel, histogram, endEvent}
 use Rattle.format.specs.Items.{ItemOf, Item, Channel, Histogram, HitCount, Sample, Bin, LastCell, TimeBin, Text, StartEvent, EndEvent, classFor}
-use Rattle.format.specs.Rules.{dataKind, same}
+use Rattle.format.specs.Rules.{dataKind, same, place}
 use Rattle.format.specs.Frames.{earlierThen, lastOf}
-use Rattle.format.specs.Cursor.{standingAt, shownBy, unshown, itemsFrom, On}
-use Rattle.format.specs.Questions.{shown, until, past, isChannel}
+use Rattle.format.specs.Cursor.{standingAt, shownBy, itemsFrom, On}
+use Rattle.format.specs.Questions.{shown, until, pastAt, isChannel}
 use Rattle.format.proofs.book.PrefixLaws.{and-left, and-right}
 use Rattle.format.proofs.items.WordLaws.{word-below}
 use Rattle.format.proofs.book.BookLaws.{ranged, in-range}
 use Rattle.format.proofs.reader.CursorLaws.{Turn, channel-turn, answered, run-out}
 use Rattle.book.specs.Fields.{channelOf}
 use Rattle.book.specs.declared.items.Channel as ch
-use Rattle.questions.specs.Sought.{Amid, endsEvent, ChannelAt}
+use Rattle.questions.specs.Sought.{Amid, endsEvent, isHeader, ChannelAt}
 use Rattle.questions.proofs.PastLaws.{past-hit, past-miss, until-other, until-end}
-use Rattle.questions.proofs.Turns.{ends-shown, amid-next, one-turn}
+use Rattle.questions.proofs.Turns.{ends-shown, never-in-data, amid-next, placed, one-turn}
 
 pub record Seeking (s : List ℕ) (from chip c at : ℕ) : Type 0 where
   pub amid : Amid s dataKind at
-  pub still : past (isChannel chip c) (until endEvent (itemsFrom s at)) ≡ past (isChannel chip c) (until endEvent (itemsFrom s from))
+  pub still : pastAt (isChannel chip c) at (until endEvent (itemsFrom s at)) ≡ pastAt (isChannel chip c) from (until endEvent (itemsFrom s from))
 
 pub seeking-start : (s : List ℕ) (from chip c : ℕ) → Amid s dataKind from → Seeking s from chip c from
 seeking-start s from chip c a = record { amid = a; still = refl }
@@ -64,39 +64,39 @@ module _ (chip c : ℕ) where
   header-of (StartEvent t ts n) e = absurd (true≢false (sym e))
   header-of (EndEvent n) e = absurd (true≢false (sym e))
 
-  -- and the answer tells whether it does
-  as-shown : (x : Item) → isChannel chip c x ≡ isChannel chip c (unshown (shown x))
-  as-shown (Channel a b d) = refl
-  as-shown (Histogram a b d) = refl
-  as-shown (HitCount a b d) = refl
-  as-shown (Sample v) = refl
-  as-shown (Bin b n) = refl
-  as-shown (LastCell a b) = refl
-  as-shown (TimeBin t) = refl
-  as-shown (Text s) = refl
-  as-shown (StartEvent t ts n) = refl
-  as-shown (EndEvent n) = refl
+  -- and the answer tells whether it does: it shows no Histogram
+  as-shown : (x : Item) → (histogram ≡ classFor x → ⊥) → isChannel chip c x ≡ isHeader chip c (shown x)
+  as-shown (Channel a b d) f = refl
+  as-shown (Histogram a b d) f = absurd (f refl)
+  as-shown (HitCount a b d) f = refl
+  as-shown (Sample v) f = refl
+  as-shown (Bin b n) f = refl
+  as-shown (LastCell a b) f = refl
+  as-shown (TimeBin t) f = refl
+  as-shown (Text s) f = refl
+  as-shown (StartEvent t ts n) f = refl
+  as-shown (EndEvent n) f = refl
 
 module _ (s : List ℕ) (from chip c at : ℕ) (k : Seeking s from chip c at) where
   abbrev g : On s at
   g = k .amid .on
 
   here : (x : Item) (n : ℕ) → Turn s at g x n → same endEvent (classFor x) ≡ false
-      → past (isChannel chip c) (until endEvent (itemsFrom s from)) ≡ past (isChannel chip c) (x ∷ until endEvent (itemsFrom s n))
+      → pastAt (isChannel chip c) from (until endEvent (itemsFrom s from)) ≡ pastAt (isChannel chip c) at (x ∷ until endEvent (itemsFrom s n))
   here x n t e =
-      sym (k .still) ∙ ap (λ (xs : List Item). past (isChannel chip c) (until endEvent xs)) (t .split) ∙ ap (past (isChannel chip c)) (until-other x (itemsFrom s n) e)
+      sym (k .still) ∙ ap (λ (xs : List Item). pastAt (isChannel chip c) at (until endEvent xs)) (t .split) ∙ ap (pastAt (isChannel chip c) at) (until-other x (itemsFrom s n) e)
 
   past-item : (x : Item) (n : ℕ) → Turn s at g x n → same endEvent (classFor x) ≡ false → isChannel chip c x ≡ false → Seeking s from chip c n
   past-item x n t e f = record {
     amid = amid-next s dataKind at (k .amid) x n t;
-    still = sym (here x n t e ∙ past-miss (isChannel chip c) x _ f);
+    still = sym (here x n t e ∙ past-miss (isChannel chip c) at n x _ (t .wide) f);
   }
 
   hit-item : (x : Item) (n : ℕ) → Turn s at g x n → same endEvent (classFor x) ≡ false → isChannel chip c x ≡ true → ChannelAt s from chip c n
   hit-item x n t e f =
       let h = header-of chip c x f in
       record {
-        passed = here x n t e ∙ past-hit (isChannel chip c) x _ f;
+        passed = here x n t e ∙ past-hit (isChannel chip c) at n x _ (t .wide) f;
         headed = record {
           on = t .next;
           card = h .card;
@@ -106,6 +106,11 @@ module _ (s : List ℕ) (from chip c at : ℕ) (k : Seeking s from chip c at) wh
           header = t .latest ∙ ap (λ (y : Item). y ∷ earlierThen [] (g .before)) (h .is);
         };
       }
+
+  none-in-data : (x : Item) (n : ℕ) → Turn s at g x n → histogram ≡ classFor x → ⊥
+  none-in-data x n t e =
+      never-in-data histogram refl refl refl refl refl (earlierThen [] (g .before))
+      (ap (place dataKind (earlierThen [] (g .before))) e ∙ placed s dataKind at (k .amid) x n t)
 
   -- ---- a word that tells it
 
@@ -134,25 +139,23 @@ module _ (s : List ℕ) (from chip c at : ℕ) (k : Seeking s from chip c at) wh
   -- ---- an item that the cursor answers
 
   module _ (z : ItemOf ℕ) (n : ℕ) (r : some (record { item = z; next = n }) ≡ shownBy (standingAt s at)) where
-    pub seeking-end : endsEvent z ≡ true → past (isChannel chip c) (until endEvent (itemsFrom s from)) ≡ none
-    unfolding past
+    pub seeking-end : endsEvent z ≡ true → pastAt (isChannel chip c) from (until endEvent (itemsFrom s from)) ≡ none
+    unfolding pastAt
     seeking-end f =
         let (x, i, t) = answered s at g z n (sym r) in
-        sym (k .still) ∙ ap (λ (xs : List Item). past (isChannel chip c) (until endEvent xs)) (t .split) ∙ ap (past (isChannel chip c)) (until-end x _ (ends-shown x z i ∙ f))
+        sym (k .still) ∙ ap (λ (xs : List Item). pastAt (isChannel chip c) at (until endEvent xs)) (t .split) ∙ ap (pastAt (isChannel chip c) at) (until-end x _ (ends-shown x z i ∙ f))
 
     module _ (f : endsEvent z ≡ false) where
-      pub seeking-next : isChannel chip c (unshown z) ≡ false → Seeking s from chip c n
+      pub seeking-next : isHeader chip c z ≡ false → Seeking s from chip c n
       seeking-next e =
           let (x, i, t) = answered s at g z n (sym r) in
-          past-item x n t (ends-shown x z i ∙ f)
-          (as-shown chip c x ∙ ap (λ (y : ItemOf ℕ). isChannel chip c (unshown y)) i ∙ e)
+          past-item x n t (ends-shown x z i ∙ f) (as-shown chip c x (none-in-data x n t) ∙ ap (isHeader chip c) i ∙ e)
 
-      pub seeking-found : isChannel chip c (unshown z) ≡ true → ChannelAt s from chip c n
+      pub seeking-found : isHeader chip c z ≡ true → ChannelAt s from chip c n
       seeking-found e =
           let (x, i, t) = answered s at g z n (sym r) in
-          hit-item x n t (ends-shown x z i ∙ f)
-          (as-shown chip c x ∙ ap (λ (y : ItemOf ℕ). isChannel chip c (unshown y)) i ∙ e)
+          hit-item x n t (ends-shown x z i ∙ f) (as-shown chip c x (none-in-data x n t) ∙ ap (isHeader chip c) i ∙ e)
 
-  pub seeking-none : lastOf s ≤ at → past (isChannel chip c) (until endEvent (itemsFrom s from)) ≡ none
-  unfolding past until
-  seeking-none l = sym (k .still) ∙ ap (λ (xs : List Item). past (isChannel chip c) (until endEvent xs)) (run-out s at g l .0)
+  pub seeking-none : lastOf s ≤ at → pastAt (isChannel chip c) from (until endEvent (itemsFrom s from)) ≡ none
+  unfolding pastAt until
+  seeking-none l = sym (k .still) ∙ ap (λ (xs : List Item). pastAt (isChannel chip c) at (until endEvent xs)) (run-out s at g l .0)

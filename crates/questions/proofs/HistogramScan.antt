@@ -2,57 +2,63 @@
 -- Assumes nothing.
 use Prim.Native.Nat.{ℕ, _+_, _/_, _%_, _<_, _≤_}
 use mathlib.Core.Path.{_≡_, refl, sym, ap, _∙_}
-use mathlib.Core.List.{List, _∷_}
-use mathlib.Core.Bool.{Bool, true, false, _&&_}
+use mathlib.Core.List.{List, [], _∷_}
+use mathlib.Core.Bool.{Bool, true, false, _&&_, true≢false}
 use mathlib.Core.Option.{none, some}
 use lib.Dec.{leb, ltb, eqb}
 use borrow.Author.Tests.{ltb-true}
 use Rattle.format.specs.Words.{wordAt}
-use Rattle.format.specs.Items.{ItemOf, Item, Channel, Histogram, HitCount, Sample, Bin, LastCell, TimeBin, Text, StartEvent, EndEvent}
-use Rattle.format.specs.Rules.{monitorKind}
-use Rattle.format.specs.Frames.{lastOf}
-use Rattle.format.specs.Cursor.{standingAt, shownBy, unshown, itemsFrom, On}
-use Rattle.format.specs.Questions.{shown, past, isHistogram}
+use Rattle.format.specs.Book.{channel}
+use Rattle.format.specs.Items.{ItemOf, Item, Channel, Histogram, HitCount, Sample, Bin, LastCell, TimeBin, Text, StartEvent, EndEvent, classFor}
+use Rattle.format.specs.Rules.{monitorKind, place}
+use Rattle.format.specs.Frames.{earlierThen, lastOf}
+use Rattle.format.specs.Cursor.{standingAt, shownBy, itemsFrom, On}
+use Rattle.format.specs.Questions.{shown, pastAt, isHistogram}
 use Rattle.format.proofs.book.PrefixLaws.{and-right}
+use Rattle.format.proofs.rules.SoundLaws.{monitor-place}
 use Rattle.format.proofs.reader.CursorLaws.{Turn, histogram-turn, bin-turn, answered, run-out}
 use Rattle.book.specs.Fields.{histogramOf}
 use Rattle.book.specs.declared.items.Histogram as hi
-use Rattle.questions.specs.Sought.{Amid, HistogramAt}
+use Rattle.questions.specs.Sought.{Amid, isHeader, HistogramAt}
 use Rattle.questions.proofs.PastLaws.{past-hit, past-miss}
-use Rattle.questions.proofs.Turns.{amid-next, header-word, bin-word}
+use Rattle.questions.proofs.Turns.{amid-next, placed, header-word, bin-word}
 
 pub record Seeking (s : List ℕ) (chip c at : ℕ) : Type 0 where
   pub amid : Amid s monitorKind at
-  pub still : past (isHistogram chip c) (itemsFrom s at) ≡ past (isHistogram chip c) (itemsFrom s 3)
+  pub still : pastAt (isHistogram chip c) at (itemsFrom s at) ≡ pastAt (isHistogram chip c) 3 (itemsFrom s 3)
 
 pub seeking-start : (s : List ℕ) (chip c : ℕ) → Amid s monitorKind 3 → Seeking s chip c 3
 seeking-start s chip c a = record { amid = a; still = refl }
 
--- the answer tells whether the item passes the test
-as-shown : (chip c : ℕ) (x : Item) → isHistogram chip c x ≡ isHistogram chip c (unshown (shown x))
-as-shown chip c (Channel a b d) = refl
-as-shown chip c (Histogram a b d) = refl
-as-shown chip c (HitCount a b d) = refl
-as-shown chip c (Sample v) = refl
-as-shown chip c (Bin b n) = refl
-as-shown chip c (LastCell a b) = refl
-as-shown chip c (TimeBin t) = refl
-as-shown chip c (Text s) = refl
-as-shown chip c (StartEvent t ts n) = refl
-as-shown chip c (EndEvent n) = refl
+-- the answer tells whether the item passes the test: it shows no Channel
+as-shown : (chip c : ℕ) (x : Item) → (channel ≡ classFor x → ⊥) → isHistogram chip c x ≡ isHeader chip c (shown x)
+as-shown chip c (Channel a b d) f = absurd (f refl)
+as-shown chip c (Histogram a b d) f = refl
+as-shown chip c (HitCount a b d) f = refl
+as-shown chip c (Sample v) f = refl
+as-shown chip c (Bin b n) f = refl
+as-shown chip c (LastCell a b) f = refl
+as-shown chip c (TimeBin t) f = refl
+as-shown chip c (Text s) f = refl
+as-shown chip c (StartEvent t ts n) f = refl
+as-shown chip c (EndEvent n) f = refl
 
 module _ (s : List ℕ) (chip c at : ℕ) (k : Seeking s chip c at) where
   abbrev g : On s at
   g = k .amid .on
 
-  here : (x : Item) (n : ℕ) → Turn s at g x n → past (isHistogram chip c) (itemsFrom s 3) ≡ past (isHistogram chip c) (x ∷ itemsFrom s n)
-  here x n t = sym (k .still) ∙ ap (past (isHistogram chip c)) (t .split)
+  here : (x : Item) (n : ℕ) → Turn s at g x n → pastAt (isHistogram chip c) 3 (itemsFrom s 3) ≡ pastAt (isHistogram chip c) at (x ∷ itemsFrom s n)
+  here x n t = sym (k .still) ∙ ap (pastAt (isHistogram chip c) at) (t .split)
 
   past-item : (x : Item) (n : ℕ) → Turn s at g x n → isHistogram chip c x ≡ false → Seeking s chip c n
-  past-item x n t f = record { amid = amid-next s monitorKind at (k .amid) x n t; still = sym (here x n t ∙ past-miss (isHistogram chip c) x _ f) }
+  past-item x n t f = record { amid = amid-next s monitorKind at (k .amid) x n t; still = sym (here x n t ∙ past-miss (isHistogram chip c) at n x _ (t .wide) f) }
 
   hit-item : (x : Item) (n : ℕ) → Turn s at g x n → isHistogram chip c x ≡ true → HistogramAt s chip c n
-  hit-item x n t f = record { passed = here x n t ∙ past-hit (isHistogram chip c) x _ f; on = t .next }
+  hit-item x n t f = record { passed = here x n t ∙ past-hit (isHistogram chip c) at n x _ (t .wide) f; on = t .next }
+
+  none-in-monitor : (x : Item) (n : ℕ) → Turn s at g x n → channel ≡ classFor x → ⊥
+  none-in-monitor x n t e =
+      true≢false (sym (monitor-place (earlierThen [] (g .before)) channel (ap (place monitorKind (earlierThen [] (g .before))) e ∙ placed s monitorKind at (k .amid) x n t)))
 
   -- ---- a word that tells it
 
@@ -77,16 +83,16 @@ module _ (s : List ℕ) (chip c at : ℕ) (k : Seeking s chip c at) where
   -- ---- an item that the cursor answers
 
   module _ (z : ItemOf ℕ) (n : ℕ) (r : some (record { item = z; next = n }) ≡ shownBy (standingAt s at)) where
-    pub seeking-next : isHistogram chip c (unshown z) ≡ false → Seeking s chip c n
+    pub seeking-next : isHeader chip c z ≡ false → Seeking s chip c n
     seeking-next e =
         let (x, i, t) = answered s at g z n (sym r) in
-        past-item x n t (as-shown chip c x ∙ ap (λ (y : ItemOf ℕ). isHistogram chip c (unshown y)) i ∙ e)
+        past-item x n t (as-shown chip c x (none-in-monitor x n t) ∙ ap (isHeader chip c) i ∙ e)
 
-    pub seeking-found : isHistogram chip c (unshown z) ≡ true → HistogramAt s chip c n
+    pub seeking-found : isHeader chip c z ≡ true → HistogramAt s chip c n
     seeking-found e =
         let (x, i, t) = answered s at g z n (sym r) in
-        hit-item x n t (as-shown chip c x ∙ ap (λ (y : ItemOf ℕ). isHistogram chip c (unshown y)) i ∙ e)
+        hit-item x n t (as-shown chip c x (none-in-monitor x n t) ∙ ap (isHeader chip c) i ∙ e)
 
-  pub seeking-none : lastOf s ≤ at → past (isHistogram chip c) (itemsFrom s 3) ≡ none
-  unfolding past
-  seeking-none l = sym (k .still) ∙ ap (past (isHistogram chip c)) (run-out s at g l .0)
+  pub seeking-none : lastOf s ≤ at → pastAt (isHistogram chip c) 3 (itemsFrom s 3) ≡ none
+  unfolding pastAt
+  seeking-none l = sym (k .still) ∙ ap (pastAt (isHistogram chip c) at) (run-out s at g l .0)

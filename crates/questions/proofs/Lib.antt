@@ -10,5 +10,7 @@ pub mod SampleFill
 pub mod CountFill
 pub mod CountsAnswers
 pub mod SamplesAnswers
+pub mod WordScan
+pub mod WordAnswers
 pub mod Unique
 pub mod LentWords

@@ -1,27 +1,29 @@
 -- The items after a header, and the headers that no item of a frame has.
 -- Assumes nothing.
-use Prim.Native.Nat.{ℕ}
+use Prim.Native.Nat.{ℕ, _+_}
 use mathlib.Core.Path.{_≡_, refl, sym, _∙_}
 use mathlib.Core.List.{List, [], _∷_}
 use mathlib.Core.Bool.{Bool, true, false, true≢false}
 use mathlib.Core.Option.{none, some}
+use lib.ListN.{length}
 use Rattle.format.specs.Book.{histogram, endEvent}
-use Rattle.format.specs.Items.{Item, Channel, Histogram, HitCount, Sample, Bin, LastCell, TimeBin, Text, StartEvent, EndEvent, classFor}
+use Rattle.format.specs.Items.{Item, Channel, Histogram, HitCount, Sample, Bin, LastCell, TimeBin, Text, StartEvent, EndEvent, classFor, wordsOf}
 use Rattle.format.specs.Rules.{Kind, dataKind, monitorKind, commandKind, same, place}
 use Rattle.format.specs.Frames.{Allowed, Sound}
-use Rattle.format.specs.Questions.{until, past, isHistogram}
+use Rattle.format.specs.Questions.{until, pastAt, isHistogram}
 use Rattle.format.proofs.rules.SoundLaws.{sound-head, sound-tail}
 use Rattle.questions.proofs.Turns.{never-in-data}
 
 -- ---- one item further
 
-pub past-hit : (f : Item → Bool) (x : Item) (xs : List Item) → f x ≡ true → past f (x ∷ xs) ≡ some xs
-unfolding past
-past-hit f x xs e = rw e
+-- the next one begins at word n
+pub past-hit : (f : Item → Bool) (at n : ℕ) (x : Item) (xs : List Item) → n ≡ at + length (wordsOf x) → f x ≡ true → pastAt f at (x ∷ xs) ≡ some (record { index = n; items = xs })
+unfolding pastAt
+past-hit f at n x xs k e = rw (e, k)
 
-pub past-miss : (f : Item → Bool) (x : Item) (xs : List Item) → f x ≡ false → past f (x ∷ xs) ≡ past f xs
-unfolding past
-past-miss f x xs e = rw e
+pub past-miss : (f : Item → Bool) (at n : ℕ) (x : Item) (xs : List Item) → n ≡ at + length (wordsOf x) → f x ≡ false → pastAt f at (x ∷ xs) ≡ pastAt f n xs
+unfolding pastAt
+past-miss f at n x xs k e = rw (e, k)
 
 pub until-other : (x : Item) (xs : List Item) → same endEvent (classFor x) ≡ false → until endEvent (x ∷ xs) ≡ x ∷ until endEvent xs
 unfolding until
@@ -34,10 +36,11 @@ until-end x xs e = rw e
 -- ---- where no item passes the test
 
 module _ (f : Item → Bool) (kind : Kind) (card : ℕ) (never : (p : List Item) (x : Item) → Allowed kind card p x → f x ≡ false) where
-  pub none-past : (p xs : List Item) → Sound kind card p xs → past f xs ≡ none
-  unfolding past
-  none-past p [] h = refl
-  none-past p (x ∷ xs) h = past-miss f x xs (never p x (sound-head kind card p x xs h)) ∙ none-past (x ∷ p) xs (sound-tail kind card p x xs h)
+  pub none-past : (at : ℕ) (p xs : List Item) → Sound kind card p xs → pastAt f at xs ≡ none
+  unfolding pastAt
+  none-past at p [] h = refl
+  none-past at p (x ∷ xs) h =
+      past-miss f at _ x xs refl (never p x (sound-head kind card p x xs h)) ∙ none-past (at + length (wordsOf x)) (x ∷ p) xs (sound-tail kind card p x xs h)
 
 -- ---- a class that has no place
 

@@ -11,8 +11,9 @@ use Rattle.format.specs.Book.{endEvent}
 use Rattle.format.specs.Items.{Item, Channel, Histogram, HitCount, Sample, Bin, LastCell, TimeBin, Text, StartEvent, EndEvent}
 use Rattle.format.specs.Rules.{Kind}
 use Rattle.format.specs.Frames.{verdict}
-use Rattle.format.specs.Questions.{Opened, events, pickNth, present, until, past, isChannel, done, cleared, fillSamples, channelIn, samplesAt, samplesLeft, Sampled}
+use Rattle.format.specs.Questions.{Behind, Opened, events, pickNth, present, until, pastAt, firstInside, isChannel, channelAt, done, cleared, fillSamples, channelIn, samplesAt, samplesLeft, Sampled}
 use Rattle.format.proofs.questions.FillQuestions.{samples-of, samples-room, samples-refused}
+use Rattle.format.proofs.questions.WordFinds.{channel-items}
 use Rattle.format.specs.Cursor.{itemsFrom}
 use Rattle.questions.specs.Sought.{EventAt, ChannelFound, ChannelSought, SamplesSought, Filling}
 use Rattle.questions.specs.declared.answers.Place.{Place}
@@ -21,15 +22,15 @@ use Rattle.questions.proofs.Reading.{Accepted, items-first}
 
 -- ---- no such channel
 
-abbrev behind-header : (chip c : ℕ) → Option Opened → Outcome (List Item)
-behind-header chip c o = andThen (present o) (λ o. present (past (isChannel chip c) (until endEvent (o .items))))
+abbrev behind-header : (chip c : ℕ) → Option Opened → Outcome Behind
+behind-header chip c o = andThen (present o) (λ o. present (pastAt (isChannel chip c) (firstInside o) (until endEvent (o .items))))
 
-pub no-event : (s : List ℕ) (e chip c : ℕ) → pickNth e (events 3 (itemsFrom s 3)) ≡ none → channelIn e chip c (itemsFrom s 3) ≡ refused 13 0
-unfolding channelIn
+pub no-event : (s : List ℕ) (e chip c : ℕ) → pickNth e (events 3 (itemsFrom s 3)) ≡ none → channelAt e chip c (itemsFrom s 3) ≡ refused 13 0
+unfolding channelAt
 no-event s e chip c h = ap (behind-header chip c) h
 
-in-event : (s : List ℕ) (e chip c q : ℕ) → EventAt s e q → channelIn e chip c (itemsFrom s 3) ≡ present (past (isChannel chip c) (until endEvent (itemsFrom s (q + 6))))
-unfolding channelIn
+in-event : (s : List ℕ) (e chip c q : ℕ) → EventAt s e q → channelAt e chip c (itemsFrom s 3) ≡ present (pastAt (isChannel chip c) (q + 6) (until endEvent (itemsFrom s (q + 6))))
+unfolding channelAt firstInside
 in-event s e chip c q h = ap (behind-header chip c) (h .picked)
 
 -- what the search in the event finds
@@ -38,6 +39,10 @@ sought s e chip c q h (place.At p) f = record { found = in-event s e chip c q h 
 sought s e chip c q h place.Nothing f = in-event s e chip c q h ∙ ap present f
 
 -- ---- among the items
+
+samples-behind : (s : List ℕ) (e chip c : ℕ) (o : Outcome Behind) → channelAt e chip c (itemsFrom s 3) ≡ o
+    → channelIn e chip c (itemsFrom s 3) ≡ andThen o (λ h. accepted (h .items))
+samples-behind s e chip c o i = channel-items e chip c (itemsFrom s 3) ∙ ap (λ (o : Outcome Behind). andThen o (λ h. accepted (h .items))) i
 
 -- the samples end before the event does
 fill-until : (t : ℕ) (xs : List Item) (l : List ℕ) → fillSamples t (until endEvent xs) l ≡ fillSamples t xs l
@@ -54,18 +59,22 @@ fill-until t (Text s ∷ xs) l = refl
 fill-until t (StartEvent k ts n ∷ xs) l = refl
 fill-until t (EndEvent n ∷ xs) l = refl
 
-pub samples-missing : (s : List ℕ) (e chip c : ℕ) (l : List ℕ) → channelIn e chip c (itemsFrom s 3) ≡ refused 13 0
+pub samples-missing : (s : List ℕ) (e chip c : ℕ) (l : List ℕ) → channelAt e chip c (itemsFrom s 3) ≡ refused 13 0
     → Filling (channelIn e chip c (itemsFrom s 3)) samplesLeft l (refused 13 0) l
-samples-missing s e chip c l h = record { answered = rw h; filled = rw h }
+samples-missing s e chip c l h =
+    let i = samples-behind s e chip c (refused 13 0) h in
+    record { answered = rw i; filled = rw i }
 
 pub samples-put : (s : List ℕ) (e chip c q : ℕ) (l l₁ l₂ : List ℕ) → ChannelFound s e chip c q → l₁ ≡ cleared 512 0xFFFF l → l₂ ≡ fillSamples 0 (itemsFrom s q) l₁
     → Filling (channelIn e chip c (itemsFrom s 3)) samplesLeft l (accepted tt) l₂
-samples-put s e chip c q l l₁ l₂ h i f = record {
-  answered = rw (h .found);
-  filled =
-      f ∙ ap (fillSamples 0 (itemsFrom s q)) i ∙ sym (fill-until 0 (itemsFrom s q) (cleared 512 0xFFFF l))
-      ∙ sym (ap (λ (o : Outcome (List Item)). samplesLeft o l) (h .found));
-}
+samples-put s e chip c q l l₁ l₂ h i f =
+    let j = samples-behind s e chip c (accepted (record { index = q; items = until endEvent (itemsFrom s q) })) (h .found) in
+    record {
+      answered = rw j;
+      filled =
+          f ∙ ap (fillSamples 0 (itemsFrom s q)) i ∙ sym (fill-until 0 (itemsFrom s q) (cleared 512 0xFFFF l))
+          ∙ sym (ap (λ (o : Outcome (List Item)). samplesLeft o l) j);
+    }
 
 -- ---- of a frame
 

@@ -99,7 +99,7 @@ module _ (s : List ℕ) (kind : Kind) (at : ℕ) (a : Amid s kind at) where
   pub amid-next : (x : Item) (n : ℕ) → Turn s at (a .on) x n → Amid s kind n
   amid-next x n t = record { on = t .next; kind-is = ap (λ (f : Frame). f .kind) (t .same-frame) ∙ a .kind-is }
 
-  placed : (x : Item) (n : ℕ) → Turn s at (a .on) x n → place kind (earlierThen [] (a .on .before)) (classFor x) ≡ true
+  pub placed : (x : Item) (n : ℕ) → Turn s at (a .on) x n → place kind (earlierThen [] (a .on .before)) (classFor x) ≡ true
   placed x n t = ap (λ (k : Kind). place k (earlierThen [] (a .on .before)) (classFor x)) (sym (a .kind-is)) ∙ t .allowed .placed
 
 -- ---- a word of a data frame

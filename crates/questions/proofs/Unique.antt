@@ -7,15 +7,17 @@ use mathlib.Core.List.{List}
 use native.Mathlib.Omega.{arith}
 use Rattle.format.specs.Answers.{accepted}
 use Rattle.format.specs.Questions as questions
-use Rattle.format.specs.Questions.{eventAt}
+use Rattle.format.specs.Questions.{eventAt, sampleWordAt, binWordAt}
 use Rattle.book.proofs.Unique.{one, same-refusal}
 use Rattle.questions.specs.declared.answers.Event.{Event}
 use Rattle.questions.specs.declared.answers.EventFound.{EventFound}
 use Rattle.questions.specs.declared.answers.EventFound.the-variants as found
 use Rattle.questions.specs.declared.answers.Filled.{Filled}
 use Rattle.questions.specs.declared.answers.Filled.the-variants as filled
-use Rattle.questions.specs.Views.{eventOf, viewEvent, viewFilled}
-use Rattle.questions.specs.Promises.{EventAnswered, SamplesAnswered, CountsAnswered}
+use Rattle.questions.specs.declared.answers.WordFound.{WordFound}
+use Rattle.questions.specs.declared.answers.WordFound.the-variants as word
+use Rattle.questions.specs.Views.{eventOf, viewEvent, viewFilled, viewWord}
+use Rattle.questions.specs.Promises.{EventAnswered, SamplesAnswered, CountsAnswered, SampleWordAnswered, BinWordAnswered}
 
 -- ---- T40
 
@@ -37,6 +39,15 @@ same-filled filled.Done (filled.Refused r) e = let z : _≡_ {A = ℕ} 0 1 = cc 
 same-filled (filled.Refused r) filled.Done e = let z : _≡_ {A = ℕ} 0 1 = cc in absurd (omega arith)
 same-filled (filled.Refused r) (filled.Refused q) e = ap filled.Refused (same-refusal r q e)
 
+word-is : (v w : ℕ) → accepted v ≡ accepted w → v ≡ w
+word-is v w e = cc
+
+pub same-word : (r q : WordFound) → viewWord r ≡ viewWord q → r ≡ q
+same-word (word.Word v) (word.Word w) e = ap word.Word (word-is v w e)
+same-word (word.Word v) (word.Refused r) e = let z : _≡_ {A = ℕ} 0 1 = cc in absurd (omega arith)
+same-word (word.Refused r) (word.Word w) e = let z : _≡_ {A = ℕ} 0 1 = cc in absurd (omega arith)
+same-word (word.Refused r) (word.Refused q) e = ap word.Refused (same-refusal r q e)
+
 -- ---- T39, function by function: each is over the promise that the function's contract names
 
 pub event-once : (s : List ℕ) (e : ℕ) (r q : EventFound) → EventAnswered s e r → EventAnswered s e q → r ≡ q
@@ -49,3 +60,9 @@ samples-once s e chip c l r q l₁ l₂ a b = (same-filled r q (a .answered ∙ 
 pub counts-once : (s : List ℕ) (chip c : ℕ) (l : List ℕ) (r q : Filled) (l₁ l₂ : List ℕ)
     → CountsAnswered s chip c l r l₁ → CountsAnswered s chip c l q l₂ → (r ≡ q) × (l₁ ≡ l₂)
 counts-once s chip c l r q l₁ l₂ a b = (same-filled r q (a .answered ∙ sym (b .answered)), a .filled ∙ sym (b .filled))
+
+pub sample-word-once : (s : List ℕ) (e chip c t : ℕ) (r q : WordFound) → SampleWordAnswered s e chip c t r → SampleWordAnswered s e chip c t q → r ≡ q
+sample-word-once s e chip c t = one viewWord same-word (sampleWordAt s e chip c t)
+
+pub bin-word-once : (s : List ℕ) (chip c b : ℕ) (r q : WordFound) → BinWordAnswered s chip c b r → BinWordAnswered s chip c b q → r ≡ q
+bin-word-once s chip c b = one viewWord same-word (binWordAt s chip c b)

@@ -3,8 +3,9 @@
 use Prim.Native.Nat.{ℕ, _+_, _%_, _<_}
 use mathlib.Core.Path.{_≡_}
 use mathlib.Core.List.{List, [], _∷_}
-use mathlib.Core.Bool.{Bool, true, false}
-use mathlib.Core.Option.{none, some}
+use mathlib.Core.Bool.{Bool, true, false, _&&_}
+use mathlib.Core.Option.{Option, none, some}
+use lib.Dec.{eqb}
 use lib.ListN.{length}
 use Rattle.format.specs.Words.{wordAt, timeAt, longAt}
 use Rattle.format.specs.Answers.{Outcome, accepted, refused, andThen, Done}
@@ -13,7 +14,7 @@ use Rattle.format.specs.Items.{ItemOf, Item, Channel, Histogram, HitCount, Samp
 use Rattle.format.specs.Rules.{Kind, dataKind, gather, headOrZero}
 use Rattle.format.specs.Frames.{earlierThen}
 use Rattle.format.specs.Cursor.{itemsFrom, On}
-use Rattle.format.specs.Questions.{Event, Opened, endSize, events, pickNth, present, done, until, past, isChannel, isHistogram, channelIn}
+use Rattle.format.specs.Questions.{Event, Opened, endSize, events, pickNth, present, done, until, pastAt, isChannel, isHistogram, channelAt, sampleWord, binWord}
 use Rattle.questions.specs.declared.answers.Place.{Place}
 use Rattle.questions.specs.declared.answers.Place.the-variants as place
 
@@ -46,6 +47,19 @@ endsEvent (TimeBin t) = false
 endsEvent (Text n) = false
 endsEvent (StartEvent t ts n) = false
 endsEvent (EndEvent n) = true
+
+-- one that is a header of a chip and a channel
+abbrev pub isHeader : ℕ → ℕ → ItemOf ℕ → Bool
+isHeader chip c (Channel a b d) = eqb b chip && eqb d c
+isHeader chip c (Histogram a b d) = eqb b chip && eqb d c
+isHeader chip c (HitCount a b d) = false
+isHeader chip c (Sample v) = false
+isHeader chip c (Bin b n) = false
+isHeader chip c (LastCell a b) = false
+isHeader chip c (TimeBin t) = false
+isHeader chip c (Text n) = false
+isHeader chip c (StartEvent t ts n) = false
+isHeader chip c (EndEvent n) = false
 
 -- the event whose Start event stands at word q
 abbrev pub openedAt : List ℕ → ℕ → Opened
@@ -89,26 +103,38 @@ pub record Headed (s : List ℕ) (q : ℕ) : Type 0 where
   pub header : earlierThen [] (on .before) ≡ Channel card chip channel ∷ before
 
 pub record ChannelAt (s : List ℕ) (from chip c q : ℕ) : Type 0 where
-  pub passed : past (isChannel chip c) (until endEvent (itemsFrom s from)) ≡ some (until endEvent (itemsFrom s q))
+  pub passed : pastAt (isChannel chip c) from (until endEvent (itemsFrom s from)) ≡ some (record { index = q; items = until endEvent (itemsFrom s q) })
   pub headed : Headed s q
 
 abbrev pub ChannelSought : List ℕ → ℕ → ℕ → ℕ → Place → Type 0
 ChannelSought s from chip c (place.At q) = ChannelAt s from chip c q
-ChannelSought s from chip c place.Nothing = past (isChannel chip c) (until endEvent (itemsFrom s from)) ≡ none
+ChannelSought s from chip c place.Nothing = pastAt (isChannel chip c) from (until endEvent (itemsFrom s from)) ≡ none
 
 -- of event e of a frame's items
 pub record ChannelFound (s : List ℕ) (e chip c q : ℕ) : Type 0 where
-  pub found : channelIn e chip c (itemsFrom s 3) ≡ accepted (until endEvent (itemsFrom s q))
+  pub found : channelAt e chip c (itemsFrom s 3) ≡ accepted (record { index = q; items = until endEvent (itemsFrom s q) })
   pub headed : Headed s q
 
 abbrev pub SamplesSought : List ℕ → ℕ → ℕ → ℕ → Place → Type 0
 SamplesSought s e chip c (place.At q) = ChannelFound s e chip c q
-SamplesSought s e chip c place.Nothing = channelIn e chip c (itemsFrom s 3) ≡ refused 13 0
+SamplesSought s e chip c place.Nothing = channelAt e chip c (itemsFrom s 3) ≡ refused 13 0
 
 pub record HistogramAt (s : List ℕ) (chip c q : ℕ) : Type 0 where
-  pub passed : past (isHistogram chip c) (itemsFrom s 3) ≡ some (itemsFrom s q)
+  pub passed : pastAt (isHistogram chip c) 3 (itemsFrom s 3) ≡ some (record { index = q; items = itemsFrom s q })
   pub on : On s q
 
 abbrev pub HistogramSought : List ℕ → ℕ → ℕ → Place → Type 0
 HistogramSought s chip c (place.At q) = HistogramAt s chip c q
-HistogramSought s chip c place.Nothing = past (isHistogram chip c) (itemsFrom s 3) ≡ none
+HistogramSought s chip c place.Nothing = pastAt (isHistogram chip c) 3 (itemsFrom s 3) ≡ none
+
+-- a place as the definitions have it
+abbrev pub placeOf : Place → Option ℕ
+placeOf (place.At q) = some q
+placeOf place.Nothing = none
+
+-- the word of a sample, and of a bin, of a frame's items
+abbrev pub sampleWordIn : List Item → ℕ → ℕ → ℕ → ℕ → Outcome ℕ
+sampleWordIn xs e chip c t = andThen (channelAt e chip c xs) (λ h. present (sampleWord t 0 (h .index) (h .items)))
+
+abbrev pub binWordIn : List Item → ℕ → ℕ → ℕ → Outcome ℕ
+binWordIn xs chip c b = andThen (present (pastAt (isHistogram chip c) 3 xs)) (λ h. present (binWord b (h .index) (h .items)))

@@ -1,11 +1,14 @@
 -- What the answers of this crate say in document 01.
 -- Assumes nothing.
+use Prim.Native.Nat.{ℕ}
 use Rattle.format.specs.Answers.{Outcome, accepted, Done}
 use Rattle.format.specs.Questions as questions
 use Rattle.book.specs.Views.{refusal}
 use Rattle.questions.specs.declared.answers.Event.{Event}
 use Rattle.questions.specs.declared.answers.EventFound.{EventFound}
 use Rattle.questions.specs.declared.answers.EventFound.the-variants as found
+use Rattle.questions.specs.declared.answers.WordFound.{WordFound}
+use Rattle.questions.specs.declared.answers.WordFound.the-variants as word
 use Rattle.questions.specs.declared.answers.Filled.{Filled}
 use Rattle.questions.specs.declared.answers.Filled.the-variants as filled
 
@@ -15,6 +18,10 @@ eventOf v = record { kind = v .kind; timestamp = v .timestamp; number = v .numbe
 abbrev pub viewEvent : EventFound → Outcome questions.Event
 viewEvent (found.Event v) = accepted (eventOf v)
 viewEvent (found.Refused r) = refusal r
+
+abbrev pub viewWord : WordFound → Outcome ℕ
+viewWord (word.Word w) = accepted w
+viewWord (word.Refused r) = refusal r
 
 abbrev pub viewFilled : Filled → Done
 viewFilled filled.Done = accepted tt

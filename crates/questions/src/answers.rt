@@ -21,6 +21,12 @@ pub enum Filled {
     Refused(Refusal),
 }
 
+// The word index of a Sample or a Bin: what a correction takes.
+pub enum WordFound {
+    Word(usize),
+    Refused(Refusal),
+}
+
 // The word index of what was sought, from the first item's on, or that there is none.
 pub(crate) enum Place {
     At(usize),

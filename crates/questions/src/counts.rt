@@ -19,7 +19,7 @@ use frame::reading::read;
 use rules::state::Kind;
 
 // Where the bins of a histogram begin: only a monitor frame has histograms.
-fn find_histogram(s: &[u8], kind: Kind, chip: u16, channel: u16) -> Place
+pub(crate) fn find_histogram(s: &[u8], kind: Kind, chip: u16, channel: u16) -> Place
     requires { ⌜ Amid (now s) (viewKind kind) 3 ⌝ }
     ensures { λ r. ⌜ HistogramSought (now (s .entry)) chip channel r ⌝ }
 {

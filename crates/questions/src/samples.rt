@@ -20,7 +20,7 @@ use frame::reading::read;
 use rules::state::Kind;
 
 // Where the samples of a channel begin: behind its header, in event e.
-fn find_channel(s: &[u8], kind: Kind, e: usize, chip: u16, channel: u16) -> Place
+pub(crate) fn find_channel(s: &[u8], kind: Kind, e: usize, chip: u16, channel: u16) -> Place
     requires { ⌜ Amid (now s) (viewKind kind) 3 ⌝ }
     ensures { λ r. ⌜ SamplesSought (now (s .entry)) e chip channel r ⌝ }
 {

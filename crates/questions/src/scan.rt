@@ -5,10 +5,10 @@ ghost use Prim.Native.Nat.{_+_, _*_, _<_};
 ghost use lib.ListN.{length};
 ghost use Rattle.format.specs.Words.{wordAt, longAt};
 ghost use Rattle.format.specs.Rules.{dataKind, monitorKind, headOrZero, gather};
-ghost use Rattle.format.specs.Cursor.{itemsFrom, unshown};
-ghost use Rattle.format.specs.Questions.{endSize, isChannel, isHistogram};
+ghost use Rattle.format.specs.Cursor.{itemsFrom};
+ghost use Rattle.format.specs.Questions.{endSize};
 ghost use Rattle.book.specs.Views.{viewItem};
-ghost use Rattle.questions.specs.Sought.{Amid, startsEvent, endsEvent, EventSought, ChannelSought, HistogramSought};
+ghost use Rattle.questions.specs.Sought.{Amid, startsEvent, endsEvent, isHeader, EventSought, ChannelSought, HistogramSought};
 use crate::answers::Place;
 use book::class::Class;
 use book::items::Channel;
@@ -81,30 +81,12 @@ fn is_end(item: Item) -> bool
     }
 }
 
-// A Channel header of the chip and the channel.
-fn is_channel(item: Item, chip: u16, channel: u16) -> bool
-    ensures { λ r. ⌜ r ≡ isChannel chip channel (unshown (viewItem item)) ⌝ }
+// A Channel or a Histogram header of the chip and the channel. No frame has both.
+fn is_header(item: Item, chip: u16, channel: u16) -> bool
+    ensures { λ r. ⌜ r ≡ isHeader chip channel (viewItem item) ⌝ }
 {
     match item {
         Item::Channel(x) => (x.chip == chip) & (x.channel == channel),
-        Item::Histogram(_) => false,
-        Item::HitCount(_) => false,
-        Item::Sample(_) => false,
-        Item::Bin(_) => false,
-        Item::LastCell(_) => false,
-        Item::TimeBin(_) => false,
-        Item::Text(_) => false,
-        Item::StartEvent(_) => false,
-        Item::EndEvent(_) => false,
-    }
-}
-
-// A Histogram header of the chip and the channel.
-fn is_histogram(item: Item, chip: u16, channel: u16) -> bool
-    ensures { λ r. ⌜ r ≡ isHistogram chip channel (unshown (viewItem item)) ⌝ }
-{
-    match item {
-        Item::Channel(_) => false,
         Item::Histogram(x) => (x.chip == chip) & (x.channel == channel),
         Item::HitCount(_) => false,
         Item::Sample(_) => false,
@@ -211,7 +193,7 @@ pub(crate) fn seek_channel(s: &[u8], from: usize, chip: u16, channel: u16) -> Pl
                 if is_end(item) {
                     return Place::Nothing;
                 }
-                if is_channel(item, chip, channel) {
+                if is_header(item, chip, channel) {
                     return Place::At(x.next);
                 }
                 at = x.next;
@@ -249,7 +231,7 @@ pub(crate) fn seek_histogram(s: &[u8], chip: u16, channel: u16) -> Place
         match standing {
             Standing::Item(x) => {
                 let item = x.item;
-                if is_histogram(item, chip, channel) {
+                if is_header(item, chip, channel) {
                     return Place::At(x.next);
                 }
                 at = x.next;

@@ -20,7 +20,7 @@ use Rattle.format.specs.Rules as rules
 use Rattle.format.specs.Frames as frames
 use Rattle.format.specs.Frames.{Sound, encode, Legal}
 use Rattle.format.specs.Faults.{Refused}
-use Rattle.format.specs.Questions.{Shown}
+use Rattle.format.specs.Questions.{IndexedShown}
 use Rattle.format.specs.Stands.{indexOf}
 use Rattle.format.specs.Steps.{Overview, overview, readOf}
 use Rattle.format.specs.WriterCalls.{CallsDone, callsDone}
@@ -39,7 +39,7 @@ use Rattle.rules.specs.declared.state.Kind.the-variants as kind
 use Rattle.frame.specs.declared.reading.Frame.{Frame}
 use Rattle.frame.specs.declared.reading.Reading.{Reading}
 use Rattle.frame.specs.declared.reading.Reading.the-variants as reading
-use Rattle.cursor.specs.declared.standing.FoundItem.{FoundItem}
+use Rattle.frame.specs.declared.items.IndexedItem.{IndexedItem}
 use Rattle.frame.specs.declared.items.Found.{Found}
 use Rattle.frame.specs.declared.items.Found.the-variants as found
 use Rattle.rules.specs.Views.{viewKind}
@@ -114,7 +114,7 @@ module _ (s : RefT (List ℕ)) (g : Frame) (read : ReadAs (now s) (reading.Accep
   -- ---- T10
 
   -- each item that `read` counts is answered, and no further one is there
-  pub item-answered : (n : ℕ) → n < g .items → (r : Found) → ItemAnswered (now s) n r → (x : FoundItem) × (r ≡ found.Item x)
+  pub item-answered : (n : ℕ) → n < g .items → (r : Found) → ItemAnswered (now s) n r → (x : IndexedItem) × (r ≡ found.Item x)
   item-answered n h (found.Item x) e = (x, refl)
   item-answered n h (found.Refused q) e =
       let (x, a) = format2.each-item-is-answered (now s) (viewFrame g) (sym read) n h in
@@ -131,7 +131,7 @@ module _ (s : RefT (List ℕ)) (g : Frame) (read : ReadAs (now s) (reading.Accep
         let (x, q) = item-answered n h r e in
         go x (subst (ItemAnswered (now s) n) q e) (isText (x .item)) refl
       where
-        go : (x : FoundItem) → ItemAnswered (now s) n (found.Item x) → (b : Bool) → isText (x .item) ≡ b → (a : Argument) × Copies s n (a ∷ gs)
+        go : (x : IndexedItem) → ItemAnswered (now s) n (found.Item x) → (b : Bool) → isText (x .item) ≡ b → (a : Argument) × Copies s n (a ∷ gs)
         go x e true i =
             let (t, j) = texts n in
             (aText (now t), with-text x t e i j k)
@@ -176,14 +176,24 @@ accepts-exactly s bs r e = (there, back r e)
         (sym (format2.read-exactly (now s) bs (overview f) .1 (record { frame = f; legal = l; written = w; told = refl })) ∙ sym e)
 
 -- "the index of the next item or end word"
-pub next-index : (s : RefT (List ℕ)) → Bytes (now s) → (g : Frame) (a : StandsFor (now s) (viewFrame g)) (n : ℕ) → n < g .items → (x : FoundItem) → ItemAnswered (now s) n (found.Item x)
+pub next-index : (s : RefT (List ℕ)) → Bytes (now s) → (g : Frame) (a : StandsFor (now s) (viewFrame g)) (n : ℕ) → n < g .items → (x : IndexedItem) → ItemAnswered (now s) n (found.Item x)
     → x .next ≡ indexOf (a .frame .items) (suc n)
 next-index s bs g a n h x e =
     let f = a .frame in
     let c : g .items ≡ length (f .items) = ap (λ (o : Overview). o .items) (a .told) in
     let (y, i) = item-stands n (f .items) (subst (λ (m : ℕ). n < m) c h) in
     let q = exactly (now s) bs f .1 (a .legal, a .written) in
-    ap (λ (o : Shown). o .next) (same-accepted _ _ (e ∙ shown-there (now s) f q n y i))
+    ap (λ (o : IndexedShown). o .next) (same-accepted _ _ (e ∙ shown-there (now s) f q n y i))
+
+-- and its own
+pub own-index : (s : RefT (List ℕ)) → Bytes (now s) → (g : Frame) (a : StandsFor (now s) (viewFrame g)) (n : ℕ) → n < g .items → (x : IndexedItem) → ItemAnswered (now s) n (found.Item x)
+    → x .index ≡ indexOf (a .frame .items) n
+own-index s bs g a n h x e =
+    let f = a .frame in
+    let c : g .items ≡ length (f .items) = ap (λ (o : Overview). o .items) (a .told) in
+    let (y, i) = item-stands n (f .items) (subst (λ (m : ℕ). n < m) c h) in
+    let q = exactly (now s) bs f .1 (a .legal, a .written) in
+    ap (λ (o : IndexedShown). o .index) (same-accepted _ _ (e ∙ shown-there (now s) f q n y i))
 
 pub its-items : (s : RefT (List ℕ)) → Bytes (now s) → (g : Frame) (a : StandsFor (now s) (viewFrame g)) (gs : List Argument) → Copies s 0 gs → length gs ≡ g .items
     → gs ≡ map argumentFor (a .frame .items)

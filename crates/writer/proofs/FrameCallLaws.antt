@@ -14,8 +14,8 @@ use Rattle.format.specs.Handing.{ItemAnswer, Answers, tokenOfCall, callOf, writ
 use Rattle.format.specs.Handing as handing
 use Rattle.format.proofs.writer.Completeness.{begin-on, begin-stops, add-on, add-stops, close-on}
 use Rattle.rules.specs.declared.state.Kind.{Kind}
-use Rattle.cursor.specs.Views.{viewFoundItem}
 use Rattle.rules.specs.Views.{viewKind}
+use Rattle.frame.specs.Views.{viewIndexedItem}
 use Rattle.writer.specs.declared.answers.Written.{Written}
 use Rattle.writer.specs.declared.answers.Written.the-variants as written
 use Rattle.writer.specs.Views.{viewWritten}
@@ -94,7 +94,7 @@ asked no-more = record { told = []; answers = handing.no-more; handed = refl; co
 asked {s = s} {n = n} (with-item x a e k) =
     let q = asked k in
     record {
-      told = record { answer = viewFoundItem x; text = textAt (now s) n } ∷ q .told;
+      told = record { answer = viewIndexedItem x; text = textAt (now s) n } ∷ q .told;
       answers = handing.then (sym a) refl (q .answers);
       handed = ap₂ _∷_ (rw e) (q .handed);
       count = ap suc (q .count);
@@ -102,7 +102,7 @@ asked {s = s} {n = n} (with-item x a e k) =
 asked {s = s} {n = n} (with-text x t a e b k) =
     let q = asked k in
     record {
-      told = record { answer = viewFoundItem x; text = now t } ∷ q .told;
+      told = record { answer = viewIndexedItem x; text = now t } ∷ q .told;
       answers = handing.then (sym a) (sym (b .0)) (q .answers);
       handed = ap₂ _∷_ (rw e) (q .handed);
       count = ap suc (q .count);

@@ -21,7 +21,7 @@ use Rattle.rules.specs.declared.state.Kind.{Kind}
 use Rattle.frame.specs.declared.reading.Frame.{Frame}
 use Rattle.frame.specs.declared.reading.Reading.{Reading}
 use Rattle.frame.specs.declared.reading.Reading.the-variants as reading
-use Rattle.cursor.specs.declared.standing.FoundItem.{FoundItem}
+use Rattle.frame.specs.declared.items.IndexedItem.{IndexedItem}
 use Rattle.frame.specs.declared.items.Found.the-variants as found
 use Rattle.frame.specs.Promises.{ItemAnswered, TextAnswered}
 use Rattle.writer.specs.declared.answers.Written.{Written}
@@ -66,9 +66,9 @@ isText x = same text (classFor (viewItem x))
 -- who copies the frame s, from ordinal n on, asks `item` and hands over what it answers; where that is a text, what `text` answers
 pub data Copies (s : RefT (List ℕ)) : ℕ → List Argument → Type 0 where
   no-more : {n : ℕ} → Copies s n []
-  with-item : {n : ℕ} {gs : List Argument} (x : FoundItem) → ItemAnswered (now s) n (found.Item x) → isText (x .item) ≡ false → Copies s (suc n) gs
+  with-item : {n : ℕ} {gs : List Argument} (x : IndexedItem) → ItemAnswered (now s) n (found.Item x) → isText (x .item) ≡ false → Copies s (suc n) gs
       → Copies s n (anItem (x .item) ∷ gs)
-  with-text : {n : ℕ} {gs : List Argument} (x : FoundItem) (t : RefT (List ℕ)) → ItemAnswered (now s) n (found.Item x) → isText (x .item) ≡ true → TextAnswered s n t
+  with-text : {n : ℕ} {gs : List Argument} (x : IndexedItem) (t : RefT (List ℕ)) → ItemAnswered (now s) n (found.Item x) → isText (x .item) ≡ true → TextAnswered s n t
       → Copies s (suc n) gs
       → Copies s n (aText (now t) ∷ gs)
 

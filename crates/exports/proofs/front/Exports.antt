@@ -13,7 +13,7 @@ use Rattle.format.specs.Answers.{accepted}
 use Rattle.format.specs.Items.{Text, whole}
 use Rattle.format.specs.Rules.{Kind}
 use Rattle.format.specs.Steps.{Overview, readOf}
-use Rattle.format.specs.Questions.{Shown, shownAt, Event, eventAt, samplesAt, countsAt, done}
+use Rattle.format.specs.Questions.{IndexedShown, shownAt, Event, eventAt, samplesAt, countsAt, done, sampleWordAt, binWordAt}
 use Rattle.format.specs.Writing.{addAnswer, addLeft, closeAnswer, closeLeft}
 use Rattle.format.proofs.front.Writing.{add-refused-leaves, close-refused-leaves}
 use Rattle.follower.specs.Follow as follow
@@ -27,19 +27,20 @@ use Rattle.exports.specs.declared.answers.PlaneFrame.{PlaneFrame}
 use Rattle.exports.specs.declared.answers.PlaneItem.{PlaneItem}
 use Rattle.exports.specs.declared.answers.PlaneFound.{PlaneFound}
 use Rattle.exports.specs.declared.answers.PlaneEvent.{PlaneEvent}
+use Rattle.exports.specs.declared.answers.PlaneWord.{PlaneWord}
 use Rattle.exports.specs.declared.answers.PlaneWritten.{PlaneWritten}
 use Rattle.exports.specs.declared.answers.PlaneFollower.{PlaneFollower}
 use Rattle.exports.specs.declared.answers.PlaneFollowed.{PlaneFollowed}
 use Rattle.exports.specs.declared.answers.PlaneRecord.{PlaneRecord}
 use Rattle.exports.specs.declared.answers.PlaneEntry.{PlaneEntry}
 use Rattle.exports.specs.declared.answers.PlaneCorrection.{PlaneCorrection}
-use Rattle.exports.specs.Flat.{flatFrame, flatFound, flatEvent, flatWritten, flatFollowed, flatRecord, flatEntry}
+use Rattle.exports.specs.Flat.{flatFrame, flatFound, flatEvent, flatWord, flatWritten, flatFollowed, flatRecord, flatEntry}
 use Rattle.exports.specs.Given.{asked, followerOf, begun, begunLeft, tokenOf}
 use Rattle.exports.specs.Promises.{Leaves, Sampled, Counted, Opened, Edited, Restored}
 use Rattle.exports.proofs.NumberLaws as numbers
 use Rattle.exports.proofs.RefusedLaws as law
 use Rattle.exports.proofs.RefusedLaws.{kept, samples-found, counts-found, begin-found}
-use Rattle.exports.proofs.Unique.{exactly, done-tells, frame-tells, found-tells, event-tells, written-tells, record-tells, entry-tells}
+use Rattle.exports.proofs.Unique.{exactly, done-tells, frame-tells, found-tells, event-tells, word-tells, written-tells, record-tells, entry-tells}
 
 -- ---- the questions
 
@@ -47,11 +48,17 @@ module _ (s : List ℕ) (bs : Bytes s) where
   pub read-accepts : (r : PlaneFrame) → r ≡ flatFrame (readOf s) → (r .refused ≡ 0) ↔ ((f : Overview) × (readOf s ≡ accepted f))
   read-accepts = exactly _ _ _ _ _ frame-tells (readOf s) (numbers.read-numbered s bs)
 
-  pub item-accepts : (n : ℕ) (r : PlaneFound) → r ≡ flatFound (shownAt s n) → (r .refused ≡ 0) ↔ ((x : Shown) × (shownAt s n ≡ accepted x))
+  pub item-accepts : (n : ℕ) (r : PlaneFound) → r ≡ flatFound (shownAt s n) → (r .refused ≡ 0) ↔ ((x : IndexedShown) × (shownAt s n ≡ accepted x))
   item-accepts n = exactly _ _ _ _ _ found-tells (shownAt s n) (numbers.item-numbered s bs n)
 
   pub event-accepts : (e : ℕ) (r : PlaneEvent) → r ≡ flatEvent (eventAt s e) → (r .refused ≡ 0) ↔ ((x : Event) × (eventAt s e ≡ accepted x))
   event-accepts e = exactly _ _ _ _ _ event-tells (eventAt s e) (numbers.event-numbered s bs e)
+
+  pub sample-word-accepts : (e chip c t : ℕ) (r : PlaneWord) → r ≡ flatWord (sampleWordAt s e chip c t) → (r .refused ≡ 0) ↔ ((w : ℕ) × (sampleWordAt s e chip c t ≡ accepted w))
+  sample-word-accepts e chip c t = exactly _ _ _ _ _ word-tells (sampleWordAt s e chip c t) (numbers.sample-word-numbered s bs e chip c t)
+
+  pub bin-word-accepts : (chip c b : ℕ) (r : PlaneWord) → r ≡ flatWord (binWordAt s chip c b) → (r .refused ≡ 0) ↔ ((w : ℕ) × (binWordAt s chip c b ≡ accepted w))
+  bin-word-accepts chip c b = exactly _ _ _ _ _ word-tells (binWordAt s chip c b) (numbers.bin-word-numbered s bs chip c b)
 
   module _ (out : List ℕ) (r : PlaneDone) (left : List ℕ) where
     pub samples-accepts : (e chip c : ℕ) → Sampled s e chip c out r left → (r .refused ≡ 0) ↔ ((u : Unit {0}) × (done (samplesAt s e chip c (length out)) ≡ accepted u))

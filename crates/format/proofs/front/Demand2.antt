@@ -18,7 +18,7 @@ use Rattle.format.specs.Faults.{Refused, Answered}
 use Rattle.format.specs.Tree.{Tree, leaves, TreeOf}
 use Rattle.format.specs.WriterCases.{WritingDone}
 use Rattle.format.specs.WriterCalls.{callsDone, writeAll}
-use Rattle.format.specs.Questions.{Shown, shownAt}
+use Rattle.format.specs.Questions.{IndexedShown, shownAt}
 use Rattle.format.specs.Steps.{Overview, readOf}
 use Rattle.format.specs.Handing.{StandsFor, ItemAnswer, itemAnswerOf, Answers, answerWords, allAnswerWords, frameTold, Call, tokenOfCall, callOf, handOver, writeCalls, CallsWrote}
 use Rattle.format.proofs.verdict.Acceptance.{exactly}
@@ -76,7 +76,7 @@ some-legal = refusals.empty-legal
 
 -- What is told of an item is its words: the first of its class's printed range with the fields of its column "Content, high bits first", and the
 -- words after it. So no content is answered in another's place.
-pub items-are-told : (x : Item) (next : ℕ) → answerWords (itemAnswerOf x next) ≡ wordsOf x
+pub items-are-told : (index : ℕ) (x : Item) (next : ℕ) → answerWords (itemAnswerOf index x next) ≡ wordsOf x
 items-are-told = handing.told-words
 
 -- What `item` and `text` answer of an item, handed to `add` or `add_text`, is that item; and nothing else that is handed over is.
@@ -108,7 +108,7 @@ module _ (s : List ℕ) (o : Overview) (read : readOf s ≡ accepted o) where
   pub all-items-are-answered : (xs : List ItemAnswer) × Answers s 0 xs × (length xs ≡ o .items)
   all-items-are-answered = handing.all-answered s o read
 
-  pub each-item-is-answered : (n : ℕ) → n < o .items → (x : Shown) × (shownAt s n ≡ accepted x)
+  pub each-item-is-answered : (n : ℕ) → n < o .items → (x : IndexedShown) × (shownAt s n ≡ accepted x)
   each-item-is-answered = handing.each-answered s o read
 
   pub no-further-item : (n : ℕ) → o .items ≤ n → shownAt s n ≡ refused 13 0
@@ -118,6 +118,10 @@ module _ (s : List ℕ) (o : Overview) (read : readOf s ≡ accepted o) where
     -- with "the index of the next item or end word": behind the first three words and those of the items so far;
     pub next-index : (before after : List ItemAnswer) (x : ItemAnswer) → xs ≡ before ++ (x ∷ after) → x .answer .next ≡ 3 + length (allAnswerWords (before ++ (x ∷ [])))
     next-index = handing.told-next s o read xs answers count
+
+    -- and with its own index: behind those words and the words of the items before it;
+    pub own-index : (before after : List ItemAnswer) (x : ItemAnswer) → xs ≡ before ++ (x ∷ after) → x .answer .index ≡ 3 + length (allAnswerWords before)
+    own-index = handing.told-index s o read xs answers count
 
     -- and the answers say every byte of the frame.
     pub every-byte-is-told : Bytes s → s ≡ bytes (frameTold (length s) o xs)

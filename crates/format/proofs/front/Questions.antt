@@ -1,4 +1,4 @@
--- The front page of the questions, T10 to T14: what each answers on an accepted frame, in terms of what stands in its items (specs/Stands).
+-- The front page of the questions, T10 to T14 and T41: what each answers on an accepted frame, in terms of what stands in its items (specs/Stands).
 -- Each theorem is one law.
 -- Assumes nothing.
 use Prim.Native.Nat.{ℕ, suc, _+_, _-_, _*_, _/_, _<_, _≤_}
@@ -6,6 +6,7 @@ use mathlib.Core.Path.{_≡_}
 use mathlib.Core.List.{List, [], _∷_, _++_}
 use mathlib.Core.Logic.{_↔_}
 use mathlib.Core.Bool.{false}
+use mathlib.Core.Option.{some}
 use lib.ListN.{length, getD, take, drop}
 use Rattle.format.specs.Words.{Bytes}
 use Rattle.format.specs.Answers.{accepted, refused}
@@ -13,13 +14,15 @@ use Rattle.format.specs.Book.{text, startEvent, endEvent}
 use Rattle.format.specs.Items.{Item, Text, StartEvent, EndEvent, classFor}
 use Rattle.format.specs.Rules.{dataKind, same, count}
 use Rattle.format.specs.Frames.{Frame, allWords, verdict}
-use Rattle.format.specs.Questions.{Event, itemAt, shown, shownAt, textAt, eventAt, samplesAt, samplesLeft, countsAt, countsLeft}
+use Rattle.format.specs.Questions.{Event, itemAt, shown, shownAt, textAt, eventAt, samplesAt, samplesLeft, countsAt, countsLeft, sampleWordAt, binWordAt}
 use Rattle.format.specs.Cursor.{Meets}
-use Rattle.format.specs.Stands.{ItemIs, indexOf, EventIn, ChannelIn, HistogramIn, SampleIn, BinIn, Fill, sampleOrdinal, binOrdinal}
+use Rattle.format.specs.Stands.{ItemIs, indexOf, EventIn, ChannelIn, HistogramIn, SampleIn, BinIn, Fill, sampleOrdinal, binOrdinal, SampleAt, BinAt}
+use Rattle.format.specs.Spots.{spot}
 use Rattle.format.proofs.reader.CursorLaws as cursor
 use Rattle.format.proofs.questions.ItemQuestions as items
 use Rattle.format.proofs.questions.EventQuestions as events
 use Rattle.format.proofs.questions.FillQuestions as fill
+use Rattle.format.proofs.questions.WordQuestions as word
 use Rattle.format.proofs.writer.HandingLaws as handing
 
 -- "Order: frame refusals, ..": a refused frame is refused by every question, and has no text
@@ -42,6 +45,12 @@ module _ (s : List ℕ) (k p : ℕ) (v : verdict s ≡ refused k p) where
   pub counts-refused : (chip c room : ℕ) → countsAt s chip c room ≡ refused k p
   counts-refused = fill.counts-refused s k p v
 
+  pub sample-word-refused : (e chip c t : ℕ) → sampleWordAt s e chip c t ≡ refused k p
+  sample-word-refused = word.sample-refused s k p v
+
+  pub bin-word-refused : (chip c b : ℕ) → binWordAt s chip c b ≡ refused k p
+  bin-word-refused = word.bin-refused s k p v
+
 -- "Every refusal leaves all lent memory as found."
 pub samples-kept : (s : List ℕ) (e chip c k p : ℕ) (found : List ℕ) → samplesAt s e chip c (length found) ≡ refused k p
     → samplesLeft (samplesAt s e chip c (length found)) found ≡ found
@@ -60,12 +69,14 @@ module _ (s : List ℕ) (bytes : Bytes s) (f : Frame) (v : verdict s ≡ accepte
   pub cursor-meets-only : (xs : List Item) → Meets s 3 xs → xs ≡ f .items
   cursor-meets-only xs m = cursor.met-once s 3 xs (f .items) m cursor-meets
 
-  -- T10. "The item at ordinal n (from 0) answers with its class and content, and the index of the next item or end word."
-  pub item-answer : (n : ℕ) (x : Item) → ItemIs (f .items) n x → itemAt s n ≡ accepted (record { item = x; next = indexOf (f .items) (suc n) })
+  -- T10. "The item at ordinal n (from 0) answers with its class and content, and the index of the next item or end word"; with them its own index
+  pub item-answer : (n : ℕ) (x : Item) → ItemIs (f .items) n x
+      → itemAt s n ≡ accepted (record { index = indexOf (f .items) n; item = x; next = indexOf (f .items) (suc n) })
   item-answer = items.item-there s f v
 
   -- as it is answered: of a text, its n (proofs/front/Demand2.antt ties the answers to the printed columns, and to what the writer is handed)
-  pub item-shown : (n : ℕ) (x : Item) → ItemIs (f .items) n x → shownAt s n ≡ accepted (record { item = shown x; next = indexOf (f .items) (suc n) })
+  pub item-shown : (n : ℕ) (x : Item) → ItemIs (f .items) n x
+      → shownAt s n ≡ accepted (record { index = indexOf (f .items) n; item = shown x; next = indexOf (f .items) (suc n) })
   item-shown = handing.shown-there s f v
 
   pub item-there : (n : ℕ) → n < length (f .items) → (x : Item) × ItemIs (f .items) n x
@@ -178,3 +189,46 @@ module _ (s : List ℕ) (bytes : Bytes s) (f : Frame) (v : verdict s ≡ accepte
   pub empty-histogram : (chip c : ℕ) (ys : List Item) → HistogramIn (f .items) chip c ys → ((b n : ℕ) → BinIn ys b n → ⊥) → (found : List ℕ) → 4096 ≤ length found
       → (countsAt s chip c (length found) ≡ accepted ys) × ((b : ℕ) → b < 4096 → getD (countsLeft (countsAt s chip c (length found)) found) b 0 ≡ 0)
   empty-histogram = fill.empty-counts s bytes f v
+
+  -- T41. The word of a sample, the index that a correction takes: the first word of the Sample that stands at that time of the channel in the event,
+  pub sample-word-exactly : (e chip c t w : ℕ) → (sampleWordAt s e chip c t ≡ accepted w) ↔ ((n : ℕ) × SampleAt (f .items) e chip c t w n)
+  sample-word-exactly = word.sample-exactly s bytes f v
+
+  -- and 13 where none stands: no such event, channel or sample
+  pub sample-word-absent : (e chip c t : ℕ) → (sampleWordAt s e chip c t ≡ refused 13 0) ↔ ((ys : List Item) (n : ℕ) → ChannelIn (f .items) e chip c ys → SampleIn ys t n → ⊥)
+  sample-word-absent = word.sample-absent s bytes f v
+
+  -- what stands at that word is a spot of kind 1, under that chip and channel, of the value that the samples question leaves at that time
+  pub sample-word-left : (e chip c t w : ℕ) → sampleWordAt s e chip c t ≡ accepted w → (found : List ℕ) → 512 ≤ length found
+      → (n : ℕ) × (spot s w ≡ some (record { kind = 1; value = n; header = record { card = f .card; chip = chip; channel = c } }))
+      × (getD (samplesLeft (samplesAt s e chip c (length found)) found) t 0 ≡ n)
+  sample-word-left = word.sample-left s bytes f v
+
+  -- of a channel that stands, 13 exactly where that question leaves 0xFFFF; no sample is after 511
+  pub sample-word-blank : (e chip c : ℕ) (ys : List Item) → ChannelIn (f .items) e chip c ys → (found : List ℕ) → 512 ≤ length found → (t : ℕ) → t < 512
+      → (sampleWordAt s e chip c t ≡ refused 13 0) ↔ (getD (samplesLeft (samplesAt s e chip c (length found)) found) t 0 ≡ 0xFFFF)
+  sample-word-blank = word.sample-blank s bytes f v
+
+  pub sample-word-late : (e chip c t : ℕ) → 512 ≤ t → sampleWordAt s e chip c t ≡ refused 13 0
+  sample-word-late = word.sample-late s bytes f v
+
+  -- the word of a bin: the first word of the Bin of that number in the histogram, and 13 where none stands: no such histogram or bin
+  pub bin-word-exactly : (chip c b w : ℕ) → (binWordAt s chip c b ≡ accepted w) ↔ ((n : ℕ) × BinAt (f .items) chip c b w n)
+  bin-word-exactly = word.bin-exactly s bytes f v
+
+  pub bin-word-absent : (chip c b : ℕ) → (binWordAt s chip c b ≡ refused 13 0) ↔ ((ys : List Item) (n : ℕ) → HistogramIn (f .items) chip c ys → BinIn ys b n → ⊥)
+  bin-word-absent = word.bin-absent s bytes f v
+
+  -- what stands at that word is a spot of kind 2, under that chip and channel, of the count that the counts question leaves at that number
+  pub bin-word-left : (chip c b w : ℕ) → binWordAt s chip c b ≡ accepted w → (found : List ℕ) → 4096 ≤ length found
+      → (n : ℕ) × (spot s w ≡ some (record { kind = 2; value = n; header = record { card = f .card; chip = chip; channel = c } }))
+      × (getD (countsLeft (countsAt s chip c (length found)) found) b 0 ≡ n)
+  bin-word-left = word.bin-left s bytes f v
+
+  -- of a histogram that stands, 13 exactly where that question leaves 0
+  pub bin-word-blank : (chip c : ℕ) (ys : List Item) → HistogramIn (f .items) chip c ys → (found : List ℕ) → 4096 ≤ length found → (b : ℕ) → b < 4096
+      → (binWordAt s chip c b ≡ refused 13 0) ↔ (getD (countsLeft (countsAt s chip c (length found)) found) b 0 ≡ 0)
+  bin-word-blank = word.bin-blank s bytes f v
+
+  pub bin-word-far : (chip c b : ℕ) → 4096 ≤ b → binWordAt s chip c b ≡ refused 13 0
+  bin-word-far = word.bin-far s bytes f v

@@ -80,7 +80,7 @@ one-of ms n blank i v v′ k k′ r a b =
     (h, one-value k k′ i v v′ ms h a b)
 
 module _ (f : Frame) (h : Sounds f) (e chip c : ℕ) (ys : List Item) (i : ChannelIn (f .items) e chip c ys) where
-  sample-rise : Rise 0 512 0xFFFF (sampleMarks 0 ys)
+  pub sample-rise : Rise 0 512 0xFFFF (sampleMarks 0 ys)
   sample-rise =
       samples-rise (f .kind) (f .card) _ ys (i .card) chip c
       (channel-sound (f .kind) (f .card) (f .items) (h .sound) (h .closed) e chip c ys i)
@@ -104,12 +104,15 @@ module _ (f : Frame) (h : Sounds f) (e chip c : ℕ) (ys : List Item) (i : Chann
       room)
 
 module _ (f : Frame) (h : Sounds f) (chip c : ℕ) (ys : List Item) (i : HistogramIn (f .items) chip c ys) where
-  bin-rise : Rise 0 4096 0 (binMarks ys)
+  pub bin-rise : Rise 0 4096 0 (binMarks ys)
   bin-rise = bins-rise (f .kind) (f .card) _ ys (histogram-sound (f .kind) (f .card) (f .items) (h .sound) chip c ys i)
 
   -- no two Bins have one number
   pub one-bin : (b n n′ : ℕ) (x : BinIn ys b n) (y : BinIn ys b n′) → (binOrdinal x ≡ binOrdinal y) × (n ≡ n′)
   one-bin b n n′ x y = one-of (binMarks ys) 4096 0 b n n′ (binOrdinal x) (binOrdinal y) bin-rise (bin-mark ys b n x) (bin-mark ys b n′ y)
+
+  pub bin-number : (b n : ℕ) → BinIn ys b n → b < 4096
+  bin-number b n x = in-bounds 0 4096 0 (binOrdinal x) b n (binMarks ys) bin-rise (bin-mark ys b n x) .1
 
   pub counts-fill : (found : List ℕ) → 4096 ≤ length found → Fill 4096 0 (BinIn ys) found (countsLeft (accepted ys) found)
   counts-fill found room =

@@ -31,7 +31,7 @@ no-pass : {A : Type 0} → false ≡ true → A
 no-pass e = absurd (true≢false (sym e))
 
 -- the headers of a chip and a channel
-as-channel : (chip c : ℕ) (x : Item) → isChannel chip c x ≡ true → (a : ℕ) × (x ≡ Channel a chip c)
+pub as-channel : (chip c : ℕ) (x : Item) → isChannel chip c x ≡ true → (a : ℕ) × (x ≡ Channel a chip c)
 as-channel chip c (Channel a b d) e =
     (a, ap₂ (Channel a) (eqb-true b chip (and-left (eqb b chip) (eqb d c) e)) (eqb-true d c (and-right (eqb b chip) (eqb d c) e)))
 as-channel chip c (Histogram a b d) e = no-pass e
@@ -44,7 +44,7 @@ as-channel chip c (Text s) e = no-pass e
 as-channel chip c (StartEvent t ts n) e = no-pass e
 as-channel chip c (EndEvent n) e = no-pass e
 
-as-histogram : (chip c : ℕ) (x : Item) → isHistogram chip c x ≡ true → (a : ℕ) × (x ≡ Histogram a chip c)
+pub as-histogram : (chip c : ℕ) (x : Item) → isHistogram chip c x ≡ true → (a : ℕ) × (x ≡ Histogram a chip c)
 as-histogram chip c (Channel a b d) e = no-pass e
 as-histogram chip c (Histogram a b d) e =
     (a, ap₂ (Histogram a) (eqb-true b chip (and-left (eqb b chip) (eqb d c) e)) (eqb-true d c (and-right (eqb b chip) (eqb d c) e)))
@@ -97,7 +97,7 @@ module _ (f : Item → Bool) where
       go false q i = rw (q, i)
 
 -- the items before the first End event
-until-end : (between after : List Item) (m : ℕ) → count endEvent between ≡ 0 → until endEvent (between ++ (EndEvent m ∷ after)) ≡ between
+pub until-end : (between after : List Item) (m : ℕ) → count endEvent between ≡ 0 → until endEvent (between ++ (EndEvent m ∷ after)) ≡ between
 unfolding until count
 until-end [] after m h = refl
 until-end (x ∷ xs) after m h =
@@ -105,7 +105,7 @@ until-end (x ∷ xs) after m h =
 
 -- ---- channels
 
-present-is : {A : Type 0} (o : Option A) (a : A) → present o ≡ accepted a → o ≡ some a
+pub present-is : {A : Type 0} (o : Option A) (a : A) → present o ≡ accepted a → o ≡ some a
 present-is none a e = let z : _≡_ {A = ℕ} 0 1 = cc in absurd (omega arith)
 present-is (some b) a e = cc
 

@@ -12,12 +12,12 @@ use lib.ListN.{length, take, drop, length-append}
 use lib.Seq.{length-take-le, take-append-le, drop-append-add, take-all}
 use borrow.Author.Tests.{leb-true, leb-false}
 use Rattle.format.specs.Words.{Bytes, words, bytes, nonZero}
-use Rattle.format.specs.Answers.{accepted, refused}
+use Rattle.format.specs.Answers.{Outcome, accepted, refused}
 use Rattle.format.specs.Book.{text}
 use Rattle.format.specs.Items.{Item, Channel, Histogram, HitCount, Sample, Bin, LastCell, TimeBin, Text, StartEvent, EndEvent, classFor, wordsOf, fits}
 use Rattle.format.specs.Rules.{Kind, same}
 use Rattle.format.specs.Frames.{Frame, Sound, allWords, frameWords, encode, lastOf, verdict}
-use Rattle.format.specs.Questions.{nth, itemAt, textIn, textFound, textAt, pickNth}
+use Rattle.format.specs.Questions.{IndexedItem, nth, itemAt, textIn, textFound, textAt, pickNth}
 use Rattle.format.specs.Stands.{ItemIs, indexOf}
 use Rattle.format.proofs.book.PrefixLaws.{and-left, and-right}
 use Rattle.format.proofs.items.WordLaws.{bytes-append, length-bytes, length-words}
@@ -127,17 +127,21 @@ index-rises n xs h =
     let (x, e) = picked n xs h in
     omega (arith, index-next n xs x e, some-word x)
 
+found-alike : (i j : ℕ) (x y : Item) (k l : ℕ) → i ≡ j → x ≡ y → k ≡ l
+    → _≡_ {A = Outcome IndexedItem} (accepted (record { index = i; item = x; next = k })) (accepted (record { index = j; item = y; next = l }))
+found-alike i j x y k l e f g = λ p. accepted (record { index = e p; item = f p; next = g p })
+
 -- the item walked to, from word `at` on
 nth-there : (n at : ℕ) (xs : List Item) (x : Item) → Picks xs n x
-    → nth n at xs ≡ accepted (record { item = x; next = at + length (allWords (take (suc n) xs)) })
+    → nth n at xs ≡ accepted (record { index = at + length (allWords (take n xs)); item = x; next = at + length (allWords (take (suc n) xs)) })
 unfolding nth pickNth allWords
 nth-there n at [] x e = no-some x e
 nth-there zero at (y ∷ xs) x e =
-    ap₂ (λ (i : Item) (k : ℕ). accepted (record { item = i; next = k })) (some-is y x e)
-    (ap (λ (l : List ℕ). at + length l) (sym (append-nil (wordsOf y))))
+    found-alike _ _ _ _ _ _ (omega arith) (some-is y x e) (ap (λ (l : List ℕ). at + length l) (sym (append-nil (wordsOf y))))
 nth-there (suc n) at (y ∷ xs) x e =
     nth-there n (at + length (wordsOf y)) xs x e
-    ∙ ap (λ (k : ℕ). accepted (record { item = x; next = k })) (omega (arith, length-append (wordsOf y) (allWords (take (suc n) xs))))
+    ∙ found-alike _ _ _ _ _ _ (omega (arith, length-append (wordsOf y) (allWords (take n xs)))) refl
+    (omega (arith, length-append (wordsOf y) (allWords (take (suc n) xs))))
 
 nth-past : (n at : ℕ) (xs : List Item) → length xs ≤ n → nth n at xs ≡ refused 13 0
 unfolding nth
@@ -148,7 +152,7 @@ nth-past (suc n) at (y ∷ xs) h = nth-past n (at + length (wordsOf y)) xs (omeg
 -- ---- T10
 
 module _ (s : List ℕ) (f : Frame) (v : verdict s ≡ accepted f) where
-  pub item-there : (n : ℕ) (x : Item) → ItemIs (f .items) n x → itemAt s n ≡ accepted (record { item = x; next = indexOf (f .items) (suc n) })
+  pub item-there : (n : ℕ) (x : Item) → ItemIs (f .items) n x → itemAt s n ≡ accepted (record { index = indexOf (f .items) n; item = x; next = indexOf (f .items) (suc n) })
   unfolding itemAt
   item-there n x h = rw v (nth-there n 3 (f .items) x (picks (f .items) n x h))
 

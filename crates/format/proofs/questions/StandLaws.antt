@@ -106,12 +106,12 @@ sample-mark ys t v h =
     ∙ before-marks 0 t v (h .time) (h .before) (h .run) (h .after) (h .same-channel) (h .samples) (h .at)
 
 -- a mark is of a Sample behind a Time bin, or of one before any, the first of which would be at time u
-record StretchIn (u : ℕ) (ys : List Item) (t v : ℕ) : Type 0 where
-  run : List Item
-  after : List Item
-  items : ys ≡ run ++ (Sample v ∷ after)
-  samples : only (sample ∷ []) run ≡ true
-  at : t ≡ u + length run
+pub record StretchIn (u : ℕ) (ys : List Item) (t v : ℕ) : Type 0 where
+  pub run : List Item
+  pub after : List Item
+  pub items : ys ≡ run ++ (Sample v ∷ after)
+  pub samples : only (sample ∷ []) run ≡ true
+  pub at : t ≡ u + length run
 
 one-more : (x : Item) (ys : List Item) (t v : ℕ) → among (classFor x) (timeBin ∷ sample ∷ []) ≡ true → SampleIn ys t v → SampleIn (x ∷ ys) t v
 unfolding only
@@ -156,23 +156,26 @@ mark-in u k t v (StartEvent a ts n ∷ ys) e = no-some (t, v) e
 mark-in u k t v (EndEvent n ∷ ys) e = no-some (t, v) e
 
 -- behind a Channel header comes no Sample at once
-pub sample-in : (kind : Kind) (card a b c k t v : ℕ) (p ys : List Item) → Sound kind card (Channel a b c ∷ p) ys → MarkIs (sampleMarks 0 ys) k t v → SampleIn ys t v
+pub no-run : (kind : Kind) (card a b c u t v : ℕ) (p ys : List Item) → Sound kind card (Channel a b c ∷ p) ys → StretchIn u ys t v → ⊥
 unfolding only
-sample-in kind card a b c k t v p ys s e = go (mark-in 0 k t v ys e)
+no-run kind card a b c u t v p ys s r = go (r .run) (r .after) (r .items) (r .samples)
   where
     not-first : (w : ℕ) (r : List Item) → ys ≡ Sample w ∷ r → ⊥
     not-first w r i =
         no-place kind (Channel a b c ∷ p) channel sample refl refl refl refl refl
         (sound-head kind card _ _ _ (subst (Sound kind card (Channel a b c ∷ p)) i s) .placed)
 
-    no-run : (run after : List Item) → ys ≡ run ++ (Sample v ∷ after) → only (sample ∷ []) run ≡ true → ⊥
-    no-run [] after i o = not-first v after i
-    no-run (x ∷ run) after i o =
+    go : (run after : List Item) → ys ≡ run ++ (Sample v ∷ after) → only (sample ∷ []) run ≡ true → ⊥
+    go [] after i o = not-first v after i
+    go (x ∷ run) after i o =
         let (w, j) = as-sample x (and-left (among (classFor x) (sample ∷ [])) (only (sample ∷ []) run) o) in
         not-first w (run ++ (Sample v ∷ after)) (i ∙ ap (λ (y : Item). y ∷ (run ++ (Sample v ∷ after))) j)
 
+pub sample-in : (kind : Kind) (card a b c k t v : ℕ) (p ys : List Item) → Sound kind card (Channel a b c ∷ p) ys → MarkIs (sampleMarks 0 ys) k t v → SampleIn ys t v
+sample-in kind card a b c k t v p ys s e = go (mark-in 0 k t v ys e)
+  where
     go : StretchIn 0 ys t v ⊎ SampleIn ys t v → SampleIn ys t v
-    go (inl r) = absurd (no-run (r .run) (r .after) (r .items) (r .samples))
+    go (inl r) = absurd (no-run kind card a b c 0 t v p ys s r)
     go (inr h) = h
 
 -- ---- bins

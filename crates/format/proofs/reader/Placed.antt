@@ -6,7 +6,7 @@ use mathlib.Core.Path.{_≡_, refl, sym, ap, ap₂, subst, _∙_}
 use mathlib.Core.List.{List, [], _∷_, map}
 use native.Mathlib.Omega.{arith}
 use mathlib.Core.Bool.{Bool, true, false}
-use mathlib.Core.Option.{Option}
+use mathlib.Core.Option.{Option, none, some}
 use lib.Dec.{leb}
 use lib.ListN.{length, take, length-append}
 use borrow.Author.Tests.{leb-true, leb-false, eq-eqb, ne-eqb}
@@ -14,7 +14,7 @@ use Rattle.format.specs.Answers.{Outcome, accepted, refused, andThen}
 use Rattle.format.specs.Items.{Item, wordsOf, Token, whole}
 use Rattle.format.specs.Rules.{Kind, total}
 use Rattle.format.specs.Frames.{Frame, earlierThen, allWords, lastOf, kindIn, cardIn, front, body, walk, verdict}
-use Rattle.format.specs.Questions.{Found, shown, nth, itemAt, shownAt, present}
+use Rattle.format.specs.Questions.{Found, Shown, IndexedItem, IndexedShown, shown, showing, nth, itemAt, shownAt, present}
 use Rattle.format.specs.Cursor.{standingAt, shownBy}
 use Rattle.format.specs.Steps.{tokenAt, nextAt, rest, indexIn, overview, Indexed, indexOf}
 use Rattle.format.proofs.verdict.WalkLaws.{walk-step}
@@ -92,7 +92,7 @@ module _ (s : List ℕ) (last : ℕ) (room : 2 * last ≤ length s + 1) where
     token : tokenAt s last here ≡ whole item
     further : here < nextAt s here
     within : nextAt s here ≤ last
-    answer : nth n at xs ≡ accepted (record { item = item; next = nextAt s here })
+    answer : nth n at xs ≡ accepted (record { index = here; item = item; next = nextAt s here })
 
   not-past : (at : ℕ) (x : Item) (xs : List Item) → rest s last at ≡ whole x ∷ map whole xs → at < last
   not-past at x xs e = go (leb last at) refl
@@ -118,7 +118,7 @@ module _ (s : List ℕ) (last : ℕ) (room : 2 * last ≤ length s + 1) where
         token = t;
         further = w .further;
         within = w .within;
-        answer = ap (λ (k : ℕ). accepted (record { item = x; next = k })) (sym (w .wide));
+        answer = ap (λ (k : ℕ). accepted (record { index = at; item = x; next = k })) (sym (w .wide));
       }
   stand (suc n) at (x ∷ xs) h e =
       let b = not-past at x xs e in
@@ -145,7 +145,12 @@ pub record Placed (s : List ℕ) (n at : ℕ) : Type 0 where
   pub token : tokenAt s (lastOf s) at ≡ whole item
   pub further : at < nextAt s at
   pub within : nextAt s at ≤ lastOf s
-  pub answer : itemAt s n ≡ accepted (record { item = item; next = nextAt s at })
+  pub answer : itemAt s n ≡ accepted (record { index = at; item = item; next = nextAt s at })
+
+-- what the item question answers where the cursor finds this at word `at`
+abbrev pub answerAt : ℕ → Option Shown → Outcome IndexedShown
+answerAt at none = refused 13 0
+answerAt at (some r) = accepted (record { index = at; item = r .item; next = r .next })
 
 abbrev noting : ℕ → Frame → Indexed
 noting n f = record { frame = overview f; index = indexIn n (earlierThen [] (f .items)) }
@@ -172,7 +177,7 @@ module _ (s : List ℕ) (n : ℕ) where
   unfolding indexOf
   index-refused k p e = go (verdict s) refl e
     where
-      inner : (k j p q : ℕ) → _≡_ {A = Outcome Indexed} (refused k p) (refused j q) → _≡_ {A = Outcome Found} (refused j q) (refused k p)
+      inner : (k j p q : ℕ) → _≡_ {A = Outcome Indexed} (refused k p) (refused j q) → _≡_ {A = Outcome IndexedItem} (refused j q) (refused k p)
       inner k j p q g = cc
 
       go : (o : Outcome Frame) → verdict s ≡ o → refused k p ≡ andThen o (λ f. accepted (noting n f)) → itemAt s n ≡ refused k p
@@ -204,31 +209,31 @@ module _ (s : List ℕ) (n : ℕ) where
         let r = stand s (lastOf s) room n 3 (f .items) (omega arith) (body-whole s f v) in
         let b : 3 ≤ r .here = omega (arith, r .here-is) in
         let k : r .here ≡ i .index = r .here-is ∙ sym (ap (λ (j : Indexed). j .index) (o .is) ∙ index-all n (f .items) (omega arith)) in
-        let q : itemAt s n ≡ accepted (record { item = r .item; next = nextAt s (r .here) }) = rw v (r .answer) in
+        let q : itemAt s n ≡ accepted (record { index = r .here; item = r .item; next = nextAt s (r .here) }) = rw v (r .answer) in
         subst (Placed s n) k (record { item = r .item; late = b; token = r .token; further = r .further; within = r .within; answer = q })
 
-    -- so the item question's answer is what the cursor finds at the index that was noted
-    pub item-standing : present (shownBy (standingAt s (i .index))) ≡ shownAt s n
+    -- so the item question's answer is that index, and what the cursor finds there
+    pub item-standing : answerAt (i .index) (shownBy (standingAt s (i .index))) ≡ shownAt s n
     unfolding shownAt
     item-standing = go (leb (i .frame .items) n) refl
       where
-        go : (b : Bool) → leb (i .frame .items) n ≡ b → present (shownBy (standingAt s (i .index))) ≡ shownAt s n
+        go : (b : Bool) → leb (i .frame .items) n ≡ b → answerAt (i .index) (shownBy (standingAt s (i .index))) ≡ shownAt s n
         go true h =
             let z = none-placed (leb-true _ _ h) in
-            ap (λ (o : Option Found). present (shownBy o)) (standing-early s (i .index) (omega arith)) ∙ sym (ap (λ (o : Outcome Found). andThen o (λ r. accepted (record { item = shown (r .item); next = r .next }))) (item-absent (leb-true _ _ h)))
+            ap (λ (o : Option Found). answerAt (i .index) (shownBy o)) (standing-early s (i .index) (omega arith)) ∙ sym (ap (λ (o : Outcome IndexedItem). andThen o (λ r. accepted (showing r))) (item-absent (leb-true _ _ h)))
         go false h =
             let p = item-placed (leb-false _ _ h) in
             let b = p .further in
             let c = p .within in
-            ap (λ (o : Option Found). present (shownBy o)) (standing-in s (i .index) (whole (p .item)) (nextAt s (i .index)) (p .late) (omega arith) (record { token = p .token; follow = refl }))
-            ∙ sym (ap (λ (o : Outcome Found). andThen o (λ r. accepted (record { item = shown (r .item); next = r .next }))) (p .answer))
+            ap (λ (o : Option Found). answerAt (i .index) (shownBy o)) (standing-in s (i .index) (whole (p .item)) (nextAt s (i .index)) (p .late) (omega arith) (record { token = p .token; follow = refl }))
+            ∙ sym (ap (λ (o : Outcome IndexedItem). andThen o (λ r. accepted (showing r))) (p .answer))
 
 -- what the item question finds stands whole at a word
-pub found-placed : (s : List ℕ) (n : ℕ) (r : Found) → itemAt s n ≡ accepted r → (at : ℕ) × Placed s n at
+pub found-placed : (s : List ℕ) (n : ℕ) (r : IndexedItem) → itemAt s n ≡ accepted r → (at : ℕ) × Placed s n at
 unfolding itemAt indexOf
 found-placed s n r e = go (verdict s) refl
   where
-    no : {A : Type 0} (k p : ℕ) → _≡_ {A = Outcome Found} (refused k p) (accepted r) → A
+    no : {A : Type 0} (k p : ℕ) → _≡_ {A = Outcome IndexedItem} (refused k p) (accepted r) → A
     no k p f = let z : _≡_ {A = ℕ} 0 1 = cc in absurd (omega arith)
 
     go : (o : Outcome Frame) → verdict s ≡ o → (at : ℕ) × Placed s n at

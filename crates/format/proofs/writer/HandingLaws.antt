@@ -14,7 +14,7 @@ use Rattle.format.specs.Book.{Class, text}
 use Rattle.format.specs.Items.{Item, Channel, Histogram, HitCount, Sample, Bin, LastCell, TimeBin, Text, StartEvent, EndEvent, wordsOf, Token, whole, broken}
 use Rattle.format.specs.Rules.{Kind}
 use Rattle.format.specs.Frames.{Frame, startWord, allWords, frameWords, encode, Legal, Sound, verdict}
-use Rattle.format.specs.Questions.{Shown, shown, shownAt}
+use Rattle.format.specs.Questions.{IndexedShown, shown, shownAt}
 use Rattle.format.specs.Stands.{ItemIs, indexOf}
 use Rattle.format.specs.Steps.{Overview, overview, readOf}
 use Rattle.format.specs.WriterCalls.{callsDone, writeAll}
@@ -29,18 +29,18 @@ use Rattle.format.proofs.writer.Completeness.{written, too-short, writi
 -- ---- one item
 
 -- THE LAW of the answers: by document 01's columns, they are the item's words
-pub told-words : (x : Item) (next : ℕ) → answerWords (itemAnswerOf x next) ≡ wordsOf x
+pub told-words : (index : ℕ) (x : Item) (next : ℕ) → answerWords (itemAnswerOf index x next) ≡ wordsOf x
 unfolding wordsOf
-told-words (Channel a b c) next = ap (λ (w : ℕ). w ∷ []) (omega arith)
-told-words (Histogram a b c) next = ap (λ (w : ℕ). w ∷ []) (omega arith)
-told-words (HitCount a b c) next = ap (λ (w : ℕ). w ∷ []) (omega arith)
-told-words (Sample v) next = ap (λ (w : ℕ). w ∷ []) (omega arith)
-told-words (Bin b m) next = ap (λ (w : ℕ). w ∷ longWords m) (omega arith)
-told-words (LastCell a b) next = ap (λ (w : ℕ). w ∷ []) (omega arith)
-told-words (TimeBin t) next = ap (λ (w : ℕ). w ∷ []) (omega arith)
-told-words (Text s) next = ap (λ (w : ℕ). w ∷ words (s ++ (0 ∷ []))) (omega arith)
-told-words (StartEvent t ts m) next = ap (λ (w : ℕ). w ∷ (timeWords ts ++ longWords m)) (omega arith)
-told-words (EndEvent m) next = refl
+told-words index (Channel a b c) next = ap (λ (w : ℕ). w ∷ []) (omega arith)
+told-words index (Histogram a b c) next = ap (λ (w : ℕ). w ∷ []) (omega arith)
+told-words index (HitCount a b c) next = ap (λ (w : ℕ). w ∷ []) (omega arith)
+told-words index (Sample v) next = ap (λ (w : ℕ). w ∷ []) (omega arith)
+told-words index (Bin b m) next = ap (λ (w : ℕ). w ∷ longWords m) (omega arith)
+told-words index (LastCell a b) next = ap (λ (w : ℕ). w ∷ []) (omega arith)
+told-words index (TimeBin t) next = ap (λ (w : ℕ). w ∷ []) (omega arith)
+told-words index (Text s) next = ap (λ (w : ℕ). w ∷ words (s ++ (0 ∷ []))) (omega arith)
+told-words index (StartEvent t ts m) next = ap (λ (w : ℕ). w ∷ (timeWords ts ++ longWords m)) (omega arith)
+told-words index (EndEvent m) next = refl
 
 -- THE LAW of the arguments: handed over as it is answered, an item is itself
 pub handed-over : (x : Item) → tokenOfCall (handOver x) ≡ whole x
@@ -90,7 +90,7 @@ all-back (c ∷ cs) (x ∷ xs) e = ap₂ _∷_ (handed-back c x (cc)) (all-back 
 -- what is told of the items from ordinal n on
 unfoldable tellFrom : List Item → ℕ → List Item → List ItemAnswer
 tellFrom all n [] = []
-tellFrom all n (x ∷ xs) = itemAnswerOf x (indexOf all (suc n)) ∷ tellFrom all (suc n) xs
+tellFrom all n (x ∷ xs) = itemAnswerOf (indexOf all n) x (indexOf all (suc n)) ∷ tellFrom all (suc n) xs
 
 tell-long : (all : List Item) (n : ℕ) (xs : List Item) → length (tellFrom all n xs) ≡ length xs
 unfolding tellFrom
@@ -100,7 +100,7 @@ tell-long all n (x ∷ xs) = ap suc (tell-long all (suc n) xs)
 tell-words : (all : List Item) (n : ℕ) (xs : List Item) → allAnswerWords (tellFrom all n xs) ≡ allWords xs
 unfolding tellFrom allAnswerWords allWords
 tell-words all n [] = refl
-tell-words all n (x ∷ xs) = ap₂ _++_ (told-words x (indexOf all (suc n))) (tell-words all (suc n) xs)
+tell-words all n (x ∷ xs) = ap₂ _++_ (told-words (indexOf all n) x (indexOf all (suc n))) (tell-words all (suc n) xs)
 
 tell-calls : (all : List Item) (n : ℕ) (xs : List Item) → map callOf (tellFrom all n xs) ≡ map handOver xs
 unfolding tellFrom
@@ -127,18 +127,37 @@ unfolding tellFrom allAnswerWords allWords
 tell-next all [] p n e h [] after x q = let z : _≡_ {A = ℕ} 0 1 = cc in absurd (omega arith)
 tell-next all [] p n e h (b ∷ before) after x q = let z : _≡_ {A = ℕ} 0 1 = cc in absurd (omega arith)
 tell-next all (y ∷ ys) p n e h [] after x q =
-    let i : x ≡ itemAnswerOf y (indexOf all (suc n)) = sym (first-told _ x _ after q) in
+    let i : x ≡ itemAnswerOf (indexOf all n) y (indexOf all (suc n)) = sym (first-told _ x _ after q) in
     let k : x .answer .next ≡ indexOf all (suc n) = ap (λ (t : ItemAnswer). t .answer .next) i in
     let t : take (suc n) all ≡ p ++ (y ∷ []) = ap (take (suc n)) (e ∙ sym (one-more p y ys)) ∙ take-at (p ++ (y ∷ [])) ys (suc n) (longer p y n h) in
     let u : length (allWords (take (suc n) all)) ≡ length (allWords p ++ (wordsOf y ++ [])) = ap (λ (l : List Item). length (allWords l)) t ∙ ap length (all-words p (y ∷ [])) in
-    let v : length (answerWords x ++ []) ≡ length (wordsOf y ++ []) = ap (λ (t : ItemAnswer). length (answerWords t ++ [])) i ∙ ap (λ (l : List ℕ). length (l ++ [])) (told-words y (indexOf all (suc n))) in
+    let v : length (answerWords x ++ []) ≡ length (wordsOf y ++ []) = ap (λ (t : ItemAnswer). length (answerWords t ++ [])) i ∙ ap (λ (l : List ℕ). length (l ++ [])) (told-words (indexOf all n) y (indexOf all (suc n))) in
     omega (arith, length-append (allWords p) (wordsOf y ++ []))
 tell-next all (y ∷ ys) p n e h (b ∷ before) after x q =
-    let i : b ≡ itemAnswerOf y (indexOf all (suc n)) = sym (first-told _ b _ (before ++ (x ∷ after)) q) in
+    let i : b ≡ itemAnswerOf (indexOf all n) y (indexOf all (suc n)) = sym (first-told _ b _ (before ++ (x ∷ after)) q) in
     let r = tell-next all ys (p ++ (y ∷ [])) (suc n) (e ∙ sym (one-more p y ys)) (longer p y n h) before after x (later-told _ b _ (before ++ (x ∷ after)) q) in
     let u : length (allWords (p ++ (y ∷ []))) ≡ length (allWords p ++ (wordsOf y ++ [])) = ap length (all-words p (y ∷ [])) in
-    let v : length (answerWords b) ≡ length (wordsOf y) = ap (λ (t : ItemAnswer). length (answerWords t)) i ∙ ap length (told-words y (indexOf all (suc n))) in
+    let v : length (answerWords b) ≡ length (wordsOf y) = ap (λ (t : ItemAnswer). length (answerWords t)) i ∙ ap length (told-words (indexOf all n) y (indexOf all (suc n))) in
     omega (arith, length-append (allWords p) (wordsOf y ++ []), length-append (wordsOf y) [], length-append (answerWords b) (allAnswerWords (before ++ (x ∷ []))))
+
+-- and begins where those before it end
+tell-index : (all ys p : List Item) (n : ℕ) → all ≡ p ++ ys → length p ≡ n → (before after : List ItemAnswer) (x : ItemAnswer) → tellFrom all n ys ≡ before ++ (x ∷ after)
+    → x .answer .index ≡ 3 + length (allWords p) + length (allAnswerWords before)
+unfolding tellFrom allAnswerWords allWords
+tell-index all [] p n e h [] after x q = let z : _≡_ {A = ℕ} 0 1 = cc in absurd (omega arith)
+tell-index all [] p n e h (b ∷ before) after x q = let z : _≡_ {A = ℕ} 0 1 = cc in absurd (omega arith)
+tell-index all (y ∷ ys) p n e h [] after x q =
+    let i : x ≡ itemAnswerOf (indexOf all n) y (indexOf all (suc n)) = sym (first-told _ x _ after q) in
+    let k : x .answer .index ≡ indexOf all n = ap (λ (t : ItemAnswer). t .answer .index) i in
+    let t : take n all ≡ p = ap (take n) e ∙ take-at p (y ∷ ys) n h in
+    let u : length (allWords (take n all)) ≡ length (allWords p) = ap (λ (l : List Item). length (allWords l)) t in
+    omega arith
+tell-index all (y ∷ ys) p n e h (b ∷ before) after x q =
+    let i : b ≡ itemAnswerOf (indexOf all n) y (indexOf all (suc n)) = sym (first-told _ b _ (before ++ (x ∷ after)) q) in
+    let r = tell-index all ys (p ++ (y ∷ [])) (suc n) (e ∙ sym (one-more p y ys)) (longer p y n h) before after x (later-told _ b _ (before ++ (x ∷ after)) q) in
+    let u : length (allWords (p ++ (y ∷ []))) ≡ length (allWords p ++ (wordsOf y ++ [])) = ap length (all-words p (y ∷ [])) in
+    let v : length (answerWords b) ≡ length (wordsOf y) = ap (λ (t : ItemAnswer). length (answerWords t)) i ∙ ap length (told-words (indexOf all n) y (indexOf all (suc n))) in
+    omega (arith, length-append (allWords p) (wordsOf y ++ []), length-append (wordsOf y) [], length-append (answerWords b) (allAnswerWords before))
 
 -- two callers are told the same
 pub told-once : {s : List ℕ} {n : ℕ} {xs ys : List ItemAnswer} → Answers s n xs → Answers s n ys → length xs ≡ length ys → xs ≡ ys
@@ -150,7 +169,7 @@ told-once (then {x = x} a b k) (then {x = y} c d l) h =
     let j : x .text ≡ y .text = sym b ∙ d in
     ap₂ _∷_ (λ i′. record { answer = i i′; text = j i′ }) (told-once k l (omega arith))
   where
-    same-answer : (a b : Shown) → accepted a ≡ accepted b → a ≡ b
+    same-answer : (a b : IndexedShown) → accepted a ≡ accepted b → a ≡ b
     same-answer a b e = cc
 
 -- ---- T10
@@ -160,7 +179,7 @@ unfolding shownAt
 shown-refused s k p v n = rw (item-refused s k p v n)
 
 module _ (s : List ℕ) (f : Frame) (v : verdict s ≡ accepted f) where
-  pub shown-there : (n : ℕ) (x : Item) → ItemIs (f .items) n x → shownAt s n ≡ accepted (record { item = shown x; next = indexOf (f .items) (suc n) })
+  pub shown-there : (n : ℕ) (x : Item) → ItemIs (f .items) n x → shownAt s n ≡ accepted (record { index = indexOf (f .items) n; item = shown x; next = indexOf (f .items) (suc n) })
   unfolding shownAt
   shown-there n x h = rw (item-there s f v n x h)
 
@@ -183,10 +202,10 @@ module _ (s : List ℕ) (f : Frame) (v : verdict s ≡ accepted f) where
   answers-are xs a h = told-once a answered (h ∙ sym (tell-long (f .items) 0 (f .items)))
 
   -- each of them
-  item-shown : (n : ℕ) → n < length (f .items) → (x : Shown) × (shownAt s n ≡ accepted x)
+  item-shown : (n : ℕ) → n < length (f .items) → (x : IndexedShown) × (shownAt s n ≡ accepted x)
   item-shown n h =
       let (x, i) = item-stands n (f .items) h in
-      (record { item = shown x; next = indexOf (f .items) (suc n) }, shown-there n x i)
+      (record { index = indexOf (f .items) n; item = shown x; next = indexOf (f .items) (suc n) }, shown-there n x i)
 
 -- a frame that `read` accepts, and the frame that it stands for
 record Seen (s : List ℕ) (o : Overview) : Type 0 where
@@ -252,7 +271,7 @@ module _ (s : List ℕ) (o : Overview) (r : readOf s ≡ accepted o) where
       let f = seen s o r in
       (tellFrom (f .frame .items) 0 (f .frame .items), answered s (f .frame) (f .judged), tell-long (f .frame .items) 0 (f .frame .items) ∙ ap (λ (o : Overview). o .items) (f .seen))
 
-  pub each-answered : (n : ℕ) → n < o .items → (x : Shown) × (shownAt s n ≡ accepted x)
+  pub each-answered : (n : ℕ) → n < o .items → (x : IndexedShown) × (shownAt s n ≡ accepted x)
   each-answered n h =
       let f = seen s o r in
       let c : length (f .frame .items) ≡ o .items = ap (λ (o : Overview). o .items) (f .seen) in
@@ -276,6 +295,12 @@ module _ (s : List ℕ) (o : Overview) (r : readOf s ≡ accepted o) where
     told-next before after x q =
         let f = seen s o r in
         tell-next (f .frame .items) (f .frame .items) [] 0 refl refl before after x (sym answers-of ∙ q)
+
+    pub told-index : (before after : List ItemAnswer) (x : ItemAnswer) → xs ≡ before ++ (x ∷ after) → x .answer .index ≡ 3 + length (allAnswerWords before)
+    unfolding allWords
+    told-index before after x q =
+        let f = seen s o r in
+        tell-index (f .frame .items) (f .frame .items) [] 0 refl refl before after x (sym answers-of ∙ q)
 
     -- nothing in the frame goes untold
     pub all-told : Bytes s → s ≡ bytes (frameTold (length s) o xs)

@@ -1,4 +1,4 @@
--- `records::told` meets its contract.
+-- `records::judge_history` meets its contract.
 -- Assumes nothing.
 use native.Mathlib.Omega.{arith}
 use Rattle.ledger.proofs.plane.PlaneFrames.{plane-frames-lawful}

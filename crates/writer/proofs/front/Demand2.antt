@@ -22,7 +22,7 @@ use Rattle.rules.specs.declared.state.Kind.{Kind}
 use Rattle.frame.specs.declared.reading.Frame.{Frame}
 use Rattle.frame.specs.declared.reading.Reading.{Reading}
 use Rattle.frame.specs.declared.reading.Reading.the-variants as reading
-use Rattle.cursor.specs.declared.standing.FoundItem.{FoundItem}
+use Rattle.frame.specs.declared.items.IndexedItem.{IndexedItem}
 use Rattle.frame.specs.declared.items.Found.{Found}
 use Rattle.frame.specs.declared.items.Found.the-variants as found
 use Rattle.rules.specs.Views.{viewKind}
@@ -53,12 +53,16 @@ module _ (s : RefT (List ℕ)) (bytes : Bytes (now s)) (f : Frame) (stands : Sta
   read-as-its-items = copies.its-items s bytes f stands
 
   -- and with each of them "the index of the next item or end word".
-  pub next-index : (n : ℕ) → n < f .items → (x : FoundItem) → ItemAnswered (now s) n (found.Item x) → x .next ≡ indexOf (stands .frame .items) (suc n)
+  pub next-index : (n : ℕ) → n < f .items → (x : IndexedItem) → ItemAnswered (now s) n (found.Item x) → x .next ≡ indexOf (stands .frame .items) (suc n)
   next-index = copies.next-index s bytes f stands
+
+  -- and its own index.
+  pub own-index : (n : ℕ) → n < f .items → (x : IndexedItem) → ItemAnswered (now s) n (found.Item x) → x .index ≡ indexOf (stands .frame .items) n
+  own-index = copies.own-index s bytes f stands
 
 module _ (s : RefT (List ℕ)) (f : Frame) (read : ReadAs (now s) (reading.Accepted f)) where
   -- Each item that `read` counts is answered, no further one is there,
-  pub each-item-is-answered : (n : ℕ) → n < f .items → (r : Found) → ItemAnswered (now s) n r → (x : FoundItem) × (r ≡ found.Item x)
+  pub each-item-is-answered : (n : ℕ) → n < f .items → (r : Found) → ItemAnswered (now s) n r → (x : IndexedItem) × (r ≡ found.Item x)
   each-item-is-answered = copies.item-answered s f read
 
   pub no-further-item : (n : ℕ) → f .items ≤ n → (r : Found) → ItemAnswered (now s) n r → r ≡ found.Refused (record { number = 13; place = 0 })

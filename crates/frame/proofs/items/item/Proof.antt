@@ -1,12 +1,10 @@
 -- `frame::items::item` meets its contract: the item stands at the index that the walk noted.
 -- Assumes nothing.
 use mathlib.Core.Path.{ap, sym, _∙_}
-use Rattle.format.specs.Questions.{present}
-use Rattle.format.proofs.reader.Placed.{item-standing}
-use Rattle.cursor.specs.declared.standing.Standing.{Standing}
+use native.Mathlib.Omega.{arith}
 use Rattle.cursor.specs.Views.{viewStanding}
 use Rattle.frame.specs.Views.{viewIndexed}
-use Rattle.frame.proofs.Finding.{shown-refused}
+use Rattle.frame.proofs.Finding.{shown-refused, item-found, item-missing}
 use borrow.Author.Needs.{needs}
 use Rattle.frame.proofs.items.item.Statement.{statement}
 use Rattle.frame.proofs.items.item.Tie as tie
@@ -34,13 +32,13 @@ returns c = shown-refused _ _ _ _ (sym (ap viewIndexed (c .before .judged .given
 
 returns-2 : tie.Need-returns-2
 returns-2 c =
-    ap (λ (r : Standing). present (viewStanding r)) (sym (c .before .standing .given .1)) ∙ ap present (c .before .before .before .item-at .ensures)
-    ∙ item-standing _ _ _ (sym (ap viewIndexed (c .before .before .before .before .before .judged2 .given .1)) ∙ c .before .before .before .before .before .before .before .judge .ensures)
+    item-found _ _ _ (sym (ap viewIndexed (c .before .before .before .before .before .judged2 .given .1)) ∙ c .before .before .before .before .before .before .before .judge .ensures)
+    _ (sym (ap viewStanding (c .before .standing .given .1)) ∙ c .before .before .before .item-at .ensures) _ (omega arith)
 
 returns-3 : tie.Need-returns-3
 returns-3 c =
-    ap (λ (r : Standing). present (viewStanding r)) (sym (c .enum-told .given .1)) ∙ ap present (c .before .before .item-at .ensures)
-    ∙ item-standing _ _ _ (sym (ap viewIndexed (c .before .before .before .before .judged2 .given .1)) ∙ c .before .before .before .before .before .before .judge .ensures)
+    item-missing _ _ _ (sym (ap viewIndexed (c .before .before .before .before .judged2 .given .1)) ∙ c .before .before .before .before .before .before .judge .ensures)
+    (sym (ap viewStanding (c .enum-told .given .1)) ∙ c .before .before .item-at .ensures)
 
 pub item-spec : {M : Type 1} → statement M
 item-spec =

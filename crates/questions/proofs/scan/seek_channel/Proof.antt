@@ -65,17 +65,17 @@ is-end-requires c κs = search needs
 returns-2 : tie.Need-returns-2 Inv-loop μ-loop
 returns-2 c = let m = c .before .before .before in let v = m .before .before .before .before .before .before .before .loop .inv in seeking-end _ _ _ _ _ (v .1) _ _ (sym (ap viewStanding (m .standing .given .1)) ∙ m .before .before .item-at .ensures) (sym (c .before .is-end .ensures) ∙ c .if4 .taken)
 
-is-channel-requires : tie.Need-is-channel-requires Inv-loop μ-loop
-is-channel-requires c κs = search needs
+is-header-requires : tie.Need-is-header-requires Inv-loop μ-loop
+is-header-requires c κs = search needs
 
 returns-3 : tie.Need-returns-3 Inv-loop μ-loop
-returns-3 c = let m = c .before .before .before .before .before in let v = m .before .before .before .before .before .before .before .loop .inv in seeking-found _ _ _ _ _ (v .1) _ _ (sym (ap viewStanding (m .standing .given .1)) ∙ m .before .before .item-at .ensures) (sym (c .before .before .before .is-end .ensures) ∙ c .before .before .if4 .left) (sym (c .before .is-channel .ensures) ∙ c .if5 .taken)
+returns-3 c = let m = c .before .before .before .before .before in let v = m .before .before .before .before .before .before .before .loop .inv in seeking-found _ _ _ _ _ (v .1) _ _ (sym (ap viewStanding (m .standing .given .1)) ∙ m .before .before .item-at .ensures) (sym (c .before .before .before .is-end .ensures) ∙ c .before .before .if4 .left) (sym (c .before .is-header .ensures) ∙ c .if5 .taken)
 
 loop-less-3 : tie.Need-loop-less-3 Inv-loop μ-loop
 loop-less-3 c = let m = c .before .before .before .before .before in let v = m .before .before .before .before .before .before .before .loop .inv in let f = next-further _ _ _ (v .1 .amid) _ _ (sym (ap viewStanding (m .standing .given .1)) ∙ m .before .before .item-at .ensures) in omega arith
 
 loop-again-3 : tie.Need-loop-again-3 Inv-loop μ-loop
-loop-again-3 c = let m = c .before .before .before .before .before in let v = m .before .before .before .before .before .before .before .loop .inv in (v .0, seeking-next _ _ _ _ _ (v .1) _ _ (sym (ap viewStanding (m .standing .given .1)) ∙ m .before .before .item-at .ensures) (sym (c .before .before .before .is-end .ensures) ∙ c .before .before .if4 .left) (sym (c .before .is-channel .ensures) ∙ c .if5 .left))
+loop-again-3 c = let m = c .before .before .before .before .before in let v = m .before .before .before .before .before .before .before .loop .inv in (v .0, seeking-next _ _ _ _ _ (v .1) _ _ (sym (ap viewStanding (m .standing .given .1)) ∙ m .before .before .item-at .ensures) (sym (c .before .before .before .is-end .ensures) ∙ c .before .before .if4 .left) (sym (c .before .is-header .ensures) ∙ c .if5 .left))
 
 enum-told : tie.Need-enum-told Inv-loop μ-loop
 enum-told c = search needs
@@ -108,7 +108,7 @@ seek-channel-spec =
     enum-known-standing
     is-end-requires
     returns-2
-    is-channel-requires
+    is-header-requires
     returns-3
     loop-less-3
     loop-again-3

@@ -59,17 +59,17 @@ item-at-requires c κs = search needs
 enum-known-standing : tie.Need-enum-known-standing Inv-loop μ-loop
 enum-known-standing c = search needs
 
-is-histogram-requires : tie.Need-is-histogram-requires Inv-loop μ-loop
-is-histogram-requires c κs = search needs
+is-header-requires : tie.Need-is-header-requires Inv-loop μ-loop
+is-header-requires c κs = search needs
 
 returns-2 : tie.Need-returns-2 Inv-loop μ-loop
-returns-2 c = let m = c .before .before .before in let v = m .before .before .before .before .before .before .before .loop .inv in seeking-found _ _ _ _ (v .1) _ _ (sym (ap viewStanding (m .standing .given .1)) ∙ m .before .before .item-at .ensures) (sym (c .before .is-histogram .ensures) ∙ c .if4 .taken)
+returns-2 c = let m = c .before .before .before in let v = m .before .before .before .before .before .before .before .loop .inv in seeking-found _ _ _ _ (v .1) _ _ (sym (ap viewStanding (m .standing .given .1)) ∙ m .before .before .item-at .ensures) (sym (c .before .is-header .ensures) ∙ c .if4 .taken)
 
 loop-less-3 : tie.Need-loop-less-3 Inv-loop μ-loop
 loop-less-3 c = let m = c .before .before .before in let v = m .before .before .before .before .before .before .before .loop .inv in let f = next-further _ _ _ (v .1 .amid) _ _ (sym (ap viewStanding (m .standing .given .1)) ∙ m .before .before .item-at .ensures) in omega arith
 
 loop-again-3 : tie.Need-loop-again-3 Inv-loop μ-loop
-loop-again-3 c = let m = c .before .before .before in let v = m .before .before .before .before .before .before .before .loop .inv in (v .0, seeking-next _ _ _ _ (v .1) _ _ (sym (ap viewStanding (m .standing .given .1)) ∙ m .before .before .item-at .ensures) (sym (c .before .is-histogram .ensures) ∙ c .if4 .left))
+loop-again-3 c = let m = c .before .before .before in let v = m .before .before .before .before .before .before .before .loop .inv in (v .0, seeking-next _ _ _ _ (v .1) _ _ (sym (ap viewStanding (m .standing .given .1)) ∙ m .before .before .item-at .ensures) (sym (c .before .is-header .ensures) ∙ c .if4 .left))
 
 enum-told : tie.Need-enum-told Inv-loop μ-loop
 enum-told c = search needs
@@ -100,7 +100,7 @@ seek-histogram-spec =
     loop-again-2
     item-at-requires
     enum-known-standing
-    is-histogram-requires
+    is-header-requires
     returns-2
     loop-less-3
     loop-again-3

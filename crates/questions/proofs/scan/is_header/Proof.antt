@@ -1,19 +1,21 @@
--- `questions::scan::is_histogram` meets its contract.
+-- `questions::scan::is_header` meets its contract.
 -- Assumes nothing.
 use mathlib.Core.Path.{sym, ap}
-use Rattle.format.specs.Cursor.{unshown}
-use Rattle.format.specs.Questions.{isHistogram}
 use Rattle.book.specs.Views.{viewItem}
 use Rattle.book.specs.declared.items.Item.{Item}
+use Rattle.questions.specs.Sought.{isHeader}
 use borrow.Author.Needs.{needs}
-use Rattle.questions.proofs.scan.is_histogram.Statement.{statement}
-use Rattle.questions.proofs.scan.is_histogram.Tie as tie
-
-enum-told : tie.Need-enum-told
-enum-told c = search needs
+use Rattle.questions.proofs.scan.is_header.Statement.{statement}
+use Rattle.questions.proofs.scan.is_header.Tie as tie
 
 enum-known-item : tie.Need-enum-known-item
 enum-known-item c = search needs
+
+enum-known-item-2 : tie.Need-enum-known-item-2
+enum-known-item-2 c = search needs
+
+enum-told : tie.Need-enum-told
+enum-told c = search needs
 
 enum-told-2 : tie.Need-enum-told-2
 enum-told-2 c = search needs
@@ -36,14 +38,11 @@ enum-told-7 c = search needs
 enum-told-8 : tie.Need-enum-told-8
 enum-told-8 c = search needs
 
-enum-told-9 : tie.Need-enum-told-9
-enum-told-9 c = search needs
-
 returns : tie.Need-returns
-returns c = search needs
+returns c = let a = c .before .before .before .before .before .args in ap (λ (x : Item). isHeader (a .chip) (a .channel) (viewItem x)) (sym (c .before .before .before .item .given .1))
 
 returns-2 : tie.Need-returns-2
-returns-2 c = let a = c .before .before .before .before .before .args in ap (λ (x : Item). isHistogram (a .chip) (a .channel) (unshown (viewItem x))) (sym (c .before .before .before .item .given .1))
+returns-2 c = let a = c .before .before .before .before .before .args in ap (λ (x : Item). isHeader (a .chip) (a .channel) (viewItem x)) (sym (c .before .before .before .item2 .given .1))
 
 returns-3 : tie.Need-returns-3
 returns-3 c = search needs
@@ -69,12 +68,13 @@ returns-9 c = search needs
 returns-10 : tie.Need-returns-10
 returns-10 c = search needs
 
-pub is-histogram-spec : {M : Type 1} → statement M
-is-histogram-spec =
+pub is-header-spec : {M : Type 1} → statement M
+is-header-spec =
     tie.close
     (tie.spec
-    enum-told
     enum-known-item
+    enum-known-item-2
+    enum-told
     enum-told-2
     enum-told-3
     enum-told-4
@@ -82,7 +82,6 @@ is-histogram-spec =
     enum-told-6
     enum-told-7
     enum-told-8
-    enum-told-9
     returns
     returns-2
     returns-3
