@@ -80,16 +80,28 @@ static void last_header(const struct a_case *c, u32 class, u64 *event, u64 *chip
     }
 }
 
-// The last number below `most` that a word question finds.
-static u64 last_found(struct a_case *c, u64 *asked, u64 most) {
-    usize at;
-    for (*asked = most; *asked-- > 0;) {
-        const struct refusal r = c->op == SAMPLE_WORD
-            ? baseline_sample_word(c->p, c->n, c->a[0], (u32)c->a[1], (u32)c->a[2], (u32)c->a[3], &at)
-            : baseline_bin_word(c->p, c->n, (u32)c->a[0], (u32)c->a[1], (u32)c->a[2], &at);
-        if (r.number == 0) return *asked;
+// The last Bin: its chip, channel and number. A last header may have none behind it.
+static void last_bin(struct a_case *c) {
+    struct item x;
+    u64 chip = 0, channel = 0;
+    for (u64 i = 0; baseline_item(c->p, c->n, i, &x).number == 0; i++) {
+        if (x.class == 2) {
+            chip = x.fields[1];
+            channel = x.fields[2];
+        }
+        if (x.class != 5) continue;
+        c->a[0] = chip;
+        c->a[1] = channel;
+        c->a[2] = x.fields[0];
     }
-    return 0;
+}
+
+// The last time at which the channel asked for has a sample.
+static u64 last_time(const struct a_case *c) {
+    usize at;
+    u32 time = 511;
+    while (time > 0 && baseline_sample_word(c->p, c->n, c->a[0], (u32)c->a[1], (u32)c->a[2], time, &at).number) time--;
+    return time;
 }
 
 // The ordinal of the last event.
@@ -151,12 +163,9 @@ static void make_question(struct row r, struct a_case *c) {
         break;
     case SAMPLE_WORD:
         last_header(c, 1, &c->a[0], &c->a[1], &c->a[2]);
-        c->a[3] = last_found(c, &c->a[3], 512);
+        c->a[3] = last_time(c);
         break;
-    case BIN_WORD:
-        last_header(c, 2, &none, &c->a[0], &c->a[1]);
-        c->a[2] = last_found(c, &c->a[2], 4096);
-        break;
+    case BIN_WORD: last_bin(c); break;
     }
 }
 
