@@ -5,7 +5,7 @@ use crate::reply::Reply;
 use editor::answers::Done;
 use editor::editing::Correction;
 
-fn told(answer: Done) -> Reply {
+fn reply_of(answer: Done) -> Reply {
     match answer {
         Done::Accepted => reply::few(0, 0, 0, 0),
         Done::Refused(r) => reply::refused(r),
@@ -14,7 +14,7 @@ fn told(answer: Done) -> Reply {
 
 // Op 14: opens a record of the frame q in p.
 pub(crate) fn open(p: &mut [u8], q: &[u8]) -> Reply {
-    told(editor::opening::open(p, q))
+    reply_of(editor::opening::open(p, q))
 }
 
 // Op 15: edits p: word a0, value a1, operator a2, reason a3.
@@ -25,10 +25,10 @@ pub(crate) fn edit(p: &mut [u8], a0: u64, a1: u64, a2: u64, a3: u64) -> Reply {
         operator: cases::low32(a2),
         reason: cases::low32(a3),
     };
-    told(editor::editing::edit(p, c))
+    reply_of(editor::editing::edit(p, c))
 }
 
 // Op 16: restores the record p to a0 into q.
 pub(crate) fn restore(p: &[u8], q: &mut [u8], a0: u64) -> Reply {
-    told(editor::restoring::restore(p, a0 as usize, q))
+    reply_of(editor::restoring::restore(p, a0 as usize, q))
 }

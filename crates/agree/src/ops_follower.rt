@@ -21,7 +21,7 @@ fn code_of(state: Follower) -> u64 {
     }
 }
 
-fn told(answer: Followed) -> Reply {
+fn reply_of(answer: Followed) -> Reply {
     match answer {
         Followed::Accepted { lost, next } => reply::few(2, lost as u64, code_of(next), 0),
         Followed::Refused { number, place } => reply::refused(Refusal { number, place }),
@@ -30,5 +30,5 @@ fn told(answer: Followed) -> Reply {
 
 // Op 11: the follower in the state a0 is fed the word a1.
 pub(crate) fn follow(a0: u64, a1: u64) -> Reply {
-    told(state_of(a0).follow(cases::low16(a1)))
+    reply_of(state_of(a0).follow(cases::low16(a1)))
 }

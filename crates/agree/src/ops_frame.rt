@@ -33,33 +33,33 @@ pub(crate) fn read(p: &[u8]) -> Reply {
 }
 
 // An item: its class as the row in document 01's word book, and its fields in the book's order, with how many they are.
-fn told(class: u32, fields: u8, a: u64, b: u64, c: u64) -> Reply {
-    reply::values(1 + fields % 4, class as u64, a, b, c, 0, 0)
+fn fields(class: u32, many: u8, a: u64, b: u64, c: u64) -> Reply {
+    reply::values(1 + many % 4, class as u64, a, b, c, 0, 0)
 }
 
 // A header or a Hit count.
-fn told_three(class: u32, a: u16, b: u16, c: u16) -> Reply {
-    told(class, 3, a as u64, b as u64, c as u64)
+fn three_fields(class: u32, a: u16, b: u16, c: u16) -> Reply {
+    fields(class, 3, a as u64, b as u64, c as u64)
 }
 
-fn item_told(item: Item) -> Reply {
+fn item_reply(item: Item) -> Reply {
     match item {
-        Item::Channel(x) => told_three(Class::ROW_CHANNEL, x.card, x.chip, x.channel),
-        Item::Histogram(x) => told_three(Class::ROW_HISTOGRAM, x.card, x.chip, x.channel),
-        Item::HitCount(x) => told_three(Class::ROW_HIT_COUNT, x.card, x.chip, x.count),
-        Item::Sample(x) => told(Class::ROW_SAMPLE, 1, x.value as u64, 0, 0),
-        Item::Bin(x) => told(Class::ROW_BIN, 2, x.bin as u64, x.count as u64, 0),
-        Item::LastCell(x) => told(Class::ROW_LAST_CELL, 2, x.chip as u64, x.cell as u64, 0),
-        Item::TimeBin(x) => told(Class::ROW_TIME_BIN, 1, x.time as u64, 0, 0),
-        Item::Text(x) => told(Class::ROW_TEXT, 1, x.length as u64, 0, 0),
-        Item::StartEvent(x) => told(
+        Item::Channel(x) => three_fields(Class::ROW_CHANNEL, x.card, x.chip, x.channel),
+        Item::Histogram(x) => three_fields(Class::ROW_HISTOGRAM, x.card, x.chip, x.channel),
+        Item::HitCount(x) => three_fields(Class::ROW_HIT_COUNT, x.card, x.chip, x.count),
+        Item::Sample(x) => fields(Class::ROW_SAMPLE, 1, x.value as u64, 0, 0),
+        Item::Bin(x) => fields(Class::ROW_BIN, 2, x.bin as u64, x.count as u64, 0),
+        Item::LastCell(x) => fields(Class::ROW_LAST_CELL, 2, x.chip as u64, x.cell as u64, 0),
+        Item::TimeBin(x) => fields(Class::ROW_TIME_BIN, 1, x.time as u64, 0, 0),
+        Item::Text(x) => fields(Class::ROW_TEXT, 1, x.length as u64, 0, 0),
+        Item::StartEvent(x) => fields(
             Class::ROW_START_EVENT,
             3,
             x.kind as u64,
             x.timestamp,
             x.number as u64,
         ),
-        Item::EndEvent(x) => told(Class::ROW_END_EVENT, 1, x.size as u64, 0, 0),
+        Item::EndEvent(x) => fields(Class::ROW_END_EVENT, 1, x.size as u64, 0, 0),
     }
 }
 
@@ -71,7 +71,7 @@ pub(crate) fn item(p: &[u8], a0: u64) -> Reply {
             let item = x.item;
             Reply {
                 next: x.next,
-                ..item_told(item)
+                ..item_reply(item)
             }
         }
         Found::Refused(r) => reply::refused(r),

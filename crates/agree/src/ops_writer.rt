@@ -16,7 +16,7 @@ use book::items::TimeBin;
 use rules::state::Kind;
 use writer::answers::Written;
 
-fn told(answer: Written) -> Reply {
+fn reply_of(answer: Written) -> Reply {
     match answer {
         Written::Length(n) => reply::few(1, n as u64, 0, 0),
         Written::Refused(r) => reply::refused(r),
@@ -33,7 +33,7 @@ fn kind_of(code: u64) -> Kind {
 
 // Op 7: begins a frame of kind a0, card a1 and sequence word a2 in p.
 pub(crate) fn begin(p: &mut [u8], a0: u64, a1: u64, a2: u64) -> Reply {
-    told(writer::calls::begin(p, kind_of(a0), cases::low16(a1), cases::low16(a2)))
+    reply_of(writer::calls::begin(p, kind_of(a0), cases::low16(a1), cases::low16(a2)))
 }
 
 // What op 8 hands over: an item, or nothing where this is no case.
@@ -128,17 +128,17 @@ fn item_asked(class: u32, a2: u64, a3: u64, a4: u64) -> Asked {
 pub(crate) fn add(p: &mut [u8], a0: u64, a1: u64, a2: u64, a3: u64, a4: u64) -> Reply {
     let asked = item_asked(cases::low32(a1), a2, a3, a4);
     match asked {
-        Asked::Item(x) => told(writer::calls::add(p, a0 as usize, x)),
+        Asked::Item(x) => reply_of(writer::calls::add(p, a0 as usize, x)),
         Asked::Nothing => reply::no_case(),
     }
 }
 
 // Op 9: adds the text q to p of length a0.
 pub(crate) fn add_text(p: &mut [u8], q: &[u8], a0: u64) -> Reply {
-    told(writer::calls::add_text(p, a0 as usize, q))
+    reply_of(writer::calls::add_text(p, a0 as usize, q))
 }
 
 // Op 10: closes p of length a0.
 pub(crate) fn close(p: &mut [u8], a0: u64) -> Reply {
-    told(writer::calls::close(p, a0 as usize))
+    reply_of(writer::calls::close(p, a0 as usize))
 }

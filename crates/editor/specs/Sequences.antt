@@ -11,7 +11,7 @@ use Rattle.ledger.specs.Formats.{Entry}
 use Rattle.ledger.specs.Histories.{frameAfter, entriesOf}
 use Rattle.ledger.specs.PlaneFrames.{planeFrames}
 use Rattle.ledger.specs.Layout.{totalLength}
-use Rattle.records.specs.declared.answers.Entry as told
+use Rattle.records.specs.declared.answers.Entry as declared
 use Rattle.editor.specs.declared.answers.Done.{Done}
 use Rattle.editor.specs.declared.answers.Done.the-variants as answer
 use Rattle.editor.specs.declared.editing.Correction.{Correction}
@@ -45,7 +45,7 @@ abbrev pub entriesFor : List ℕ → List Correction → List Entry
 entriesFor f cs = entriesOf planeFrames f (map asked cs)
 
 -- the entry of a correction as `entry` tells it: what was asked, with the kind and the value of the item p that stood there before
-abbrev pub entryMade : Correction → Spot → told.Entry
+abbrev pub entryMade : Correction → Spot → declared.Entry
 entryMade c p = record { word = c .word; kind = p .kind; old = p .value; new = c .value; operator = c .operator; reason = c .reason }
 
 -- a moment among some calls from b to e: `buffer` as it stood when k of them had been accepted

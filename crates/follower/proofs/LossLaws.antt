@@ -31,8 +31,8 @@ next-of l k s t e = cc
 
 module _ (e nn : ℕ) (a : e < 256) (b : nn < 256) (l : ℕ) (next : State) where
   -- from the answer to what it holds, and back
-  told : follow (expecting e) nn ≡ accepted l next → (l < 256) × ((e + l) % 256 ≡ nn) × (next ≡ expecting ((nn + 1) % 256))
-  told h =
+  loss-is : follow (expecting e) nn ≡ accepted l next → (l < 256) × ((e + l) % 256 ≡ nn) × (next ≡ expecting ((nn + 1) % 256))
+  loss-is h =
       let f = at-number e nn (omega arith) ∙ h in
       let d : difference nn e ≡ l = lost-of _ _ _ _ f in
       (omega (arith, below e nn), omega (arith, reaches e nn a b), sym (next-of _ _ _ _ f))
@@ -43,4 +43,4 @@ module _ (e nn : ℕ) (a : e < 256) (b : nn < 256) (l : ℕ) (next : State) wher
       ∙ ap₂ (λ (l : ℕ) (s : State). accepted l s) (only e nn (difference nn e) l a (below e nn) (h .0) (reaches e nn a b) (h .1)) (sym (h .2))
 
   pub exactly : (follow (expecting e) nn ≡ accepted l next) ↔ ((l < 256) × ((e + l) % 256 ≡ nn) × (next ≡ expecting ((nn + 1) % 256)))
-  exactly = (told, tells)
+  exactly = (loss-is, tells)

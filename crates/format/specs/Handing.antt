@@ -24,7 +24,7 @@ pub record StandsFor (s : List ℕ) (o : Overview) : Type 0 where
   pub frame : Frame
   pub legal : Legal frame
   pub written : s ≡ encode frame
-  pub told : o ≡ overview frame
+  pub overview-is : o ≡ overview frame
 
 -- of an item: what `item` answers, and the bytes that `text` answers
 pub record ItemAnswer : Type 0 where

@@ -29,7 +29,7 @@ pub data Question : Type 0 where
 pub data Reply : Type 0 where
   frame : Outcome Frame → Reply
   showing : Outcome IndexedShown → Reply
-  told : Outcome Event → Reply
+  eventReply : Outcome Event → Reply
   standing : Outcome (List ℕ) → Reply
   followed : List follower.Answer → Reply
 
@@ -41,7 +41,7 @@ elements l places = map (λ (i : ℕ). getD l i 0) places
 abbrev pub ask : Question → Reply
 ask (reading s) = frame (verdict s)
 ask (ordinal s n) = showing (shownAt s n)
-ask (event s e) = told (eventAt s e)
+ask (event s e) = eventReply (eventAt s e)
 ask (samples s e chip c times) =
     standing (andThen (samplesAt s e chip c 512) (λ xs. accepted (elements (samplesLeft (accepted xs) (replicate 512 1)) times)))
 ask (counts s chip c bins) =
@@ -83,8 +83,8 @@ table =
     ∷ row (ordinal (pulse 0x0E03 0x001A) 4) (at 12 (Sample 251) 13)
     ∷ row (ordinal (pulse 0x0E03 0x001A) 5) (at 13 (EndEvent 26) 16)
     ∷ row (ordinal (pulse 0x0E03 0x001A) 6) (showing (refused 13 0))
-    ∷ row (event (pulse 0x0E03 0x001A) 0) (told (accepted (record { kind = 1; timestamp = 1000; number = 7; size = 26; index = 3 })))
-    ∷ row (event (pulse 0x0E03 0x001A) 1) (told (refused 13 0))
+    ∷ row (event (pulse 0x0E03 0x001A) 0) (eventReply (accepted (record { kind = 1; timestamp = 1000; number = 7; size = 26; index = 3 })))
+    ∷ row (event (pulse 0x0E03 0x001A) 1) (eventReply (refused 13 0))
     ∷ row (samples (pulse 0x0E03 0x001A) 0 2 10 (2 ∷ 3 ∷ 4 ∷ 5 ∷ [])) (standing (accepted (0xFFFF ∷ 250 ∷ 251 ∷ 0xFFFF ∷ [])))
     ∷ row (samples (pulse 0x0E03 0x001A) 0 2 11 (3 ∷ [])) (standing (refused 13 0))
     -- 4. "9 at 13", 5. "8 at 10", 6. "10 at 12"

@@ -109,7 +109,7 @@ module _ (s : RefT (List ℕ)) (g : Frame) (read : ReadAs (now s) (reading.Accep
       settled r (written.Length (length (now s))) left (now s ++ drop (length (now s)) buf)
       (sym (run-ran run)
       ∙ ap (writeCalls buf (viewKind (g .kind)) (g .card) (g .sequence)) (sym (a .handed))
-      ∙ format2.copied-by-calls (now s) (viewFrame g) (sym read) (a .told) (a .answers) (a .count ∙ h) bs buf room)
+      ∙ format2.copied-by-calls (now s) (viewFrame g) (sym read) (a .itemAnswers) (a .answers) (a .count ∙ h) bs buf room)
 
   -- ---- T10
 
@@ -173,14 +173,14 @@ accepts-exactly s bs r e = (there, back r e)
     back (reading.Accepted g) e x = (g, refl)
     back (reading.Refused q) e (f, l, w) =
         no-refusal (overview f) (q .number) (q .place)
-        (sym (format2.read-exactly (now s) bs (overview f) .1 (record { frame = f; legal = l; written = w; told = refl })) ∙ sym e)
+        (sym (format2.read-exactly (now s) bs (overview f) .1 (record { frame = f; legal = l; written = w; overview-is = refl })) ∙ sym e)
 
 -- "the index of the next item or end word"
 pub next-index : (s : RefT (List ℕ)) → Bytes (now s) → (g : Frame) (a : StandsFor (now s) (viewFrame g)) (n : ℕ) → n < g .items → (x : IndexedItem) → ItemAnswered (now s) n (found.Item x)
     → x .next ≡ indexOf (a .frame .items) (suc n)
 next-index s bs g a n h x e =
     let f = a .frame in
-    let c : g .items ≡ length (f .items) = ap (λ (o : Overview). o .items) (a .told) in
+    let c : g .items ≡ length (f .items) = ap (λ (o : Overview). o .items) (a .overview-is) in
     let (y, i) = item-stands n (f .items) (subst (λ (m : ℕ). n < m) c h) in
     let q = exactly (now s) bs f .1 (a .legal, a .written) in
     ap (λ (o : IndexedShown). o .next) (same-accepted _ _ (e ∙ shown-there (now s) f q n y i))
@@ -190,7 +190,7 @@ pub own-index : (s : RefT (List ℕ)) → Bytes (now s) → (g : Frame) (a : Sta
     → x .index ≡ indexOf (a .frame .items) n
 own-index s bs g a n h x e =
     let f = a .frame in
-    let c : g .items ≡ length (f .items) = ap (λ (o : Overview). o .items) (a .told) in
+    let c : g .items ≡ length (f .items) = ap (λ (o : Overview). o .items) (a .overview-is) in
     let (y, i) = item-stands n (f .items) (subst (λ (m : ℕ). n < m) c h) in
     let q = exactly (now s) bs f .1 (a .legal, a .written) in
     ap (λ (o : IndexedShown). o .index) (same-accepted _ _ (e ∙ shown-there (now s) f q n y i))
@@ -200,7 +200,7 @@ pub its-items : (s : RefT (List ℕ)) → Bytes (now s) → (g : Frame) (a : Sta
 its-items s bs g a gs c h =
     let k = asked c in
     same-arguments gs (map argumentFor (a .frame .items))
-    (sym (k .handed) ∙ format2.read-as-its-items (now s) bs (viewFrame g) a (k .told) (k .answers) (k .count ∙ h) ∙ sym (all-arguments (a .frame .items)))
+    (sym (k .handed) ∙ format2.read-as-its-items (now s) bs (viewFrame g) a (k .itemAnswers) (k .answers) (k .count ∙ h) ∙ sym (all-arguments (a .frame .items)))
 
 -- ---- T18, T18b
 
@@ -276,9 +276,9 @@ module _ (buf : List ℕ) (k : Kind) (card sequence : ℕ) (gs : List Argument) 
     handed-again hs c h =
         let a = asked c in
         let w = writing-done in
-        let n : length (a .told) ≡ length (w .answers) = a .count ∙ h ∙ sym (w .counted ∙ length-map gs callIn) in
-        let t : a .told ≡ w .answers =
-        format2.one-list-of-answers (take m left) 0 (a .told) (w .answers) (subst (λ (s : List ℕ). Answers s 0 (a .told)) its-bytes (a .answers)) (w .answered) n in
+        let n : length (a .itemAnswers) ≡ length (w .answers) = a .count ∙ h ∙ sym (w .counted ∙ length-map gs callIn) in
+        let t : a .itemAnswers ≡ w .answers =
+        format2.one-list-of-answers (take m left) 0 (a .itemAnswers) (w .answers) (subst (λ (s : List ℕ). Answers s 0 (a .itemAnswers)) its-bytes (a .answers)) (w .answered) n in
         same-arguments hs gs (sym (a .handed) ∙ ap (map callOf) t ∙ w .same)
 
     pub reads-back : (r : Reading) → ReadAs (now s) r → (hs : List Argument) → Copies s 0 hs → length hs ≡ length gs → ReadsBack k card sequence gs r hs

@@ -81,20 +81,20 @@ some-run b kind card sequence gs = go (beginAnswer b card sequence) refl
     go (refused k p) e =
         (written.Refused (record { number = k; place = p }), beginLeft b (viewKind kind) card sequence, begin-refuses (record { answered = sym e; written = refl }))
 
--- what a caller who copies is told
+-- what a caller who copies is itemAnswers
 pub record Asked (s : List ℕ) (n : ℕ) (gs : List Argument) : Type 0 where
-  pub told : List ItemAnswer
-  pub answers : Answers s n told
-  pub handed : map callOf told ≡ map callIn gs
-  pub count : length told ≡ length gs
+  pub itemAnswers : List ItemAnswer
+  pub answers : Answers s n itemAnswers
+  pub handed : map callOf itemAnswers ≡ map callIn gs
+  pub count : length itemAnswers ≡ length gs
 
 -- THE LAW of the copies
 pub asked : {s : RefT (List ℕ)} {n : ℕ} {gs : List Argument} → Copies s n gs → Asked (now s) n gs
-asked no-more = record { told = []; answers = handing.no-more; handed = refl; count = refl }
+asked no-more = record { itemAnswers = []; answers = handing.no-more; handed = refl; count = refl }
 asked {s = s} {n = n} (with-item x a e k) =
     let q = asked k in
     record {
-      told = record { answer = viewIndexedItem x; text = textAt (now s) n } ∷ q .told;
+      itemAnswers = record { answer = viewIndexedItem x; text = textAt (now s) n } ∷ q .itemAnswers;
       answers = handing.then (sym a) refl (q .answers);
       handed = ap₂ _∷_ (rw e) (q .handed);
       count = ap suc (q .count);
@@ -102,7 +102,7 @@ asked {s = s} {n = n} (with-item x a e k) =
 asked {s = s} {n = n} (with-text x t a e b k) =
     let q = asked k in
     record {
-      told = record { answer = viewIndexedItem x; text = now t } ∷ q .told;
+      itemAnswers = record { answer = viewIndexedItem x; text = now t } ∷ q .itemAnswers;
       answers = handing.then (sym a) (sym (b .0)) (q .answers);
       handed = ap₂ _∷_ (rw e) (q .handed);
       count = ap suc (q .count);

@@ -56,7 +56,7 @@ module _ (buf : List ℕ) (n : ℕ) where
   unfolding partialReadOf partialVerdict
   fault-refused k e h = rw (ne-eqb (partialFault buf n) 0 (λ z. h (e ∙ z)), e)
 
-  -- what the tests told of the first n bytes
+  -- what the tests overviewOf of the first n bytes
   pub started : 0 ≡ partialFault buf n → (startFits (wordAt buf 0) ≡ true) × (n % 2 ≡ 0) × (n ≤ length buf)
   started e =
       let h = partial-head buf n (sym e) in
@@ -68,15 +68,15 @@ module _ (buf : List ℕ) (n : ℕ) where
       let d : 2 * (n / 2) ≡ n = omega arith in
       ap (λ (ws : List ℕ). tokens 0 (drop 3 ws)) (take-words (n / 2) buf ∙ ap (λ (k : ℕ). words (take k buf)) d)
 
-  abbrev told : Summary → Outcome PartialOverview
-  told x = accepted (record { kind = kindIn buf; card = cardIn buf; sequence = wordAt buf 2; state = x .state })
+  abbrev overviewOf : Summary → Outcome PartialOverview
+  overviewOf x = accepted (record { kind = kindIn buf; card = cardIn buf; sequence = wordAt buf 2; state = x .state })
 
-  pub partial-summed : 0 ≡ partialFault buf n → (i : ℕ) → andThen (summed (kindIn buf) (cardIn buf) buf (n / 2) i) told ≡ partialReadOf buf n
+  pub partial-summed : 0 ≡ partialFault buf n → (i : ℕ) → andThen (summed (kindIn buf) (cardIn buf) buf (n / 2) i) overviewOf ≡ partialReadOf buf n
   unfolding summed partialReadOf partialVerdict partialJudged
   partial-summed e i = rw (eq-eqb (partialFault buf n) 0 (sym e), body-rest (started e .1)) (go (walk (kindIn buf) (cardIn buf) [] 3 (partialBody buf n)))
     where
       go : (o : Outcome (List Item))
-          → andThen (andThen o (λ p. accepted (summary (kindIn buf) i p))) told ≡ andThen (andThen o (partialOf buf)) (λ f. accepted (partialOverview f))
+          → andThen (andThen o (λ p. accepted (summary (kindIn buf) i p))) overviewOf ≡ andThen (andThen o (partialOf buf)) (λ f. accepted (partialOverview f))
       go (accepted p) = refl
       go (refused k q) = refl
 

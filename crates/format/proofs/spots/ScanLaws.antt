@@ -70,7 +70,7 @@ head-in : (s : List ℕ) (f : Frame) (w : ℕ) → verdict s ≡ accepted f → 
 unfolding head
 head-in s f w v = ap (λ (o : Outcome Frame). headFor o w) v
 
--- what is told of word u, by items from word `at` on, under the header k, whose word is h
+-- what is word-case of word u, by items from word `at` on, under the header k, whose word is h
 pub record Alike (s : List ℕ) (at h : ℕ) (k : Header) (xs : List Item) (u : ℕ) : Type 0 where
   pub heads : headIn h at xs u ≡ head s u
   pub spots : spotIn k at xs u ≡ spot s u
@@ -197,39 +197,39 @@ module _ (s : List ℕ) (at h : ℕ) (g : Ahead s at h) where
 -- ---- every word
 
 -- an item begins there, or none does
-data Told (s : List ℕ) (w : ℕ) : Type 0 where
-  begins : (x : Item) (n h : ℕ) → standingAt s w ≡ some (record { item = x; next = n }) → 1 ≤ headBy h w x → Passed s w h x n → Told s w
-  blank : Blank s w → Told s w
+data WordCase (s : List ℕ) (w : ℕ) : Type 0 where
+  begins : (x : Item) (n h : ℕ) → standingAt s w ≡ some (record { item = x; next = n }) → 1 ≤ headBy h w x → Passed s w h x n → WordCase s w
+  blank : Blank s w → WordCase s w
 
 tail-is : (x y : Item) (xs ys : List Item) → x ∷ xs ≡ y ∷ ys → xs ≡ ys
 tail-is x y xs ys e = cc
 
 -- at word w, or somewhere behind the item that the scan stands at
 told-turn : (s : List ℕ) (at h : ℕ) (g : Ahead s at h) (w : ℕ) → at ≤ w
-    → ((y : Item) → Turn s at (g .on) y (nextAt s at) → nextAt s at ≤ w → Told s w) → Told s w
+    → ((y : Item) → Turn s at (g .on) y (nextAt s at) → nextAt s at ≤ w → WordCase s w) → WordCase s w
 told-turn s at h g w l further = go (ltb at (lastOf s)) refl
   where
-    sides : (y : Item) → Turn s at (g .on) y (nextAt s at) → (b : Bool) → eqb at w ≡ b → (c : Bool) → ltb w (nextAt s at) ≡ c → Told s w
+    sides : (y : Item) → Turn s at (g .on) y (nextAt s at) → (b : Bool) → eqb at w ≡ b → (c : Bool) → ltb w (nextAt s at) ≡ c → WordCase s w
     sides y t true q c d =
-        subst (Told s) (eqb-true at w q)
+        subst (WordCase s) (eqb-true at w q)
         (begins y (nextAt s at) h (t .there) (head-noted s at h g y (let i = g .on .index in omega arith)) (pass s at h g y (nextAt s at) t))
     sides y t false q true d = let n = eqb-false at w q in blank (pass s at h g y (nextAt s at) t .between w (omega arith) (ltb-true w (nextAt s at) d))
     sides y t false q false d = further y t (ltb-false w (nextAt s at) d)
 
-    go : (b : Bool) → ltb at (lastOf s) ≡ b → Told s w
+    go : (b : Bool) → ltb at (lastOf s) ≡ b → WordCase s w
     go true b = let (y, t) = turn s at (g .on) (ltb-true at (lastOf s) b) in sides y t (eqb at w) refl (ltb w (nextAt s at)) refl
     go false b = blank (ahead-end s at h g (ltb-false at (lastOf s) b) w l)
 
-told-from : (s : List ℕ) (xs : List Item) (at h : ℕ) → Ahead s at h → itemsFrom s at ≡ xs → (w : ℕ) → at ≤ w → Told s w
+told-from : (s : List ℕ) (xs : List Item) (at h : ℕ) → Ahead s at h → itemsFrom s at ≡ xs → (w : ℕ) → at ≤ w → WordCase s w
 told-from s [] at h g e w l = blank (blank-none s at h (headerAt s h) w (subst (λ (xs : List Item). Alike s at h (headerAt s h) xs w) e (g .alike w l)))
 told-from s (x ∷ xs) at h g e w l =
     told-turn s at h g w l
     (λ y t m. told-from s xs (nextAt s at) (headBy h at y) (pass s at h g y (nextAt s at) t .next) (tail-is y x _ xs (sym (t .split) ∙ e)) w m)
 
-told : (s : List ℕ) → Bytes s → (f : Frame) → verdict s ≡ accepted f → (w : ℕ) → Told s w
-told s y f v w = go (ltb w 3) refl
+word-case : (s : List ℕ) → Bytes s → (f : Frame) → verdict s ≡ accepted f → (w : ℕ) → WordCase s w
+word-case s y f v w = go (ltb w 3) refl
   where
-    go : (b : Bool) → ltb w 3 ≡ b → Told s w
+    go : (b : Bool) → ltb w 3 ≡ b → WordCase s w
     go true b = blank (blank-first s y f v w (ltb-true w 3 b))
     go false b = told-from s (itemsFrom s 3) 3 1 (ahead-start s y f v) refl w (ltb-false w 3 b)
 
@@ -269,7 +269,7 @@ module _ (s : List ℕ) (y : Bytes s) (w : ℕ) where
   unfolding head spot
   spot-by = judged (verdict s) refl
     where
-      by : Told s w → spot s w ≡ spotBy s (head s w) (shownBy (standingAt s w))
+      by : WordCase s w → spot s w ≡ spotBy s (head s w) (shownBy (standingAt s w))
       by (begins x n h e l p) =
           p .spot ∙ sym (behind-spot s h w x) ∙ sym (shown-spot (headerAt s (headBy h w x)) x)
           ∙ sym (by-noted s (headBy h w x) l (record { item = shown x; next = n }))
@@ -277,7 +277,7 @@ module _ (s : List ℕ) (y : Bytes s) (w : ℕ) where
       by (blank b) = b .spot ∙ ap (λ (i : ℕ). spotBy s i (shownBy (standingAt s w))) (sym (b .head))
 
       judged : (o : Outcome Frame) → verdict s ≡ o → spot s w ≡ spotBy s (head s w) (shownBy (standingAt s w))
-      judged (accepted f) v = by (told s y f v w)
+      judged (accepted f) v = by (word-case s y f v w)
       judged (refused n p) v = ap (λ (o : Outcome Frame). spotFor o w) v ∙ ap (λ (o : Outcome Frame). spotBy s (headFor o w) (shownBy (standingAt s w))) (sym v)
 
   -- where no item stands there is no spot
@@ -304,14 +304,14 @@ none-noted s w n p v = ap (λ (o : Outcome Frame). headFor o w) v
 pub noted-there : (s : List ℕ) → Bytes s → (w : ℕ) → 1 ≤ head s w → Noted s w
 noted-there s y w l = judged (verdict s) refl
   where
-    by : Told s w → Noted s w
+    by : WordCase s w → Noted s w
     by (begins x n h e m p) =
         let t = stood s w x n e in
         record { late = t .late; early = t .early; whole = next-at s (lastOf s) (within-bytes s) w x (t .early) (t .token) .within }
     by (blank b) = let z = b .head in absurd (omega arith)
 
     judged : (o : Outcome Frame) → verdict s ≡ o → Noted s w
-    judged (accepted f) v = by (told s y f v w)
+    judged (accepted f) v = by (word-case s y f v w)
     judged (refused n p) v = let z = none-noted s w n p v in absurd (omega arith)
 
 -- ---- a value put leaves every header at its word

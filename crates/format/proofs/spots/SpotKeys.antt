@@ -197,11 +197,11 @@ spot-headed s y f v w p is =
     let (q, m, a) = met-at (f .kind) (f .card) [] (is .before) (is .item) (is .after) [] (met-first (f .kind) (f .card)) l in
     by (is .item) (is .spot) q m a
   where
-    told : (h : Header) → Headed (is .before) h → underAll noHeader (is .before) ≡ h
-    told h g = ap (underAll noHeader) (g .items) ∙ under-header noHeader h (g .left) (g .header) (g .run) (g .says) (g .latest)
+    header-is : (h : Header) → Headed (is .before) h → underAll noHeader (is .before) ≡ h
+    header-is h g = ap (underAll noHeader) (g .items) ∙ under-header noHeader h (g .left) (g .header) (g .run) (g .says) (g .latest)
 
     here : (kind v : ℕ) → some (record { kind = kind; value = v; header = underAll noHeader (is .before) }) ≡ some p → (h : Header) × Headed (is .before) h → Headed (is .before) (p .header)
-    here kind v e g = subst (Headed (is .before)) (sym (told (g .0) (g .1)) ∙ ap (λ (r : Spot). r .header) (some-is _ p e)) (g .1)
+    here kind v e g = subst (Headed (is .before)) (sym (header-is (g .0) (g .1)) ∙ ap (λ (r : Spot). r .header) (some-is _ p e)) (g .1)
 
     by : (x : Item) → spotOf (underAll noHeader (is .before)) x ≡ some p → (q : List Item) → Met (f .kind) (f .card) (is .before) q → Allowed (f .kind) (f .card) q x → Headed (is .before) (p .header)
     by (Channel a b c) e q m l = no-some p e

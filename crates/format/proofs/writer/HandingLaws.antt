@@ -250,10 +250,10 @@ module _ (s : List ℕ) (bs : Bytes s) where
       there e =
           let f = seen s o e in
           let (l, q) = sound s bs (f .frame) (f .judged) in
-          record { frame = f .frame; legal = l; written = q; told = sym (f .seen) }
+          record { frame = f .frame; legal = l; written = q; overview-is = sym (f .seen) }
 
       back : StandsFor s o → readOf s ≡ accepted o
-      back a = read-of s (a .frame) (exactly s bs (a .frame) .1 (a .legal, a .written)) ∙ ap accepted (sym (a .told))
+      back a = read-of s (a .frame) (exactly s bs (a .frame) .1 (a .legal, a .written)) ∙ ap accepted (sym (a .overview-is))
 
   pub read-refused : (n p : ℕ) → (readOf s ≡ refused n p) ↔ Refused s n p
   read-refused n p = (λ e. refusals s bs n p .0 (refused-by s n p e), λ h. refused-too s n p (refusals s bs n p .1 h))
@@ -262,7 +262,7 @@ module _ (s : List ℕ) (bs : Bytes s) where
   pub its-items : (o : Overview) (a : StandsFor s o) (xs : List ItemAnswer) → Answers s 0 xs → length xs ≡ o .items → map callOf xs ≡ map handOver (a .frame .items)
   its-items o a xs k h =
       let f = a .frame in
-      let c : o .items ≡ length (f .items) = ap (λ (o : Overview). o .items) (a .told) in
+      let c : o .items ≡ length (f .items) = ap (λ (o : Overview). o .items) (a .overview-is) in
       ap (map callOf) (answers-are s f (exactly s bs f .1 (a .legal, a .written)) xs k (h ∙ c)) ∙ tell-calls (f .items) 0 (f .items)
 
 module _ (s : List ℕ) (o : Overview) (r : readOf s ≡ accepted o) where

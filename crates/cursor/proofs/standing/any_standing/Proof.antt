@@ -10,8 +10,8 @@ use Rattle.cursor.proofs.standing.any_standing.Statement.{statement}
 use Rattle.cursor.proofs.standing.any_standing.Tie as tie
 
 -- the class that was found is that of the word
-told : (c : tie.After-classify) (k : Class) → c .classify .result ≡ k → view k ≡ classOf (c .before .before .args .w)
-told c k e = ap view (sym e) ∙ c .classify .ensures
+class-is : (c : tie.After-classify) (k : Class) → c .classify .result ≡ k → view k ≡ classOf (c .before .before .args .w)
+class-is c k e = ap view (sym e) ∙ c .classify .ensures
 
 classify-requires : tie.Need-classify-requires
 classify-requires c κs = search needs
@@ -71,7 +71,7 @@ bin-standing-requires : tie.Need-bin-standing-requires
 bin-standing-requires c κs =
     let k = c .before .before in
     let p = k .before .before .pre in
-    (p .0, p .1, p .2, p .3, told k _ (c .enum-told5 .given .1))
+    (p .0, p .1, p .2, p .3, class-is k _ (c .enum-told5 .given .1))
 
 enum-told-6 : tie.Need-enum-told-6
 enum-told-6 c = search needs
@@ -113,7 +113,7 @@ text-standing-requires : tie.Need-text-standing-requires
 text-standing-requires c κs =
     let k = c .before .before in
     let p = k .before .before .pre in
-    (p .0, p .1, p .2, p .3, told k _ (c .enum-told11 .given .1))
+    (p .0, p .1, p .2, p .3, class-is k _ (c .enum-told11 .given .1))
 
 enum-told-12 : tie.Need-enum-told-12
 enum-told-12 c = search needs
@@ -122,7 +122,7 @@ start-standing-requires : tie.Need-start-standing-requires
 start-standing-requires c κs =
     let k = c .before .before in
     let p = k .before .before .pre in
-    (p .0, p .1, p .2, p .3, told k _ (c .enum-told12 .given .1))
+    (p .0, p .1, p .2, p .3, class-is k _ (c .enum-told12 .given .1))
 
 enum-told-13 : tie.Need-enum-told-13
 enum-told-13 c = search needs
@@ -131,7 +131,7 @@ end-standing-requires : tie.Need-end-standing-requires
 end-standing-requires c κs =
     let k = c .before .before in
     let p = k .before .before .pre in
-    (p .0, p .1, p .2, p .3, told k _ (c .enum-told13 .given .1))
+    (p .0, p .1, p .2, p .3, class-is k _ (c .enum-told13 .given .1))
 
 enum-told-14 : tie.Need-enum-told-14
 enum-told-14 c = search needs
@@ -143,25 +143,25 @@ returns : tie.Need-returns
 returns c =
     let k = c .before .before .before .before in
     let p = k .before .before .pre in
-    c .found .ensures ∙ channel-shown _ _ _ _ (p .0) (p .1) (p .2) (p .3) _ (told k _ (c .before .before .enum-told .given .1)) (c .before .of-word .ensures)
+    c .found .ensures ∙ channel-shown _ _ _ _ (p .0) (p .1) (p .2) (p .3) _ (class-is k _ (c .before .before .enum-told .given .1)) (c .before .of-word .ensures)
 
 returns-2 : tie.Need-returns-2
 returns-2 c =
     let k = c .before .before .before .before in
     let p = k .before .before .pre in
-    c .found2 .ensures ∙ histogram-shown _ _ _ _ (p .0) (p .1) (p .2) (p .3) _ (told k _ (c .before .before .enum-told2 .given .1)) (c .before .of-word2 .ensures)
+    c .found2 .ensures ∙ histogram-shown _ _ _ _ (p .0) (p .1) (p .2) (p .3) _ (class-is k _ (c .before .before .enum-told2 .given .1)) (c .before .of-word2 .ensures)
 
 returns-3 : tie.Need-returns-3
 returns-3 c =
     let k = c .before .before .before .before in
     let p = k .before .before .pre in
-    c .found3 .ensures ∙ hit-shown _ _ _ _ (p .0) (p .1) (p .2) (p .3) _ (told k _ (c .before .before .enum-told3 .given .1)) (c .before .of-word3 .ensures)
+    c .found3 .ensures ∙ hit-shown _ _ _ _ (p .0) (p .1) (p .2) (p .3) _ (class-is k _ (c .before .before .enum-told3 .given .1)) (c .before .of-word3 .ensures)
 
 returns-4 : tie.Need-returns-4
 returns-4 c =
     let k = c .before .before .before .before in
     let p = k .before .before .pre in
-    c .found4 .ensures ∙ sample-shown _ _ _ _ (p .0) (p .1) (p .2) (p .3) _ (told k _ (c .before .before .enum-told4 .given .1)) (c .before .of-word4 .ensures)
+    c .found4 .ensures ∙ sample-shown _ _ _ _ (p .0) (p .1) (p .2) (p .3) _ (class-is k _ (c .before .before .enum-told4 .given .1)) (c .before .of-word4 .ensures)
 
 returns-5 : tie.Need-returns-5
 returns-5 c = search needs
@@ -170,31 +170,31 @@ returns-6 : tie.Need-returns-6
 returns-6 c =
     let k = c .before .before .before .before in
     let p = k .before .before .pre in
-    c .found5 .ensures ∙ cell-shown _ _ _ _ (p .0) (p .1) (p .2) (p .3) _ (told k _ (c .before .before .enum-told6 .given .1)) (c .before .of-word5 .ensures)
+    c .found5 .ensures ∙ cell-shown _ _ _ _ (p .0) (p .1) (p .2) (p .3) _ (class-is k _ (c .before .before .enum-told6 .given .1)) (c .before .of-word5 .ensures)
 
 returns-7 : tie.Need-returns-7
 returns-7 c =
     let k = c .before .before .before .before in
     let p = k .before .before .pre in
-    c .found6 .ensures ∙ time-shown _ _ _ _ (p .0) (p .1) (p .2) (p .3) _ (told k _ (c .before .before .enum-told7 .given .1)) (c .before .of-word6 .ensures)
+    c .found6 .ensures ∙ time-shown _ _ _ _ (p .0) (p .1) (p .2) (p .3) _ (class-is k _ (c .before .before .enum-told7 .given .1)) (c .before .of-word6 .ensures)
 
 returns-8 : tie.Need-returns-8
 returns-8 c =
     let k = c .before .before in
     let p = k .before .before .pre in
-    data-shown _ _ _ _ (p .0) (p .1) (p .2) (p .3) (told k _ (c .enum-told8 .given .1))
+    data-shown _ _ _ _ (p .0) (p .1) (p .2) (p .3) (class-is k _ (c .enum-told8 .given .1))
 
 returns-9 : tie.Need-returns-9
 returns-9 c =
     let k = c .before .before in
     let p = k .before .before .pre in
-    monitor-shown _ _ _ _ (p .0) (p .1) (p .2) (p .3) (told k _ (c .enum-told9 .given .1))
+    monitor-shown _ _ _ _ (p .0) (p .1) (p .2) (p .3) (class-is k _ (c .enum-told9 .given .1))
 
 returns-10 : tie.Need-returns-10
 returns-10 c =
     let k = c .before .before in
     let p = k .before .before .pre in
-    command-shown _ _ _ _ (p .0) (p .1) (p .2) (p .3) (told k _ (c .enum-told10 .given .1))
+    command-shown _ _ _ _ (p .0) (p .1) (p .2) (p .3) (class-is k _ (c .enum-told10 .given .1))
 
 returns-11 : tie.Need-returns-11
 returns-11 c = search needs
@@ -209,13 +209,13 @@ returns-14 : tie.Need-returns-14
 returns-14 c =
     let k = c .before .before in
     let p = k .before .before .pre in
-    frame-end-shown _ _ _ _ (p .0) (p .1) (p .2) (p .3) (told k _ (c .enum-told14 .given .1))
+    frame-end-shown _ _ _ _ (p .0) (p .1) (p .2) (p .3) (class-is k _ (c .enum-told14 .given .1))
 
 returns-15 : tie.Need-returns-15
 returns-15 c =
     let k = c .before .before in
     let p = k .before .before .pre in
-    unassigned-shown _ _ _ _ (p .0) (p .1) (p .2) (p .3) (told k _ (c .enum-told15 .given .1))
+    unassigned-shown _ _ _ _ (p .0) (p .1) (p .2) (p .3) (class-is k _ (c .enum-told15 .given .1))
 
 pub any-standing-spec : {M : Type 1} → statement M
 any-standing-spec =

@@ -14,12 +14,12 @@ use Rattle.frame.proofs.items.text.Statement.{statement}
 use Rattle.frame.proofs.items.text.Tie as tie
 
 -- what the item question said
-told : (c : tie.After-text-count) → accepted (viewIndexedItem (c .before .before .found .given .0 .0)) ≡ shownAt (now (c .before .before .before .before .before .before .args .s)) (c .before .before .before .before .before .before .args .n)
-told c = sym (ap viewFound (c .before .before .found .given .1)) ∙ c .before .before .before .before .item .ensures
+answer-is : (c : tie.After-text-count) → accepted (viewIndexedItem (c .before .before .found .given .0 .0)) ≡ shownAt (now (c .before .before .before .before .before .before .args .s)) (c .before .before .before .before .before .before .args .n)
+answer-is c = sym (ap viewFound (c .before .before .found .given .1)) ∙ c .before .before .before .before .item .ensures
 
 -- the part, where it is a text
-part : (c : tie.After-text-count) → 1 ≤ c .text-count .result → Part _ _ _ _ _ (told c) _ (c .text-count .ensures)
-part c h = text-part _ _ _ _ _ (told c) _ (c .text-count .ensures) h
+part : (c : tie.After-text-count) → 1 ≤ c .text-count .result → Part _ _ _ _ _ (answer-is c) _ (c .text-count .ensures)
+part c h = text-part _ _ _ _ _ (answer-is c) _ (c .text-count .ensures) h
 
 item-requires : tie.Need-item-requires
 item-requires c κs = search needs
@@ -53,7 +53,7 @@ part-result-end-2 c = search needs
 
 returns : tie.Need-returns
 returns c =
-    let p = text-none _ _ _ _ _ (told (c .before .before)) _ (c .before .before .text-count .ensures) (omega arith) in
+    let p = text-none _ _ _ _ _ (answer-is (c .before .before)) _ (c .before .before .text-count .ensures) (omega arith) in
     (p .0, ap (partFrom (ptr (c .before .before .before .before .before .before .before .before .args .s))) (p .1))
 
 add-from : tie.Need-add-from

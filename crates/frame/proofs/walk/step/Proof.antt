@@ -10,8 +10,8 @@ use Rattle.frame.proofs.walk.step.Statement.{statement}
 use Rattle.frame.proofs.walk.step.Tie as tie
 
 -- the class that was found is that of the word
-told : (c : tie.After-classify) (k : Class) → c .classify .result ≡ k → view k ≡ classOf (c .before .word .result)
-told c k e = ap view (sym e) ∙ c .classify .ensures
+class-is : (c : tie.After-classify) (k : Class) → c .classify .result ≡ k → view k ≡ classOf (c .before .word .result)
+class-is c k e = ap view (sym e) ∙ c .classify .ensures
 
 word-requires : tie.Need-word-requires
 word-requires c κs = search needs
@@ -74,7 +74,7 @@ bin-at-requires : tie.Need-bin-at-requires
 bin-at-requires c κs =
     let k = c .before .before in
     let p = k .before .before .before .pre in
-    (p .0, p .1, k .before .word .ensures, told k _ (c .enum-told5 .given .1))
+    (p .0, p .1, k .before .word .ensures, class-is k _ (c .enum-told5 .given .1))
 
 enum-told-6 : tie.Need-enum-told-6
 enum-told-6 c = search needs
@@ -116,7 +116,7 @@ text-at-requires : tie.Need-text-at-requires
 text-at-requires c κs =
     let k = c .before .before in
     let p = k .before .before .before .pre in
-    (p .0, p .1, k .before .word .ensures, told k _ (c .enum-told11 .given .1))
+    (p .0, p .1, k .before .word .ensures, class-is k _ (c .enum-told11 .given .1))
 
 enum-told-12 : tie.Need-enum-told-12
 enum-told-12 c = search needs
@@ -125,7 +125,7 @@ start-at-requires : tie.Need-start-at-requires
 start-at-requires c κs =
     let k = c .before .before in
     let p = k .before .before .before .pre in
-    (p .0, p .1, k .before .word .ensures, told k _ (c .enum-told12 .given .1))
+    (p .0, p .1, k .before .word .ensures, class-is k _ (c .enum-told12 .given .1))
 
 enum-told-13 : tie.Need-enum-told-13
 enum-told-13 c = search needs
@@ -134,7 +134,7 @@ end-at-requires : tie.Need-end-at-requires
 end-at-requires c κs =
     let k = c .before .before in
     let p = k .before .before .before .pre in
-    (p .0, p .1, k .before .word .ensures, told k _ (c .enum-told13 .given .1))
+    (p .0, p .1, k .before .word .ensures, class-is k _ (c .enum-told13 .given .1))
 
 enum-told-14 : tie.Need-enum-told-14
 enum-told-14 c = search needs
@@ -145,22 +145,22 @@ enum-told-15 c = search needs
 returns : tie.Need-returns
 returns c =
     let k = c .before .before .before .before in
-    channel-step _ _ _ _ _ _ (k .before .word .ensures) _ _ (told k _ (c .before .before .enum-told .given .1)) (c .before .of-word .ensures) (c .channel .ensures)
+    channel-step _ _ _ _ _ _ (k .before .word .ensures) _ _ (class-is k _ (c .before .before .enum-told .given .1)) (c .before .of-word .ensures) (c .channel .ensures)
 
 returns-2 : tie.Need-returns-2
 returns-2 c =
     let k = c .before .before .before .before in
-    histogram-step _ _ _ _ _ _ (k .before .word .ensures) _ _ (told k _ (c .before .before .enum-told2 .given .1)) (c .before .of-word2 .ensures) (c .histogram .ensures)
+    histogram-step _ _ _ _ _ _ (k .before .word .ensures) _ _ (class-is k _ (c .before .before .enum-told2 .given .1)) (c .before .of-word2 .ensures) (c .histogram .ensures)
 
 returns-3 : tie.Need-returns-3
 returns-3 c =
     let k = c .before .before .before .before in
-    hit-step _ _ _ _ _ _ (k .before .word .ensures) _ _ (told k _ (c .before .before .enum-told3 .given .1)) (c .before .of-word3 .ensures) (c .hit-count .ensures)
+    hit-step _ _ _ _ _ _ (k .before .word .ensures) _ _ (class-is k _ (c .before .before .enum-told3 .given .1)) (c .before .of-word3 .ensures) (c .hit-count .ensures)
 
 returns-4 : tie.Need-returns-4
 returns-4 c =
     let k = c .before .before .before .before in
-    sample-step _ _ _ _ _ _ (k .before .word .ensures) _ _ (told k _ (c .before .before .enum-told4 .given .1)) (c .before .of-word4 .ensures) (c .sample .ensures)
+    sample-step _ _ _ _ _ _ (k .before .word .ensures) _ _ (class-is k _ (c .before .before .enum-told4 .given .1)) (c .before .of-word4 .ensures) (c .sample .ensures)
 
 returns-5 : tie.Need-returns-5
 returns-5 c =
@@ -169,27 +169,27 @@ returns-5 c =
 returns-6 : tie.Need-returns-6
 returns-6 c =
     let k = c .before .before .before .before in
-    cell-step _ _ _ _ _ _ (k .before .word .ensures) _ _ (told k _ (c .before .before .enum-told6 .given .1)) (c .before .of-word5 .ensures) (c .last-cell .ensures)
+    cell-step _ _ _ _ _ _ (k .before .word .ensures) _ _ (class-is k _ (c .before .before .enum-told6 .given .1)) (c .before .of-word5 .ensures) (c .last-cell .ensures)
 
 returns-7 : tie.Need-returns-7
 returns-7 c =
     let k = c .before .before .before .before in
-    time-step _ _ _ _ _ _ (k .before .word .ensures) _ _ (told k _ (c .before .before .enum-told7 .given .1)) (c .before .of-word6 .ensures) (c .time-bin .ensures)
+    time-step _ _ _ _ _ _ (k .before .word .ensures) _ _ (class-is k _ (c .before .before .enum-told7 .given .1)) (c .before .of-word6 .ensures) (c .time-bin .ensures)
 
 returns-8 : tie.Need-returns-8
 returns-8 c =
     let k = c .before .before in
-    data-step _ _ _ _ _ _ (k .before .word .ensures) (told k _ (c .enum-told8 .given .1))
+    data-step _ _ _ _ _ _ (k .before .word .ensures) (class-is k _ (c .enum-told8 .given .1))
 
 returns-9 : tie.Need-returns-9
 returns-9 c =
     let k = c .before .before in
-    monitor-step _ _ _ _ _ _ (k .before .word .ensures) (told k _ (c .enum-told9 .given .1))
+    monitor-step _ _ _ _ _ _ (k .before .word .ensures) (class-is k _ (c .enum-told9 .given .1))
 
 returns-10 : tie.Need-returns-10
 returns-10 c =
     let k = c .before .before in
-    command-step _ _ _ _ _ _ (k .before .word .ensures) (told k _ (c .enum-told10 .given .1))
+    command-step _ _ _ _ _ _ (k .before .word .ensures) (class-is k _ (c .enum-told10 .given .1))
 
 returns-11 : tie.Need-returns-11
 returns-11 c =
@@ -206,12 +206,12 @@ returns-13 c =
 returns-14 : tie.Need-returns-14
 returns-14 c =
     let k = c .before .before in
-    end-step _ _ _ _ _ _ (k .before .word .ensures) (told k _ (c .enum-told14 .given .1))
+    end-step _ _ _ _ _ _ (k .before .word .ensures) (class-is k _ (c .enum-told14 .given .1))
 
 returns-15 : tie.Need-returns-15
 returns-15 c =
     let k = c .before .before in
-    unassigned-step _ _ _ _ _ _ (k .before .word .ensures) (told k _ (c .enum-told15 .given .1))
+    unassigned-step _ _ _ _ _ _ (k .before .word .ensures) (class-is k _ (c .enum-told15 .given .1))
 
 pub step-spec : {M : Type 1} → statement M
 step-spec =
