@@ -1,4 +1,5 @@
--- The house book of document 01, "The word book": its rows, shortest prefix first, the class of a word, and how many words come after it.
+-- The house book: the rows of document 01, "The word book", shortest prefix first, and behind them those of document 02 in the order in which they
+-- came; the class of a word, and how many words come after it.
 -- Assumes nothing.
 use mathlib.Core.Bool.{Bool, true, false}
 use mathlib.Core.List.{List, [], _∷_, map}
@@ -9,7 +10,7 @@ use Rattle.format.specs.Words.{pick}
 use Rattle.format.specs.Prefix.{Row, find}
 
 pub data Class : Type 0 where
-  channel histogram hitCount sample bin lastCell timeBin dataFrame monitorFrame commandFrame text startEvent endEvent frameEnd unassigned : Class
+  channel histogram hitCount sample bin lastCell timeBin dataFrame monitorFrame commandFrame text startEvent continueEvent endEvent frameEnd unassigned : Class
 
 abbrev pub row : ℕ → ℕ → Class → Row Class
 row p n c = record { prefix = p; bits = n; class = c }
@@ -30,6 +31,7 @@ book =
     ∷ row 0x00F 12 startEvent
     ∷ row 0x00E 12 endEvent
     ∷ row 0x000F 16 frameEnd
+    ∷ row 0b0000101 7 continueEvent
     ∷ []
 
 -- a word that no row matches is unassigned
@@ -40,7 +42,7 @@ orUnassigned (some c) = c
 unfoldable pub classOf : ℕ → Class
 classOf w = orUnassigned (find book w)
 
--- the number of a class's row in document 01's table, from 1 on; 0 for a word that has none
+-- the number of a class's row in document 01's table, from 1 on, those of document 02 behind them; 0 for a word that has none
 abbrev pub rowOf : Class → ℕ
 rowOf channel = 1
 rowOf histogram = 2
@@ -56,6 +58,7 @@ rowOf text = 11
 rowOf startEvent = 12
 rowOf endEvent = 13
 rowOf frameEnd = 14
+rowOf continueEvent = 15
 rowOf unassigned = 0
 
 -- and the class of a row
@@ -80,6 +83,7 @@ after monitorFrame w = 0
 after commandFrame w = 0
 after text w = textWords w
 after startEvent w = 5
+after continueEvent w = 2
 after endEvent w = 2
 after frameEnd w = 0
 after unassigned w = 0
@@ -97,11 +101,12 @@ assigned monitorFrame = true
 assigned commandFrame = true
 assigned text = true
 assigned startEvent = true
+assigned continueEvent = true
 assigned endEvent = true
 assigned frameEnd = true
 assigned unassigned = false
 
--- document 01's table: the words of each class, from the first to the last
+-- document 01's table, and document 02's words: the words of each class, from the first to the last
 pub record Range : Type 0 where
   pub from : ℕ
   pub to : ℕ
@@ -123,6 +128,7 @@ pageRange monitorFrame = range 0x0600 0x07FF
 pageRange commandFrame = range 0x0400 0x05FF
 pageRange text = range 0x0100 0x01FF
 pageRange startEvent = range 0x00F0 0x00FF
+pageRange continueEvent = range 0x0A00 0x0BFF
 pageRange endEvent = range 0x00E0 0x00EF
 pageRange frameEnd = range 0x000F 0x000F
 pageRange unassigned = range 1 0

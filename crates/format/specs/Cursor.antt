@@ -1,5 +1,5 @@
 -- The cursor: the item that stands at a word index of a frame's bytes, and where the next one begins. Decoding alone: no rule of a frame is asked.
--- On an accepted frame it meets exactly the frame's items (proofs/CursorLaws).
+-- On an accepted frame it meets exactly the frame's items (proofs/reader/CursorLaws).
 -- Assumes nothing.
 use Prim.Native.Nat.{ℕ, _+_}
 use mathlib.Core.Path.{_≡_}
@@ -10,7 +10,7 @@ use lib.Dec.{leb, ltb}
 use lib.ListN.{length}
 use Rattle.format.specs.Words.{pick, Bytes}
 use Rattle.format.specs.Answers.{accepted}
-use Rattle.format.specs.Items.{ItemOf, Item, Channel, Histogram, HitCount, Sample, Bin, LastCell, TimeBin, Text, StartEvent, EndEvent, Token, whole, broken, flawed}
+use Rattle.format.specs.Items.{ItemOf, Item, Channel, Histogram, HitCount, Sample, Bin, LastCell, TimeBin, Text, StartEvent, ContinueEvent, EndEvent, Token, whole, broken, flawed}
 use Rattle.format.specs.Frames.{Frame, allWords, lastOf, verdict}
 use Rattle.format.specs.Steps.{tokenAt, nextAt, rest}
 use Rattle.format.specs.Questions.{Found, Shown, shown}
@@ -41,6 +41,7 @@ unshown (LastCell a b) = LastCell a b
 unshown (TimeBin t) = TimeBin t
 unshown (Text n) = Text []
 unshown (StartEvent t ts n) = StartEvent t ts n
+unshown (ContinueEvent n) = ContinueEvent n
 unshown (EndEvent n) = EndEvent n
 
 -- the items among some tokens

@@ -7,8 +7,8 @@ use mathlib.Core.List.{List, [], _∷_, _++_}
 use mathlib.Core.Bool.{true}
 use lib.ListN.{length}
 use Rattle.format.specs.Words.{words, longWords, timeWords}
-use Rattle.format.specs.Book.{Class, channel, histogram, hitCount, sample, bin, lastCell, timeBin, dataFrame, monitorFrame, commandFrame, text, startEvent, endEvent, frameEnd, unassigned, classOf, rowOf, nth}
-use Rattle.format.specs.Items.{ItemOf, Item, Channel, Histogram, HitCount, Sample, Bin, LastCell, TimeBin, Text, StartEvent, EndEvent, classFor, wordsOf, fits}
+use Rattle.format.specs.Book.{Class, channel, histogram, hitCount, sample, bin, lastCell, timeBin, dataFrame, monitorFrame, commandFrame, text, startEvent, continueEvent, endEvent, frameEnd, unassigned, classOf, rowOf, nth}
+use Rattle.format.specs.Items.{ItemOf, Item, Channel, Histogram, HitCount, Sample, Bin, LastCell, TimeBin, Text, StartEvent, ContinueEvent, EndEvent, classFor, wordsOf, fits}
 
 -- how many bits fields of these widths take
 abbrev pub total : List ℕ → ℕ
@@ -47,11 +47,13 @@ widths monitorFrame = 4 ∷ 5 ∷ []
 widths commandFrame = 4 ∷ 5 ∷ []
 widths text = 8 ∷ []
 widths startEvent = 4 ∷ []
+widths continueEvent = 9 ∷ []
 widths endEvent = 4 ∷ []
 widths frameEnd = []
 widths unassigned = []
 
--- CONTENT: the fields of an item's first word, in the book's order. A text's is its n, the final zero counted; an End event's is zero.
+-- CONTENT: the fields of an item's first word, in the book's order. A text's is its n, the final zero counted; a Continue
+-- event's and an End event's are zero.
 abbrev pub content : Item → List ℕ
 content (Channel a b c) = a ∷ b ∷ c ∷ []
 content (Histogram a b c) = a ∷ b ∷ c ∷ []
@@ -62,6 +64,7 @@ content (LastCell a b) = a ∷ b ∷ []
 content (TimeBin t) = t ∷ []
 content (Text s) = (length s + 1) ∷ []
 content (StartEvent t ts n) = t ∷ []
+content (ContinueEvent n) = 0 ∷ []
 content (EndEvent n) = 0 ∷ []
 
 -- the item's row of the book
@@ -79,6 +82,7 @@ laterWords (LastCell a b) = []
 laterWords (TimeBin t) = []
 laterWords (Text s) = words (s ++ (0 ∷ []))
 laterWords (StartEvent t ts n) = timeWords ts ++ longWords n
+laterWords (ContinueEvent n) = longWords n
 laterWords (EndEvent n) = longWords n
 
 -- an item's first word

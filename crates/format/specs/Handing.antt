@@ -8,7 +8,7 @@ use lib.ListN.{length, take}
 use Rattle.format.specs.Words.{pick, words, longWords, timeWords}
 use Rattle.format.specs.Answers.{accepted}
 use Rattle.format.specs.Book.{text, pageRange}
-use Rattle.format.specs.Items.{ItemOf, Item, Channel, Histogram, HitCount, Sample, Bin, LastCell, TimeBin, Text, StartEvent, EndEvent, classFor, Token, whole}
+use Rattle.format.specs.Items.{ItemOf, Item, Channel, Histogram, HitCount, Sample, Bin, LastCell, TimeBin, Text, StartEvent, ContinueEvent, EndEvent, classFor, Token, whole}
 use Rattle.format.specs.Rules.{Kind, same}
 use Rattle.format.specs.Frames.{Frame, startWord, encode, Legal}
 use Rattle.format.specs.Questions.{IndexedShown, shown, shownAt, textIn, textAt}
@@ -40,8 +40,8 @@ pub data Answers (s : List ℕ) : ℕ → List ItemAnswer → Type 0 where
   no-more : {n : ℕ} → Answers s n []
   then : {n : ℕ} {x : ItemAnswer} {xs : List ItemAnswer} → shownAt s n ≡ accepted (x .answer) → textAt s n ≡ x .text → Answers s (suc n) xs → Answers s n (x ∷ xs)
 
--- document 01's column "Content, high bits first", of an item as it is answered: each field at the bit where it begins. A text's is its n, an
--- End event's low four bits are zero
+-- document 01's column "Content, high bits first", of an item as it is answered: each field at the bit where it begins. A text's is its n; a
+-- Continue event's content and an End event's low four bits are zero
 abbrev pub contentOf : ItemOf ℕ → ℕ
 contentOf (Channel card chip c) = card * 2 ^ 9 + chip * 2 ^ 7 + c
 contentOf (Histogram card chip c) = card * 2 ^ 9 + chip * 2 ^ 7 + c
@@ -52,10 +52,11 @@ contentOf (LastCell chip cell) = chip * 2 ^ 9 + cell
 contentOf (TimeBin t) = t
 contentOf (Text n) = n
 contentOf (StartEvent type stamp number) = type
+contentOf (ContinueEvent number) = 0
 contentOf (EndEvent size) = 0
 
 -- and its column "Words after it": "count, low word first"; a text's bytes, which the other question answers, and the final zero; "timestamp in
--- 3, number in 2, low words first"; "size, low word first"
+-- 3, number in 2, low words first"; "size, low word first"; a Continue event's number likewise
 abbrev pub wordsAfter : ItemOf ℕ → List ℕ → List ℕ
 wordsAfter (Channel card chip c) s = []
 wordsAfter (Histogram card chip c) s = []
@@ -66,6 +67,7 @@ wordsAfter (LastCell chip cell) s = []
 wordsAfter (TimeBin t) s = []
 wordsAfter (Text n) s = words (s ++ (0 ∷ []))
 wordsAfter (StartEvent type stamp number) s = timeWords stamp ++ longWords number
+wordsAfter (ContinueEvent number) s = longWords number
 wordsAfter (EndEvent size) s = longWords size
 
 -- the words that an item has by what is told of it: the first of its class's words with the content, and those after it

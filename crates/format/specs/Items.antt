@@ -8,9 +8,9 @@ use lib.ListN.{length, take, drop}
 use lib.Dec.{leb, ltb, eqb}
 use lib.Pow.{areBytes}
 use Rattle.format.specs.Words.{pick, words, bytes, longOf, timeOf, longWords, timeWords, nonZero, allZero}
-use Rattle.format.specs.Book.{Class, channel, histogram, hitCount, sample, bin, lastCell, timeBin, dataFrame, monitorFrame, commandFrame, text, startEvent, endEvent, frameEnd, unassigned, classOf, after, assigned}
+use Rattle.format.specs.Book.{Class, channel, histogram, hitCount, sample, bin, lastCell, timeBin, dataFrame, monitorFrame, commandFrame, text, startEvent, continueEvent, endEvent, frameEnd, unassigned, classOf, after, assigned}
 
--- the ten kinds, each with its content in the book's order; T is what a text holds
+-- the eleven kinds, each with its content in the book's order; T is what a text holds
 pub data ItemOf (T : Type 0) : Type 0 where
   -- card, chip, channel
   Channel : ℕ → ℕ → ℕ → ItemOf T
@@ -26,6 +26,8 @@ pub data ItemOf (T : Type 0) : Type 0 where
   Text : T → ItemOf T
   -- type, timestamp, number
   StartEvent : ℕ → ℕ → ℕ → ItemOf T
+  -- number
+  ContinueEvent : ℕ → ItemOf T
   -- size
   EndEvent : ℕ → ItemOf T
 
@@ -43,6 +45,7 @@ classFor (LastCell a b) = lastCell
 classFor (TimeBin t) = timeBin
 classFor (Text s) = text
 classFor (StartEvent a b c) = startEvent
+classFor (ContinueEvent n) = continueEvent
 classFor (EndEvent n) = endEvent
 
 -- the low 14 bits of a Channel, Histogram or Hit count word: card 5, chip 2, and 7 more
@@ -60,6 +63,7 @@ wordsOf (LastCell a b) = (0x1800 + (a * 512 + b)) ∷ []
 wordsOf (TimeBin t) = (0x0E00 + t) ∷ []
 wordsOf (Text s) = (0x0100 + (length s + 1)) ∷ words (s ++ (0 ∷ []))
 wordsOf (StartEvent t ts n) = (0x00F0 + t) ∷ (timeWords ts ++ longWords n)
+wordsOf (ContinueEvent n) = 0x0A00 ∷ longWords n
 wordsOf (EndEvent n) = 0x00E0 ∷ longWords n
 
 -- the content fits its fields; a text has at most 254 bytes, and none of them is zero
@@ -73,6 +77,7 @@ fits (LastCell a b) = leb a 3 && leb b 511
 fits (TimeBin t) = leb t 511
 fits (Text s) = leb (length s) 254 && nonZero s && areBytes s
 fits (StartEvent t ts n) = leb t 15 && leb ts 281474976710655 && ltb n 4294967296
+fits (ContinueEvent n) = ltb n 4294967296
 fits (EndEvent n) = ltb n 4294967296
 
 -- a text's n bytes: "n at least 1, byte n zero, earlier bytes not zero, a padding byte zero"
@@ -93,6 +98,7 @@ decode monitorFrame w ws = none
 decode commandFrame w ws = none
 decode text w ws = pick (closed (w % 256) (bytes ws)) (some (Text (take (w % 256 - 1) (bytes ws)))) none
 decode startEvent w ws = some (StartEvent (w % 16) (timeOf ws) (longOf (drop 3 ws)))
+decode continueEvent w ws = pick (eqb (w % 512) 0) (some (ContinueEvent (longOf ws))) none
 decode endEvent w ws = pick (eqb (w % 16) 0) (some (EndEvent (longOf ws))) none
 decode frameEnd w ws = none
 decode unassigned w ws = none
@@ -135,6 +141,7 @@ obeys card (LastCell a b) = true
 obeys card (TimeBin t) = true
 obeys card (Text s) = true
 obeys card (StartEvent t ts n) = true
+obeys card (ContinueEvent n) = true
 obeys card (EndEvent n) = true
 
 -- and nothing is too wide for its field

@@ -10,8 +10,8 @@ use lib.Dec.{leb, eqb}
 use Rattle.format.specs.Words.{pick}
 use Rattle.format.specs.Answers.{Outcome, accepted, refused, andThen, Done}
 use Rattle.format.specs.Book.{Class, endEvent}
-use Rattle.format.specs.Items.{ItemOf, Item, Channel, Histogram, HitCount, Sample, Bin, LastCell, TimeBin, Text, StartEvent, EndEvent, classFor, wordsOf}
-use Rattle.format.specs.Rules.{same, gather, headOrZero}
+use Rattle.format.specs.Items.{ItemOf, Item, Channel, Histogram, HitCount, Sample, Bin, LastCell, TimeBin, Text, StartEvent, ContinueEvent, EndEvent, classFor, wordsOf}
+use Rattle.format.specs.Rules.{same, gather}
 use Rattle.format.specs.Frames.{Frame, verdict}
 
 -- ---- the item at an ordinal
@@ -27,6 +27,7 @@ shown (LastCell a b) = LastCell a b
 shown (TimeBin t) = TimeBin t
 shown (Text s) = Text (length s + 1)
 shown (StartEvent t ts n) = StartEvent t ts n
+shown (ContinueEvent n) = ContinueEvent n
 shown (EndEvent n) = EndEvent n
 
 -- an item and the index of the next one, or of the end word: what the cursor finds at a word (specs/Cursor)
@@ -77,6 +78,7 @@ textIn (LastCell a b) = []
 textIn (TimeBin t) = []
 textIn (Text s) = s
 textIn (StartEvent t ts n) = []
+textIn (ContinueEvent n) = []
 textIn (EndEvent n) = []
 
 abbrev pub textFound : Outcome IndexedItem → List ℕ
@@ -93,18 +95,26 @@ present (some a) = accepted a
 
 -- ---- events
 
--- "Event e answers with its type, timestamp, number, size and the index of its Start event word"
-pub record Event : Type 0 where
+-- what an event's Start event tells: its type and timestamp
+pub record Began : Type 0 where
   pub kind : ℕ
   pub timestamp : ℕ
+
+-- "Event e answers with its type, timestamp, number, size and the index of its Start event word". A part that a Continue event opens "counts as
+-- event 0 there, indexed by its first word; what stands in another frame is answered as missing"
+pub record Event : Type 0 where
+  -- where its Start event is in this frame
+  pub began : Option Began
   pub number : ℕ
-  pub size : ℕ
+  -- where its End event is in this frame
+  pub size : Option ℕ
   pub index : ℕ
 
--- an event, and the items after its Start event
+-- an event, the items after the one that opens it, and the word at which these begin
 pub record Opened : Type 0 where
   pub event : Event
   pub items : List Item
+  pub inside : ℕ
 
 abbrev pub endSize : Item → List ℕ
 endSize (Channel a b c) = []
@@ -116,9 +126,16 @@ endSize (LastCell a b) = []
 endSize (TimeBin t) = []
 endSize (Text s) = []
 endSize (StartEvent t ts n) = []
+endSize (ContinueEvent n) = []
 endSize (EndEvent n) = n ∷ []
 
--- the event that an item at word `at` opens, where the items xs come after it; its size is what the first End event gives
+-- the first of some numbers, where there is one
+abbrev pub headOf : List ℕ → Option ℕ
+headOf [] = none
+headOf (n ∷ ns) = some n
+
+-- the event that an item at word `at` opens, where the items xs come after it; its size is what the first End event gives.
+-- A Start event has six words, a Continue event three
 abbrev pub opens : ℕ → Item → List Item → List Opened
 opens at (Channel a b c) xs = []
 opens at (Histogram a b c) xs = []
@@ -129,7 +146,9 @@ opens at (LastCell a b) xs = []
 opens at (TimeBin t) xs = []
 opens at (Text s) xs = []
 opens at (StartEvent t ts n) xs =
-    record { event = record { kind = t; timestamp = ts; number = n; size = headOrZero (gather endSize xs); index = at }; items = xs } ∷ []
+    record { event = record { began = some (record { kind = t; timestamp = ts }); number = n; size = headOf (gather endSize xs); index = at }; items = xs; inside = at + 6 } ∷ []
+opens at (ContinueEvent n) xs =
+    record { event = record { began = none; number = n; size = headOf (gather endSize xs); index = at }; items = xs; inside = at + 3 } ∷ []
 opens at (EndEvent n) xs = []
 
 -- the events of some items, the first of which stands at word `at`
@@ -168,6 +187,7 @@ isChannel chip c (LastCell a b) = false
 isChannel chip c (TimeBin t) = false
 isChannel chip c (Text s) = false
 isChannel chip c (StartEvent t ts n) = false
+isChannel chip c (ContinueEvent n) = false
 isChannel chip c (EndEvent n) = false
 
 abbrev pub isHistogram : ℕ → ℕ → Item → Bool
@@ -180,6 +200,7 @@ isHistogram chip c (LastCell a b) = false
 isHistogram chip c (TimeBin t) = false
 isHistogram chip c (Text s) = false
 isHistogram chip c (StartEvent t ts n) = false
+isHistogram chip c (ContinueEvent n) = false
 isHistogram chip c (EndEvent n) = false
 
 -- the first n words v, those beyond as they are
@@ -200,6 +221,7 @@ fillSamples t (LastCell a b ∷ xs) l = l
 fillSamples t (TimeBin u ∷ xs) l = fillSamples u xs l
 fillSamples t (Text s ∷ xs) l = l
 fillSamples t (StartEvent k ts n ∷ xs) l = l
+fillSamples t (ContinueEvent n ∷ xs) l = l
 fillSamples t (EndEvent n ∷ xs) l = l
 
 -- the bins that come first, each count at its number
@@ -214,6 +236,7 @@ fillCounts (LastCell a b ∷ xs) l = l
 fillCounts (TimeBin t ∷ xs) l = l
 fillCounts (Text s ∷ xs) l = l
 fillCounts (StartEvent k ts n ∷ xs) l = l
+fillCounts (ContinueEvent n ∷ xs) l = l
 fillCounts (EndEvent n ∷ xs) l = l
 
 -- the items after the header of a channel in event e
@@ -253,6 +276,7 @@ sampleWord t u at (LastCell a b ∷ xs) = none
 sampleWord t u at (TimeBin w ∷ xs) = sampleWord t w (at + 1) xs
 sampleWord t u at (Text s ∷ xs) = none
 sampleWord t u at (StartEvent k ts n ∷ xs) = none
+sampleWord t u at (ContinueEvent n ∷ xs) = none
 sampleWord t u at (EndEvent n ∷ xs) = none
 
 -- the first word of bin b, among the bins that come first: a Bin has three words
@@ -267,15 +291,12 @@ binWord b at (LastCell x y ∷ xs) = none
 binWord b at (TimeBin t ∷ xs) = none
 binWord b at (Text s ∷ xs) = none
 binWord b at (StartEvent k ts n ∷ xs) = none
+binWord b at (ContinueEvent n ∷ xs) = none
 binWord b at (EndEvent n ∷ xs) = none
-
--- the word at which the items of an event begin: its Start event has six words
-unfoldable pub firstInside : Opened → ℕ
-firstInside o = o .event .index + 6
 
 -- the items after the header of a channel in event e, and where they begin
 unfoldable pub channelAt : ℕ → ℕ → ℕ → List Item → Outcome Behind
-channelAt e chip c xs = andThen (present (pickNth e (events 3 xs))) (λ o. present (pastAt (isChannel chip c) (firstInside o) (until endEvent (o .items))))
+channelAt e chip c xs = andThen (present (pickNth e (events 3 xs))) (λ o. present (pastAt (isChannel chip c) (o .inside) (until endEvent (o .items))))
 
 -- Order: frame refusals, 13
 unfoldable pub sampleWordAt : List ℕ → ℕ → ℕ → ℕ → ℕ → Outcome ℕ

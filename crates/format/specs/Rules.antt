@@ -6,29 +6,11 @@ use mathlib.Core.Bool.{Bool, true, false, not, _&&_, _||_}
 use lib.ListN.{length}
 use lib.Dec.{leb, ltb, eqb}
 use Rattle.format.specs.Words.{pick}
-use Rattle.format.specs.Book.{Class, channel, histogram, hitCount, sample, bin, lastCell, timeBin, dataFrame, monitorFrame, commandFrame, text, startEvent, endEvent, frameEnd, unassigned}
-use Rattle.format.specs.Items.{Item, Channel, Histogram, HitCount, Sample, Bin, LastCell, TimeBin, Text, StartEvent, EndEvent, classFor, wordsOf, inRange, key, Token, whole, broken, flawed}
+use Rattle.format.specs.Book.{Class, channel, histogram, hitCount, sample, bin, lastCell, timeBin, dataFrame, monitorFrame, commandFrame, text, startEvent, continueEvent, endEvent, frameEnd, unassigned, rowOf}
+use Rattle.format.specs.Items.{Item, Channel, Histogram, HitCount, Sample, Bin, LastCell, TimeBin, Text, StartEvent, ContinueEvent, EndEvent, classFor, wordsOf, inRange, key, Token, whole, broken, flawed}
 
 pub data Kind : Type 0 where
   dataKind monitorKind commandKind : Kind
-
--- a class's row in document 01's table, 0 for none
-abbrev pub rowOf : Class → ℕ
-rowOf channel = 1
-rowOf histogram = 2
-rowOf hitCount = 3
-rowOf sample = 4
-rowOf bin = 5
-rowOf lastCell = 6
-rowOf timeBin = 7
-rowOf dataFrame = 8
-rowOf monitorFrame = 9
-rowOf commandFrame = 10
-rowOf text = 11
-rowOf startEvent = 12
-rowOf endEvent = 13
-rowOf frameEnd = 14
-rowOf unassigned = 0
 
 abbrev pub same : Class → Class → Bool
 same c d = eqb (rowOf c) (rowOf d)
@@ -78,6 +60,7 @@ channelKey (LastCell a b) = []
 channelKey (TimeBin t) = []
 channelKey (Text s) = []
 channelKey (StartEvent t ts n) = []
+channelKey (ContinueEvent n) = []
 channelKey (EndEvent n) = []
 
 abbrev pub histogramKey : Item → List ℕ
@@ -90,6 +73,7 @@ histogramKey (LastCell a b) = []
 histogramKey (TimeBin t) = []
 histogramKey (Text s) = []
 histogramKey (StartEvent t ts n) = []
+histogramKey (ContinueEvent n) = []
 histogramKey (EndEvent n) = []
 
 abbrev pub binNumber : Item → List ℕ
@@ -102,6 +86,7 @@ binNumber (LastCell a b) = []
 binNumber (TimeBin t) = []
 binNumber (Text s) = []
 binNumber (StartEvent t ts n) = []
+binNumber (ContinueEvent n) = []
 binNumber (EndEvent n) = []
 
 abbrev pub startTime : Item → List ℕ
@@ -114,6 +99,7 @@ startTime (LastCell a b) = []
 startTime (TimeBin t) = t ∷ []
 startTime (Text s) = []
 startTime (StartEvent t ts n) = []
+startTime (ContinueEvent n) = []
 startTime (EndEvent n) = []
 
 abbrev pub headOrZero : List ℕ → ℕ
@@ -125,9 +111,16 @@ unfoldable pub above : ℕ → List ℕ → Bool
 above k [] = true
 above k (n ∷ ns) = ltb n k && above k ns
 
--- an event is open: a Start event stands since the latest End event
+-- how many items open an event, or go on with one
+abbrev pub openers : List Item → ℕ
+openers p = count startEvent p + count continueEvent p
+
+-- an event is open: such an item stands since the latest End event; and one that began in this frame: a Start event does
 abbrev pub inEvent : List Item → Bool
-inEvent p = has startEvent (since endEvent p)
+inEvent p = leb 1 (openers (since endEvent p))
+
+abbrev pub begun : List Item → Bool
+begun p = has startEvent (since endEvent p)
 
 -- "A Time bin's first sample is at that time, each further sample one later": the time that a sample after p has
 abbrev pub time : List Item → ℕ
@@ -141,7 +134,7 @@ lastTime p = time (before sample p)
 
 -- where the next item would stand
 pub data ReaderMode : Type 0 where
-  outside inside afterChannel afterTime afterSample unheaded headed commands : ReaderMode
+  fresh outside inside afterChannel afterTime afterSample unheaded headed commands : ReaderMode
 
 abbrev pub insideAfter : Class → ReaderMode
 insideAfter channel = afterChannel
@@ -156,18 +149,25 @@ insideAfter monitorFrame = inside
 insideAfter commandFrame = inside
 insideAfter text = inside
 insideAfter startEvent = inside
+insideAfter continueEvent = inside
 insideAfter endEvent = inside
 insideAfter frameEnd = inside
 insideAfter unassigned = inside
 
+-- outside an event: before any item, or after an event
+abbrev pub betweenEvents : List Item → ReaderMode
+betweenEvents [] = fresh
+betweenEvents (x ∷ p) = outside
+
 abbrev pub modeAfter : Kind → List Item → ReaderMode
-modeAfter dataKind p = pick (inEvent p) (insideAfter (latest p)) outside
+modeAfter dataKind p = pick (inEvent p) (insideAfter (latest p)) (betweenEvents p)
 modeAfter monitorKind p = pick (same histogram (latest p) || same bin (latest p)) headed unheaded
 modeAfter commandKind p = commands
 
--- "outside an event only Start event. Inside: Hit count, Last cell, Channel, End event; after Channel only Time bin; after Time bin only Sample;
+-- "outside an event only Start event", and Continue event "may only be the first item of a data frame". "Inside: Hit count, Last cell, Channel, End event; after Channel only Time bin; after Time bin only Sample;
 -- after Sample also Sample and Time bin"; "Histogram anywhere; Bin after Histogram or Bin"; "Text only"
 abbrev pub allowed : ReaderMode → List Class
+allowed fresh = startEvent ∷ continueEvent ∷ []
 allowed outside = startEvent ∷ []
 allowed inside = hitCount ∷ lastCell ∷ channel ∷ endEvent ∷ []
 allowed afterChannel = timeBin ∷ []
@@ -184,9 +184,9 @@ among c (d ∷ ds) = same c d || among c ds
 abbrev pub place : Kind → List Item → Class → Bool
 place kind p c = among c (allowed (modeAfter kind p))
 
--- the items may end here: no event is open
+-- "A data frame may end in an open event, though not after Channel or Time bin"
 abbrev pub mayEnd : List Item → Bool
-mayEnd p = not (inEvent p)
+mayEnd p = not (same channel (latest p) || same timeBin (latest p))
 
 -- ---- value
 
@@ -194,7 +194,7 @@ mayEnd p = not (inEvent p)
 abbrev pub eventSize : List Item → ℕ
 eventSize p = 2 * total (since startEvent p) + 6
 
--- "its size the event's bytes"
+-- "its size the event's bytes"; "A frame alone checks that size only where the event began in it"
 abbrev pub sized : List Item → Item → Bool
 sized p (Channel a b c) = true
 sized p (Histogram a b c) = true
@@ -205,7 +205,8 @@ sized p (LastCell a b) = true
 sized p (TimeBin t) = true
 sized p (Text s) = true
 sized p (StartEvent t ts n) = true
-sized p (EndEvent n) = eqb n (eventSize p)
+sized p (ContinueEvent n) = true
+sized p (EndEvent n) = not (begun p) || eqb n (eventSize p)
 
 abbrev pub value : ℕ → List Item → Item → Bool
 value card p x = inRange card x && sized p x
@@ -224,6 +225,7 @@ order p (LastCell a b) = true
 order p (TimeBin t) = not (has sample (since channel p)) || leb (lastTime p + 2) t
 order p (Text s) = true
 order p (StartEvent t ts n) = true
+order p (ContinueEvent n) = true
 order p (EndEvent n) = true
 
 -- ---- the rules together

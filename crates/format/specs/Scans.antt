@@ -8,7 +8,7 @@ use lib.ListN.{length}
 use lib.Dec.{eqb}
 use Rattle.format.specs.Words.{pick}
 use Rattle.format.specs.Answers.{Outcome, accepted, refused}
-use Rattle.format.specs.Items.{ItemOf, Item, Channel, Histogram, HitCount, Sample, Bin, LastCell, TimeBin, Text, StartEvent, EndEvent, wordsOf}
+use Rattle.format.specs.Items.{ItemOf, Item, Channel, Histogram, HitCount, Sample, Bin, LastCell, TimeBin, Text, StartEvent, ContinueEvent, EndEvent, wordsOf}
 use Rattle.format.specs.Frames.{Frame, lastOf, verdict}
 use Rattle.format.specs.Steps.{nextAt}
 use Rattle.format.specs.Questions.{Shown}
@@ -26,6 +26,7 @@ headBy h at (LastCell a b) = h
 headBy h at (TimeBin t) = h
 headBy h at (Text s) = h
 headBy h at (StartEvent t ts n) = h
+headBy h at (ContinueEvent n) = h
 headBy h at (EndEvent n) = h
 
 -- for the item whose first word is word w; 0 where no item begins there

@@ -10,7 +10,7 @@ use lib.Seq.{sets}
 use lib.Dec.{leb, ltb, eqb}
 use Rattle.format.specs.Words.{pick, bytes, longWords}
 use Rattle.format.specs.Answers.{Outcome, accepted, refused}
-use Rattle.format.specs.Items.{ItemOf, Item, Channel, Histogram, HitCount, Sample, Bin, LastCell, TimeBin, Text, StartEvent, EndEvent, wordsOf}
+use Rattle.format.specs.Items.{ItemOf, Item, Channel, Histogram, HitCount, Sample, Bin, LastCell, TimeBin, Text, StartEvent, ContinueEvent, EndEvent, wordsOf}
 use Rattle.format.specs.Frames.{Frame, allWords, verdict}
 
 -- what a Channel or Histogram item says of the items that follow it
@@ -40,6 +40,7 @@ spotOf k (LastCell a b) = none
 spotOf k (TimeBin t) = none
 spotOf k (Text s) = none
 spotOf k (StartEvent t ts n) = none
+spotOf k (ContinueEvent n) = none
 spotOf k (EndEvent n) = none
 
 -- the header that the next item stands under: a Channel or Histogram is one, after any other item it is still k
@@ -53,6 +54,7 @@ under k (LastCell a b) = k
 under k (TimeBin t) = k
 under k (Text s) = k
 under k (StartEvent t ts n) = k
+under k (ContinueEvent n) = k
 under k (EndEvent n) = k
 
 -- the item whose first word is word w, of items that begin at word `at` and under the header k
@@ -105,6 +107,7 @@ withValue (LastCell a b) v = LastCell a b
 withValue (TimeBin t) v = TimeBin t
 withValue (Text s) v = Text s
 withValue (StartEvent t ts n) v = StartEvent t ts n
+withValue (ContinueEvent n) v = ContinueEvent n
 withValue (EndEvent n) v = EndEvent n
 
 -- the header that stands after some items

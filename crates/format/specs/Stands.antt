@@ -6,10 +6,11 @@ use mathlib.Core.Path.{_≡_}
 use mathlib.Core.List.{List, [], _∷_, _++_}
 use mathlib.Core.Bool.{Bool, true, _&&_}
 use mathlib.Core.Logic.{_↔_}
+use mathlib.Core.Option.{Option, none, some}
 use lib.ListN.{length, take, getD}
-use Rattle.format.specs.Book.{Class, sample, bin, timeBin, startEvent, endEvent}
-use Rattle.format.specs.Items.{Item, Channel, Histogram, Sample, Bin, TimeBin, StartEvent, EndEvent, classFor}
-use Rattle.format.specs.Rules.{count, among}
+use Rattle.format.specs.Book.{Class, sample, bin, timeBin, endEvent}
+use Rattle.format.specs.Items.{Item, Channel, Histogram, HitCount, Sample, Bin, LastCell, TimeBin, Text, StartEvent, ContinueEvent, EndEvent, classFor}
+use Rattle.format.specs.Rules.{count, openers, among}
 use Rattle.format.specs.Frames.{allWords}
 use Rattle.format.specs.Questions.{Event}
 
@@ -29,13 +30,35 @@ unfoldable pub only : List Class → List Item → Bool
 only cs [] = true
 only cs (x ∷ xs) = among (classFor x) cs && only cs xs
 
--- event e: a Start event with e of them before it, and the first End event after it
+-- the item opens the event: its Start event; or a Continue event, and then type and timestamp stand in another frame
+abbrev pub Opener : Item → Event → Type 0
+Opener (Channel a b c) w = ⊥
+Opener (Histogram a b c) w = ⊥
+Opener (HitCount a b c) w = ⊥
+Opener (Sample v) w = ⊥
+Opener (Bin b n) w = ⊥
+Opener (LastCell a b) w = ⊥
+Opener (TimeBin t) w = ⊥
+Opener (Text s) w = ⊥
+Opener (StartEvent t ts n) w = (w .began ≡ some (record { kind = t; timestamp = ts })) × (w .number ≡ n)
+Opener (ContinueEvent n) w = (w .began ≡ none) × (w .number ≡ n)
+Opener (EndEvent n) w = ⊥
+
+-- what comes after an event's items: its End event, which gives its size; or nothing, and then the size stands in another frame
+pub data Closing : List Item → Option ℕ → Type 0 where
+  ends-with : (z : ℕ) (after : List Item) → Closing (EndEvent z ∷ after) (some z)
+  goes-on : Closing [] none
+
+-- event e: an item that opens one, with e of them before it, and the first End event after it
 pub record EventIn (xs : List Item) (e : ℕ) (v : Event) : Type 0 where
   pub before : List Item
+  pub opener : Item
   pub between : List Item
-  pub after : List Item
-  pub items : xs ≡ before ++ (StartEvent (v .kind) (v .timestamp) (v .number) ∷ (between ++ (EndEvent (v .size) ∷ after)))
-  pub ordinal : count startEvent before ≡ e
+  pub rest : List Item
+  pub items : xs ≡ before ++ (opener ∷ (between ++ rest))
+  pub opens : Opener opener v
+  pub closing : Closing rest (v .size)
+  pub ordinal : openers before ≡ e
   pub ended : count endEvent between ≡ 0
   pub index : v .index ≡ 3 + length (allWords before)
 
@@ -72,11 +95,11 @@ pub record BinIn (ys : List Item) (b n : ℕ) : Type 0 where
   pub items : ys ≡ before ++ (Bin b n ∷ after)
   pub same-histogram : only (bin ∷ []) before ≡ true
 
--- the items before a Sample of a channel: those before its event, the Start event, those before the header, the header, and those from there on
+-- the items before a Sample of a channel: those before its event, the one that opens it, those before the header, the header, and those from there on
 abbrev pub beforeSample : {xs ys : List Item} {e chip c t v : ℕ} → ChannelIn xs e chip c ys → SampleIn ys t v → List Item
 beforeSample {chip = chip} {c = c} h k =
     h .within .before
-    ++ (StartEvent (h .event .kind) (h .event .timestamp) (h .event .number)
+    ++ (h .within .opener
     ∷ (h .left ++ (Channel (h .card) chip c ∷ (k .before ++ (TimeBin (k .time) ∷ k .run)))))
 
 abbrev pub beforeBin : {xs ys : List Item} {chip c b n : ℕ} → HistogramIn xs chip c ys → BinIn ys b n → List Item

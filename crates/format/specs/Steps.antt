@@ -2,17 +2,26 @@
 -- Assumes nothing.
 use Prim.Native.Nat.{ℕ, zero, suc, _+_, _-_, _*_, max}
 use mathlib.Core.List.{List, [], _∷_}
-use mathlib.Core.Bool.{Bool, true, false, _&&_}
+use mathlib.Core.Bool.{Bool, true, false, not, _&&_, _||_}
 use lib.ListN.{length, take, drop}
 use lib.Dec.{leb, ltb, eqb}
 use Rattle.format.specs.Words.{pick, words, wordAt}
 use Rattle.format.specs.Answers.{Outcome, accepted, andThen}
-use Rattle.format.specs.Book.{Class, histogram, startEvent, classOf, after}
-use Rattle.format.specs.Items.{Item, Channel, Histogram, HitCount, Sample, Bin, LastCell, TimeBin, Text, StartEvent, EndEvent, classFor, inRange, key, Token, whole, broken, flawed, tokenOf, tokens}
-use Rattle.format.specs.Rules.{Kind, dataKind, monitorKind, commandKind, since, total, gather, channelKey, histogramKey, binNumber, time, ReaderMode, outside, inside, afterChannel, afterTime, afterSample, unheaded, headed, commands, modeAfter, allowed, among, Checked, good, bad}
+use Rattle.format.specs.Book.{Class, channel, histogram, startEvent, endEvent, classOf, after}
+use Rattle.format.specs.Items.{Item, Channel, Histogram, HitCount, Sample, Bin, LastCell, TimeBin, Text, StartEvent, ContinueEvent, EndEvent, classFor, inRange, key, Token, whole, broken, flawed, tokenOf, tokens}
+use Rattle.format.specs.Rules.{Kind, dataKind, monitorKind, commandKind, same, since, total, gather, channelKey, histogramKey, binNumber, time, begun, ReaderMode, fresh, outside, inside, afterChannel, afterTime, afterSample, unheaded, headed, commands, modeAfter, allowed, among, Checked, good, bad}
 use Rattle.format.specs.Frames.{Frame, earlierThen, walk, verdict}
 
 -- ---- the state
+
+-- where events begin and end. The leading part is that of an event that began in another frame, and goes on with a Continue event in this one
+pub record Marks : Type 0 where
+  -- the word index of the open event's Start event; 0 where no event that began in this frame is open
+  pub opener : ℕ
+  -- one more than the key of the leading part's first Channel header; 0 where it has none
+  pub first : ℕ
+  -- the word index of the leading part's End event; 0 where it has none
+  pub lead : ℕ
 
 pub record ReaderState : Type 0 where
   -- where the next item would stand
@@ -21,8 +30,7 @@ pub record ReaderState : Type 0 where
   pub key : ℕ
   -- the time that a sample would have, or the least number that a bin may have
   pub next : ℕ
-  -- the word index of the latest Start event
-  pub opener : ℕ
+  pub marks : Marks
 
 -- the least number above all of these
 unfoldable pub aboveAll : List ℕ → ℕ
@@ -41,19 +49,36 @@ nextAfter commandKind p = 0
 
 -- the items p begin at word 3
 abbrev pub openerAfter : List Item → ℕ
-openerAfter p = (3 + total p) - total (since startEvent p)
+openerAfter p = pick (begun p) ((3 + total p) - total (since startEvent p)) 0
+
+-- a Channel of an event that did not begin in this frame, and the first one
+unfoldable pub firstAfter : List Item → ℕ
+firstAfter [] = 0
+firstAfter (x ∷ p) = pick (same channel (classFor x) && not (begun p) && eqb (firstAfter p) 0) (aboveAll (channelKey x)) (firstAfter p)
+
+-- an End event of an event that did not begin in this frame
+unfoldable pub leadAfter : List Item → ℕ
+leadAfter [] = 0
+leadAfter (x ∷ p) = pick (same endEvent (classFor x) && not (begun p)) (3 + total p) (leadAfter p)
+
+unfoldable pub marksAfter : List Item → Marks
+marksAfter p = record { opener = openerAfter p; first = firstAfter p; lead = leadAfter p }
+
+-- no event has begun or ended
+abbrev pub unmarked : Marks
+unmarked = record { opener = 0; first = 0; lead = 0 }
 
 unfoldable pub stateOf : Kind → List Item → ReaderState
-stateOf kind p = record { mode = modeAfter kind p; key = keyAfter kind p; next = nextAfter kind p; opener = openerAfter p }
+stateOf kind p = record { mode = modeAfter kind p; key = keyAfter kind p; next = nextAfter kind p; marks = marksAfter p }
 
 -- the state before any item
 abbrev pub firstMode : Kind → ReaderMode
-firstMode dataKind = outside
+firstMode dataKind = fresh
 firstMode monitorKind = unheaded
 firstMode commandKind = commands
 
 abbrev pub start : Kind → ReaderState
-start kind = record { mode = firstMode kind; key = 0; next = 0; opener = 3 }
+start kind = record { mode = firstMode kind; key = 0; next = 0; marks = unmarked }
 
 -- ---- the rules by the state alone, of an item at word `at`
 
@@ -70,13 +95,15 @@ sizedBy at st (LastCell a b) = true
 sizedBy at st (TimeBin t) = true
 sizedBy at st (Text s) = true
 sizedBy at st (StartEvent t ts n) = true
-sizedBy at st (EndEvent n) = eqb n (2 * (at - st .opener) + 6)
+sizedBy at st (ContinueEvent n) = true
+sizedBy at st (EndEvent n) = eqb (st .marks .opener) 0 || eqb n (2 * (at - st .marks .opener) + 6)
 
 abbrev pub valueBy : ℕ → ℕ → ReaderState → Item → Bool
 valueBy card at st x = inRange card x && sizedBy at st x
 
 -- a Time bin right after a Sample leaves a pause
 abbrev pub paused : ReaderMode → ℕ → ℕ → Bool
+paused fresh next t = true
 paused outside next t = true
 paused inside next t = true
 paused afterChannel next t = true
@@ -96,20 +123,32 @@ orderBy st (LastCell a b) = true
 orderBy st (TimeBin t) = paused (st .mode) (st .next) t
 orderBy st (Text s) = true
 orderBy st (StartEvent t ts n) = true
+orderBy st (ContinueEvent n) = true
 orderBy st (EndEvent n) = true
+
+-- the marks after a Channel header whose key is one less than n, a Start event at word `at`, and an End event there
+abbrev pub marksChannel : ℕ → Marks → Marks
+marksChannel n m = record { opener = m .opener; first = pick (eqb (m .opener) 0 && eqb (m .first) 0) n (m .first); lead = m .lead }
+
+abbrev pub marksStart : ℕ → Marks → Marks
+marksStart at m = record { opener = at; first = m .first; lead = m .lead }
+
+abbrev pub marksEnd : ℕ → Marks → Marks
+marksEnd at m = record { opener = 0; first = m .first; lead = pick (eqb (m .opener) 0) at (m .lead) }
 
 -- the state after an item at word `at`
 abbrev pub stateAfter : ℕ → ReaderState → Item → ReaderState
-stateAfter at st (Channel a b c) = record { mode = afterChannel; key = key a b c + 1; next = st .next; opener = st .opener }
-stateAfter at st (Histogram a b c) = record { mode = headed; key = key a b c + 1; next = 0; opener = st .opener }
-stateAfter at st (HitCount a b c) = record { mode = inside; key = st .key; next = st .next; opener = st .opener }
-stateAfter at st (Sample v) = record { mode = afterSample; key = st .key; next = st .next + 1; opener = st .opener }
-stateAfter at st (Bin b n) = record { mode = headed; key = st .key; next = b + 1; opener = st .opener }
-stateAfter at st (LastCell a b) = record { mode = inside; key = st .key; next = st .next; opener = st .opener }
-stateAfter at st (TimeBin t) = record { mode = afterTime; key = st .key; next = t; opener = st .opener }
-stateAfter at st (Text s) = record { mode = commands; key = 0; next = 0; opener = st .opener }
-stateAfter at st (StartEvent t ts n) = record { mode = inside; key = 0; next = st .next; opener = at }
-stateAfter at st (EndEvent n) = record { mode = outside; key = st .key; next = st .next; opener = st .opener }
+stateAfter at st (Channel a b c) = record { mode = afterChannel; key = key a b c + 1; next = st .next; marks = marksChannel (key a b c + 1) (st .marks) }
+stateAfter at st (Histogram a b c) = record { mode = headed; key = key a b c + 1; next = 0; marks = st .marks }
+stateAfter at st (HitCount a b c) = record { mode = inside; key = st .key; next = st .next; marks = st .marks }
+stateAfter at st (Sample v) = record { mode = afterSample; key = st .key; next = st .next + 1; marks = st .marks }
+stateAfter at st (Bin b n) = record { mode = headed; key = st .key; next = b + 1; marks = st .marks }
+stateAfter at st (LastCell a b) = record { mode = inside; key = st .key; next = st .next; marks = st .marks }
+stateAfter at st (TimeBin t) = record { mode = afterTime; key = st .key; next = t; marks = st .marks }
+stateAfter at st (Text s) = record { mode = commands; key = 0; next = 0; marks = st .marks }
+stateAfter at st (StartEvent t ts n) = record { mode = inside; key = 0; next = st .next; marks = marksStart at (st .marks) }
+stateAfter at st (ContinueEvent n) = record { mode = inside; key = st .key; next = st .next; marks = st .marks }
+stateAfter at st (EndEvent n) = record { mode = outside; key = st .key; next = st .next; marks = marksEnd at (st .marks) }
 
 unfoldable pub checkBy : ℕ → ℕ → ReaderState → Token → Checked ReaderState
 checkBy card at st (flawed n) = bad n
@@ -117,13 +156,14 @@ checkBy card at st (broken c) = pick (placeBy st c) (bad 9) (bad 8)
 checkBy card at st (whole x) =
     pick (placeBy st (classFor x)) (pick (valueBy card at st x) (pick (orderBy st x) (good (stateAfter at st x)) (bad 10)) (bad 9)) (bad 8)
 
--- the items may end here: no event is open
+-- the items may end here: not after Channel or Time bin
 abbrev pub endedBy : ReaderMode → Bool
+endedBy fresh = true
 endedBy outside = true
-endedBy inside = false
+endedBy inside = true
 endedBy afterChannel = false
 endedBy afterTime = false
-endedBy afterSample = false
+endedBy afterSample = true
 endedBy unheaded = true
 endedBy headed = true
 endedBy commands = true

@@ -2,6 +2,7 @@
 -- Assumes nothing.
 use Prim.Native.Nat.{ℕ}
 use mathlib.Core.List.{List, [], _∷_, map}
+use mathlib.Core.Option.{some}
 use lib.ListN.{getD, replicate}
 use Rattle.follower.specs.Follow as follower
 use Rattle.follower.specs.Sender.{answers}
@@ -83,7 +84,7 @@ table =
     ∷ row (ordinal (pulse 0x0E03 0x001A) 4) (at 12 (Sample 251) 13)
     ∷ row (ordinal (pulse 0x0E03 0x001A) 5) (at 13 (EndEvent 26) 16)
     ∷ row (ordinal (pulse 0x0E03 0x001A) 6) (showing (refused 13 0))
-    ∷ row (event (pulse 0x0E03 0x001A) 0) (eventReply (accepted (record { kind = 1; timestamp = 1000; number = 7; size = 26; index = 3 })))
+    ∷ row (event (pulse 0x0E03 0x001A) 0) (eventReply (accepted (record { began = some (record { kind = 1; timestamp = 1000 }); number = 7; size = some 26; index = 3 })))
     ∷ row (event (pulse 0x0E03 0x001A) 1) (eventReply (refused 13 0))
     ∷ row (samples (pulse 0x0E03 0x001A) 0 2 10 (2 ∷ 3 ∷ 4 ∷ 5 ∷ [])) (standing (accepted (0xFFFF ∷ 250 ∷ 251 ∷ 0xFFFF ∷ [])))
     ∷ row (samples (pulse 0x0E03 0x001A) 0 2 11 (3 ∷ [])) (standing (refused 13 0))

@@ -5,7 +5,7 @@ use Prim.Native.Nat.{ℕ, suc, _+_, _*_, _^_, _<_, _≤_}
 use mathlib.Core.Path.{_≡_}
 use mathlib.Core.List.{List, [], _∷_}
 use lib.ListN.{length}
-use Rattle.format.specs.Items.{Item, Channel, Histogram, HitCount, Sample, Bin, LastCell, TimeBin, Text, StartEvent, EndEvent, headerBits}
+use Rattle.format.specs.Items.{Item, Channel, Histogram, HitCount, Sample, Bin, LastCell, TimeBin, Text, StartEvent, ContinueEvent, EndEvent, headerBits}
 use Rattle.format.specs.Rules.{Kind, dataKind, monitorKind, commandKind}
 use Rattle.format.specs.Frames.{allWords}
 
@@ -36,8 +36,22 @@ pub data Bar : Type 0 where
 pub data Pedestal : Type 0 where
   pedestal : ℕ → ℕ → ℕ → List Bar → Pedestal
 
+-- a data frame: an event's last part, which a Continue event (number) opens and an End event (size) ends, if there is one; events whole; and an
+-- event's first part, if there is one. Or nothing but a part of one event, which a Continue event (number) opens
+pub data Lead : Type 0 where
+  new : Lead
+  ending : ℕ → List Part → ℕ → Lead
+
+pub data Tail : Type 0 where
+  shut : Tail
+  opening : ℕ → ℕ → ℕ → List Part → Tail
+
+pub data Readout : Type 0 where
+  events : Lead → List Event → Tail → Readout
+  through : ℕ → List Part → Readout
+
 abbrev pub Tree : Kind → Type 0
-Tree dataKind = List Event
+Tree dataKind = Readout
 Tree monitorKind = List Pedestal
 Tree commandKind = List (List ℕ)
 
@@ -57,9 +71,21 @@ ofParts (hits a b c ∷ ps) xs = HitCount a b c ∷ ofParts ps xs
 ofParts (cell a b ∷ ps) xs = LastCell a b ∷ ofParts ps xs
 ofParts (pulse a b c r rs ∷ ps) xs = Channel a b c ∷ ofStretches (r ∷ rs) (ofParts ps xs)
 
-unfoldable pub ofEvents : List Event → List Item
-ofEvents [] = []
-ofEvents (event t ts n ps z ∷ es) = StartEvent t ts n ∷ ofParts ps (EndEvent z ∷ ofEvents es)
+unfoldable pub ofEvents : List Event → List Item → List Item
+ofEvents [] xs = xs
+ofEvents (event t ts n ps z ∷ es) xs = StartEvent t ts n ∷ ofParts ps (EndEvent z ∷ ofEvents es xs)
+
+abbrev pub ofLead : Lead → List Item → List Item
+ofLead new xs = xs
+ofLead (ending n ps z) xs = ContinueEvent n ∷ ofParts ps (EndEvent z ∷ xs)
+
+abbrev pub ofTail : Tail → List Item
+ofTail shut = []
+ofTail (opening t ts n ps) = StartEvent t ts n ∷ ofParts ps []
+
+abbrev pub ofReadout : Readout → List Item
+ofReadout (events l es o) = ofLead l (ofEvents es (ofTail o))
+ofReadout (through n ps) = ContinueEvent n ∷ ofParts ps []
 
 unfoldable pub ofBars : List Bar → List Item → List Item
 ofBars [] xs = xs
@@ -74,7 +100,7 @@ ofTexts [] = []
 ofTexts (s ∷ ss) = Text s ∷ ofTexts ss
 
 abbrev pub leaves : (kind : Kind) → Tree kind → List Item
-leaves dataKind es = ofEvents es
+leaves dataKind r = ofReadout r
 leaves monitorKind hs = ofPedestals hs
 leaves commandKind ss = ofTexts ss
 
@@ -107,9 +133,26 @@ channels (pulse a b c r rs ∷ ps) = headerBits a b c ∷ channels ps
 abbrev pub eventBytes : Event → ℕ
 eventBytes (event t ts n ps z) = 2 * length (allWords (StartEvent t ts n ∷ ofParts ps (EndEvent z ∷ [])))
 
+-- an event's parts in this frame
+abbrev pub Ordered : List Part → Type 0
+Ordered ps = AllSpaced ps × Rising 0 (channels ps)
+
 unfoldable pub AllEvents : List Event → Type 0
 AllEvents [] = Unit {0}
-AllEvents (event t ts n ps z ∷ es) = AllSpaced ps × Rising 0 (channels ps) × (z ≡ eventBytes (event t ts n ps z)) × AllEvents es
+AllEvents (event t ts n ps z ∷ es) = Ordered ps × (z ≡ eventBytes (event t ts n ps z)) × AllEvents es
+
+-- the size of an event that began in another frame counts what stands there
+abbrev pub LeadOrdered : Lead → Type 0
+LeadOrdered new = Unit {0}
+LeadOrdered (ending n ps z) = Ordered ps
+
+abbrev pub TailOrdered : Tail → Type 0
+TailOrdered shut = Unit {0}
+TailOrdered (opening t ts n ps) = Ordered ps
+
+abbrev pub ReadoutOrdered : Readout → Type 0
+ReadoutOrdered (events l es o) = LeadOrdered l × AllEvents es × TailOrdered o
+ReadoutOrdered (through n ps) = Ordered ps
 
 unfoldable pub binNumbers : List Bar → List ℕ
 binNumbers [] = []
@@ -125,7 +168,7 @@ AllBars [] = Unit {0}
 AllBars (pedestal a b c bs ∷ hs) = Rising 0 (binNumbers bs) × AllBars hs
 
 abbrev pub Shaped : (kind : Kind) → Tree kind → Type 0
-Shaped dataKind es = AllEvents es
+Shaped dataKind r = ReadoutOrdered r
 Shaped monitorKind hs = Rising 0 (histograms hs) × AllBars hs
 Shaped commandKind ss = Unit {0}
 
@@ -147,6 +190,7 @@ Limits card (LastCell b c) = (b ≤ 3) × (c ≤ 511)
 Limits card (TimeBin t) = t ≤ 511
 Limits card (Text s) = (length s ≤ 254) × Letters s
 Limits card (StartEvent t ts n) = (t ≤ 15) × (ts < 2 ^ 48) × (n < 2 ^ 32)
+Limits card (ContinueEvent n) = n < 2 ^ 32
 Limits card (EndEvent z) = z < 2 ^ 32
 
 -- of every item, and the frame's card

@@ -10,7 +10,7 @@ use lib.Dec.{leb, eqb}
 use Rattle.format.specs.Words.{pick, words, bytes, wordAt}
 use Rattle.format.specs.Answers.{Outcome, accepted, refused, andThen, leaves}
 use Rattle.format.specs.Book.{text}
-use Rattle.format.specs.Items.{ItemOf, Item, Channel, Histogram, HitCount, Sample, Bin, LastCell, TimeBin, Text, StartEvent, EndEvent, wordsOf, Token, whole, broken, flawed, tokens}
+use Rattle.format.specs.Items.{ItemOf, Item, Channel, Histogram, HitCount, Sample, Bin, LastCell, TimeBin, Text, StartEvent, ContinueEvent, EndEvent, wordsOf, Token, whole, broken, flawed, tokens}
 use Rattle.format.specs.Rules.{Kind, mayEnd, Checked, good, bad, check}
 use Rattle.format.specs.Frames.{startWord, allWords, startFits, kindIn, cardIn, walk, width}
 
@@ -73,6 +73,7 @@ given (LastCell a b) = whole (LastCell a b)
 given (TimeBin t) = whole (TimeBin t)
 given (Text n) = broken text
 given (StartEvent t ts n) = whole (StartEvent t ts n)
+given (ContinueEvent n) = whole (ContinueEvent n)
 given (EndEvent n) = whole (EndEvent n)
 
 -- the bytes that a token is written as

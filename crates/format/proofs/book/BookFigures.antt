@@ -5,12 +5,12 @@ use mathlib.Core.Path.{_≡_, refl}
 use mathlib.Core.List.{[], _∷_, map, flatten}
 use Rattle.format.specs.Words.{words, bytes, nonZero, allZero}
 use Rattle.format.specs.Prefix.{find}
-use Rattle.format.specs.Book.{Class, channel, histogram, hitCount, sample, bin, lastCell, timeBin, dataFrame, monitorFrame, commandFrame, text, startEvent, endEvent, frameEnd, unassigned, classOf, rowOf, classAt}
+use Rattle.format.specs.Book.{Class, channel, histogram, hitCount, sample, bin, lastCell, timeBin, dataFrame, monitorFrame, commandFrame, text, startEvent, continueEvent, endEvent, frameEnd, unassigned, classOf, rowOf, classAt}
 use Rattle.format.specs.Items.{Item, wordsOf, decode, whole, broken, flawed, tokenOf, tokens}
 use Rattle.format.specs.Figures.{tabled, figures, figureWords}
 
 -- the rows, numbered in the table's order
-pub rows-numbered : map rowOf tabled ≡ 1 ∷ 2 ∷ 3 ∷ 4 ∷ 5 ∷ 6 ∷ 7 ∷ 8 ∷ 9 ∷ 10 ∷ 11 ∷ 12 ∷ 13 ∷ 14 ∷ 0 ∷ []
+pub rows-numbered : map rowOf tabled ≡ 1 ∷ 2 ∷ 3 ∷ 4 ∷ 5 ∷ 6 ∷ 7 ∷ 8 ∷ 9 ∷ 10 ∷ 11 ∷ 12 ∷ 13 ∷ 14 ∷ 15 ∷ 0 ∷ []
 rows-numbered = refl
 
 -- the book has its rows in that order
@@ -29,6 +29,7 @@ row-stands text = refl
 row-stands startEvent = refl
 row-stands endEvent = refl
 row-stands frameEnd = refl
+row-stands continueEvent = refl
 row-stands unassigned = refl
 
 pub figures-written : flatten (map wordsOf figures) ≡ figureWords

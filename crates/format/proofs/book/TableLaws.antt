@@ -9,7 +9,7 @@ use mathlib.Core.List.{List}
 use native.Mathlib.Omega.{arith}
 use lib.Dec.{lit<}
 use Rattle.format.specs.Prefix.{Row, find, prefixFree, Matched}
-use Rattle.format.specs.Book.{Class, channel, histogram, hitCount, sample, bin, lastCell, timeBin, dataFrame, monitorFrame, commandFrame, text, startEvent, endEvent, frameEnd, unassigned, classOf, assigned, pageRange, Within}
+use Rattle.format.specs.Book.{Class, channel, histogram, hitCount, sample, bin, lastCell, timeBin, dataFrame, monitorFrame, commandFrame, text, startEvent, continueEvent, endEvent, frameEnd, unassigned, classOf, assigned, pageRange, Within}
 use Rattle.format.proofs.book.PrefixLaws.{Searched, hit, miss, searched, found}
 use Rattle.format.proofs.book.BookLaws.{ranged, in-range}
 
@@ -45,6 +45,7 @@ in-printed w monitorFrame a h = in-range w 8 (lit< tt) h
 in-printed w commandFrame a h = in-range w 9 (lit< tt) h
 in-printed w text a h = in-range w 10 (lit< tt) h
 in-printed w startEvent a h = in-range w 11 (lit< tt) h
+in-printed w continueEvent a h = in-range w 14 (lit< tt) h
 in-printed w endEvent a h = in-range w 12 (lit< tt) h
 in-printed w frameEnd a h = in-range w 13 (lit< tt) h
 in-printed w unassigned a h = absurd (true≢false (sym a))
@@ -70,6 +71,7 @@ class-none w = (λ e c a h. true≢false (sym a ∙ ap assigned (sym (in-printed
     only commandFrame a = absurd (true≢false a)
     only text a = absurd (true≢false a)
     only startEvent a = absurd (true≢false a)
+    only continueEvent a = absurd (true≢false a)
     only endEvent a = absurd (true≢false a)
     only frameEnd a = absurd (true≢false a)
     only unassigned a = refl

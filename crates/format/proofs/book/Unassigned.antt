@@ -1,4 +1,4 @@
--- T2, last sentence: "All other words, 3,807 of them, are unassigned." The words of a high byte other than 0 are counted a page at a time.
+-- T2, last sentence: "All other words, 3,295 of them, are unassigned." The words of a high byte other than 0 are counted a page at a time.
 -- Assumes nothing.
 use mathlib.Core.Path.{_≡_, refl, sym, ap, ap₂, _∙_}
 use mathlib.Core.Bool.{true}
@@ -50,10 +50,10 @@ low : sum unread 0 256 ≡ 223
 unfolding sum classOf find
 low = refl
 
-high : sum (λ (k : ℕ). 256 * unread (k * 256)) 1 255 ≡ 3584
+high : sum (λ (k : ℕ). 256 * unread (k * 256)) 1 255 ≡ 3072
 unfolding sum classOf find
 high = refl
 
--- of the 65,536 words, 3,807 are unassigned
-pub unassigned-count : sum unread 0 65536 ≡ 3807
+-- of the 65,536 words, 3,295 are unassigned
+pub unassigned-count : sum unread 0 65536 ≡ 3295
 unassigned-count = sum-append unread 256 0 65280 ∙ ap₂ _+_ low (pages 255 1 (λ i. omega arith) ∙ high)

@@ -8,13 +8,13 @@ use mathlib.Core.Logic.{_↔_}
 use mathlib.Core.Bool.{false}
 use mathlib.Core.Option.{some}
 use lib.ListN.{length, getD, take, drop}
-use Rattle.format.specs.Words.{Bytes}
+use Rattle.format.specs.Words.{Bytes, pick}
 use Rattle.format.specs.Answers.{accepted, refused}
-use Rattle.format.specs.Book.{text, startEvent, endEvent}
-use Rattle.format.specs.Items.{Item, Text, StartEvent, EndEvent, classFor}
-use Rattle.format.specs.Rules.{dataKind, same, count}
-use Rattle.format.specs.Frames.{Frame, allWords, verdict}
-use Rattle.format.specs.Questions.{Event, itemAt, shown, shownAt, textAt, eventAt, samplesAt, samplesLeft, countsAt, countsLeft, sampleWordAt, binWordAt}
+use Rattle.format.specs.Book.{text, endEvent}
+use Rattle.format.specs.Items.{Item, Text, EndEvent, classFor}
+use Rattle.format.specs.Rules.{dataKind, same, count, openers, inEvent}
+use Rattle.format.specs.Frames.{Frame, earlierThen, allWords, verdict}
+use Rattle.format.specs.Questions.{Began, Event, itemAt, shown, shownAt, textAt, eventAt, samplesAt, samplesLeft, countsAt, countsLeft, sampleWordAt, binWordAt}
 use Rattle.format.specs.Cursor.{Meets}
 use Rattle.format.specs.Stands.{ItemIs, indexOf, EventIn, ChannelIn, HistogramIn, SampleIn, BinIn, Fill, sampleOrdinal, binOrdinal, SampleAt, BinAt}
 use Rattle.format.specs.Spots.{spot}
@@ -120,16 +120,17 @@ module _ (s : List ℕ) (bytes : Bytes s) (f : Frame) (v : verdict s ≡ accepte
   pub event-exactly : (e : ℕ) (w : Event) → (eventAt s e ≡ accepted w) ↔ EventIn (f .items) e w
   event-exactly = events.event-answer s bytes f v
 
-  -- ".. its size the event's bytes, from its Start event word to the end of its End event item"
-  pub event-size : (e : ℕ) (w : Event) (h : EventIn (f .items) e w)
-      → w .size ≡ 2 * length (allWords (StartEvent (w .kind) (w .timestamp) (w .number) ∷ (h .between ++ (EndEvent (w .size) ∷ []))))
+  -- ".. its size the event's bytes, from its Start event word to the end of its End event item", where both stand in this frame
+  pub event-size : (e : ℕ) (w : Event) (h : EventIn (f .items) e w) (t : Began) (z : ℕ) → w .began ≡ some t → w .size ≡ some z
+      → z ≡ 2 * length (allWords (h .opener ∷ (h .between ++ (EndEvent z ∷ []))))
   event-size = events.event-bytes s bytes f v
 
-  -- ABSENT, "no such event"; "An event stands whole in one frame"
-  pub event-absent : (e : ℕ) → (eventAt s e ≡ refused 13 0) ↔ (count startEvent (f .items) ≤ e)
+  -- ABSENT, "no such event"
+  pub event-absent : (e : ℕ) → (eventAt s e ≡ refused 13 0) ↔ (openers (f .items) ≤ e)
   event-absent = events.event-none s f v
 
-  pub events-whole : count startEvent (f .items) ≡ count endEvent (f .items)
+  -- every event has its End event in this frame, but a last one that is still open
+  pub events-whole : openers (f .items) ≡ count endEvent (f .items) + pick (inEvent (earlierThen [] (f .items))) 1 0
   events-whole = events.frame-balance s bytes f v
 
   pub events-in-data : (f .kind ≡ dataKind → ⊥) → (e : ℕ) → eventAt s e ≡ refused 13 0

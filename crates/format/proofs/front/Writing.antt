@@ -36,7 +36,7 @@ partial-refusal = partial-refused
 
 -- T16. No dead end: a list that the rules allow so far can be continued to one that may end, the length of the result apart; so can what stands
 -- in every accepted partial frame. Every first part of a sound list is sound.
-pub continues : (kind : Kind) (card : ℕ) (xs : List Item) → length (allWords xs) ≤ 4092 → Sound kind card [] xs ↔ Ends kind card xs
+pub continues : (kind : Kind) (card : ℕ) (xs : List Item) → Sound kind card [] xs ↔ Ends kind card xs
 continues = no-dead-end
 
 pub partial-continues : (buf : List ℕ) → Bytes buf → (n : ℕ) (f : Partial) → partialVerdict buf n ≡ accepted f → Ends (f .kind) (f .card) (earlierThen [] (f .earlier))

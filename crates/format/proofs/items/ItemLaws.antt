@@ -13,8 +13,8 @@ use lib.ListN.{length, getD, take, drop, length-append, length-drop, take-append
 use lib.Seq.{take-at, drop-at, length-take-le}
 use borrow.Author.Tests.{leb-true, eqb-true, le-leb, lt-ltb}
 use Rattle.format.specs.Words.{pick, words, bytes, longOf, timeOf, longWords, timeWords, nonZero}
-use Rattle.format.specs.Book.{Class, channel, histogram, hitCount, sample, bin, lastCell, timeBin, dataFrame, monitorFrame, commandFrame, text, startEvent, endEvent, frameEnd, unassigned, classOf, after, assigned}
-use Rattle.format.specs.Items.{ItemOf, Item, Channel, Histogram, HitCount, Sample, Bin, LastCell, TimeBin, Text, StartEvent, EndEvent, classFor, headerBits, wordsOf, fits, decode, Token, whole, flawed, tokenFor, tokenOf, tokens}
+use Rattle.format.specs.Book.{Class, channel, histogram, hitCount, sample, bin, lastCell, timeBin, dataFrame, monitorFrame, commandFrame, text, startEvent, continueEvent, endEvent, frameEnd, unassigned, classOf, after, assigned}
+use Rattle.format.specs.Items.{ItemOf, Item, Channel, Histogram, HitCount, Sample, Bin, LastCell, TimeBin, Text, StartEvent, ContinueEvent, EndEvent, classFor, headerBits, wordsOf, fits, decode, Token, whole, flawed, tokenFor, tokenOf, tokens}
 use Rattle.format.specs.Fields.{Read}
 use Rattle.format.proofs.book.PrefixLaws.{and-left, and-right, and-both}
 use Rattle.format.proofs.book.BookLaws.{ranged, in-range}
@@ -90,6 +90,7 @@ written (StartEvent t ts n) f =
     let h : t ≤ 15 = leb-true t 15 (and-left (leb t 15) (leb ts 281474976710655) (and-left (leb t 15 && leb ts 281474976710655) (ltb n 4294967296) f)) in
     let e : (0x00F0 + t) % 16 ≡ t = omega arith in
     (0x00F0 + t, timeWords ts ++ longWords n, record { words = refl; class = in-range _ 11 (lit< tt) (omega arith, omega arith); count = refl; read = rw e (ap₂ (λ (x y : ℕ). some (StartEvent t x y)) (time-there ts (longWords n)) (long-there n [])) })
+written (ContinueEvent n) f = (0x0A00, longWords n, record { words = refl; class = in-range 0x0A00 14 (lit< tt) (omega arith, omega arith); count = refl; read = ap (λ (x : ℕ). some (ContinueEvent x)) (long-there n []) })
 written (EndEvent n) f = (0x00E0, longWords n, record { words = refl; class = in-range 0x00E0 12 (lit< tt) (omega arith, omega arith); count = refl; read = ap (λ (x : ℕ). some (EndEvent x)) (long-there n []) })
 
 -- the words that belong to an earlier item are passed over
@@ -110,6 +111,7 @@ item-assigned (LastCell a b) = refl
 item-assigned (TimeBin t) = refl
 item-assigned (Text s) = refl
 item-assigned (StartEvent a b c) = refl
+item-assigned (ContinueEvent n) = refl
 item-assigned (EndEvent n) = refl
 
 -- T4, there: an item that fits its fields, read back from its words, is itself, and the words behind it are read as if it were not there
@@ -196,6 +198,12 @@ decoded startEvent w ws x k n b e =
     time-of (a ∷ []) h = absurd (omega arith)
     time-of (a ∷ b ∷ []) h = absurd (omega arith)
     time-of (a ∷ b ∷ c ∷ l) h = refl
+decoded continueEvent w ws x k n b e =
+    let (p, q) = ranged w continueEvent k refl in
+    let (t, f) = kept _ _ x e in
+    let z : w % 512 ≡ 0 = eqb-true (w % 512) 0 t in
+    let v : w ≡ 0x0A00 = omega arith in
+    read-as w ws _ x f (ap₂ _∷_ v (long-back ws n b)) (lt-ltb (longOf ws) 4294967296 (long-below ws b)) (sym k)
 decoded endEvent w ws x k n b e =
     let (p, q) = ranged w endEvent k refl in
     let (t, f) = kept _ _ x e in

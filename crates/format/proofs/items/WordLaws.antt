@@ -69,6 +69,10 @@ word-at (a ∷ b ∷ s) (suc i) = word-at s i ∙ sym (rw (twice+1, twice))
 pub word-below : (s : List ℕ) → Bytes s → (i : ℕ) → wordAt s i < 65536
 word-below s h i = omega (arith, h (2 * i), h (2 * i + 1))
 
+-- and two of them below 2 ^ 32
+pub long-fits : (s : List ℕ) → Bytes s → (i : ℕ) → longAt s i < 4294967296
+long-fits s h i = omega (arith, word-below s h i, word-below s h (i + 1))
+
 pub words-below : (s : List ℕ) → Bytes s → (i : ℕ) → getD (words s) i 0 < 65536
 words-below s h i = rw (word-at s i) (word-below s h i)
 

@@ -13,8 +13,8 @@ use lib.ListN.{length, getD, take, drop, length-drop}
 use lib.Seq.{take-all}
 use borrow.Author.Tests.{leb-true}
 use Rattle.format.specs.Words.{words, bytes, longOf, longWords, timeWords, nonZero}
-use Rattle.format.specs.Book.{Class, channel, histogram, hitCount, sample, bin, lastCell, timeBin, dataFrame, monitorFrame, commandFrame, text, startEvent, endEvent, frameEnd, unassigned, classOf, after, nth}
-use Rattle.format.specs.Items.{ItemOf, Item, Channel, Histogram, HitCount, Sample, Bin, LastCell, TimeBin, Text, StartEvent, EndEvent, classFor, wordsOf, fits, closed, decode, Token, whole, tokenOf, tokens}
+use Rattle.format.specs.Book.{Class, channel, histogram, hitCount, sample, bin, lastCell, timeBin, dataFrame, monitorFrame, commandFrame, text, startEvent, continueEvent, endEvent, frameEnd, unassigned, classOf, after, nth}
+use Rattle.format.specs.Items.{ItemOf, Item, Channel, Histogram, HitCount, Sample, Bin, LastCell, TimeBin, Text, StartEvent, ContinueEvent, EndEvent, classFor, wordsOf, fits, closed, decode, Token, whole, tokenOf, tokens}
 use Rattle.format.specs.Fields.{cut, Fit, widths, content, rowFor, laterWords, firstWord}
 use Rattle.format.proofs.book.PrefixLaws.{and-left, and-right}
 use Rattle.format.proofs.items.WordLaws.{pick-elim}
@@ -31,6 +31,7 @@ row-class (LastCell a b) = refl
 row-class (TimeBin t) = refl
 row-class (Text s) = refl
 row-class (StartEvent t ts n) = refl
+row-class (ContinueEvent n) = refl
 row-class (EndEvent n) = refl
 
 -- T3, put in: the first word is the prefix of the item's row with its content below it
@@ -45,6 +46,7 @@ first-word (LastCell a b) = ap (λ (w : ℕ). w ∷ []) (omega arith)
 first-word (TimeBin t) = ap (λ (w : ℕ). w ∷ []) (omega arith)
 first-word (Text s) = ap (λ (w : ℕ). w ∷ words (s ++ (0 ∷ []))) (omega arith)
 first-word (StartEvent t ts n) = ap (λ (w : ℕ). w ∷ (timeWords ts ++ longWords n)) (omega arith)
+first-word (ContinueEvent n) = refl
 first-word (EndEvent n) = refl
 
 -- three tests in a row
@@ -79,6 +81,7 @@ content-fit (Text s) f =
 content-fit (StartEvent t ts n) f =
     let h = leb-true t 15 (three-tests (leb t 15) (leb ts 281474976710655) (ltb n 4294967296) f .0) in
     (omega arith, tt)
+content-fit (ContinueEvent n) f = (omega arith, tt)
 content-fit (EndEvent n) f = (omega arith, tt)
 
 -- T3, cut out: the fields cut from an item's first word are its content
@@ -129,6 +132,7 @@ decode-class monitorFrame w ws = of-none monitorFrame
 decode-class commandFrame w ws = of-none commandFrame
 decode-class text w ws = pick-elim (OfClass text) (closed (w % 256) (bytes ws)) (λ t. of-item text (Text (take (w % 256 - 1) (bytes ws))) refl) (λ t. of-none text)
 decode-class startEvent w ws = of-item startEvent _ refl
+decode-class continueEvent w ws = pick-elim (OfClass continueEvent) (eqb (w % 512) 0) (λ t. of-item continueEvent (ContinueEvent (longOf ws)) refl) (λ t. of-none continueEvent)
 decode-class endEvent w ws = pick-elim (OfClass endEvent) (eqb (w % 16) 0) (λ t. of-item endEvent (EndEvent (longOf ws)) refl) (λ t. of-none endEvent)
 decode-class frameEnd w ws = of-none frameEnd
 decode-class unassigned w ws = of-none unassigned

@@ -10,9 +10,9 @@ use lib.Dec.{ltb}
 use lib.ListN.{set}
 use borrow.Author.Tests.{leb-true, le-leb, ltb-true}
 use Rattle.format.specs.Words.{pick}
-use Rattle.format.specs.Book.{Class, channel, histogram, sample, bin, timeBin, text, startEvent}
-use Rattle.format.specs.Items.{Item, Channel, Histogram, HitCount, Sample, Bin, LastCell, TimeBin, Text, StartEvent, EndEvent}
-use Rattle.format.specs.Rules.{Kind, dataKind, monitorKind, commandKind, same, since, before, count, has, latest, gather, binNumber, above, time, lastTime, insideAfter, outside, allowed, among, place, inEvent}
+use Rattle.format.specs.Book.{Class, channel, histogram, sample, bin, timeBin, text, startEvent, continueEvent}
+use Rattle.format.specs.Items.{Item, Channel, Histogram, HitCount, Sample, Bin, LastCell, TimeBin, Text, StartEvent, ContinueEvent, EndEvent}
+use Rattle.format.specs.Rules.{Kind, dataKind, monitorKind, commandKind, same, since, before, count, has, latest, gather, binNumber, above, time, lastTime, insideAfter, betweenEvents, allowed, among, place, inEvent}
 use Rattle.format.specs.Frames.{Allowed, Sound}
 use Rattle.format.specs.Questions.{fillSamples, fillCounts}
 use Rattle.format.proofs.rules.LimitLaws.{allowed-limits}
@@ -34,6 +34,7 @@ sampleMarks u (LastCell a b ∷ xs) = []
 sampleMarks u (TimeBin t ∷ xs) = sampleMarks t xs
 sampleMarks u (Text s ∷ xs) = []
 sampleMarks u (StartEvent k ts n ∷ xs) = []
+sampleMarks u (ContinueEvent n ∷ xs) = []
 sampleMarks u (EndEvent n ∷ xs) = []
 
 pub samples-filled : (u : ℕ) (xs : List Item) (l : List ℕ) → fillSamples u xs l ≡ setAll (sampleMarks u xs) l
@@ -48,6 +49,7 @@ samples-filled u (LastCell a b ∷ xs) l = refl
 samples-filled u (TimeBin t ∷ xs) l = samples-filled t xs l
 samples-filled u (Text s ∷ xs) l = refl
 samples-filled u (StartEvent k ts n ∷ xs) l = refl
+samples-filled u (ContinueEvent n ∷ xs) l = refl
 samples-filled u (EndEvent n ∷ xs) l = refl
 
 -- of the Bins that come first
@@ -62,6 +64,7 @@ binMarks (LastCell a b ∷ xs) = []
 binMarks (TimeBin t ∷ xs) = []
 binMarks (Text s ∷ xs) = []
 binMarks (StartEvent k ts n ∷ xs) = []
+binMarks (ContinueEvent n ∷ xs) = []
 binMarks (EndEvent n ∷ xs) = []
 
 pub counts-filled : (xs : List Item) (l : List ℕ) → fillCounts xs l ≡ setAll (binMarks xs) l
@@ -76,19 +79,25 @@ counts-filled (LastCell a b ∷ xs) l = refl
 counts-filled (TimeBin t ∷ xs) l = refl
 counts-filled (Text s ∷ xs) l = refl
 counts-filled (StartEvent k ts n ∷ xs) l = refl
+counts-filled (ContinueEvent n ∷ xs) l = refl
 counts-filled (EndEvent n ∷ xs) l = refl
 
 -- ---- they rise
 
 -- a class that has no place behind another, in any kind of frame
 pub no-place : (kind : Kind) (p : List Item) (c d : Class) → latest p ≡ c
-    → among d (allowed (insideAfter c)) ≡ false → among d (startEvent ∷ []) ≡ false → same d histogram || same d bin ≡ false → among d (text ∷ []) ≡ false
+    → among d (allowed (insideAfter c)) ≡ false → among d (startEvent ∷ continueEvent ∷ []) ≡ false → same d histogram || same d bin ≡ false → among d (text ∷ []) ≡ false
     → place kind p d ≡ true → ⊥
-no-place dataKind p c d e f g h t i = go (inEvent p) i
+no-place dataKind p c d e f g h t i = go (inEvent p) p i
   where
-    go : (b : Bool) → among d (allowed (pick b (insideAfter (latest p)) outside)) ≡ true → ⊥
-    go true j = true≢false (sym j ∙ ap (λ (c : Class). among d (allowed (insideAfter c))) e ∙ f)
-    go false j = true≢false (sym j ∙ g)
+    first : (a b : Bool) → a || (b || false) ≡ false → a || false ≡ false
+    first false b i = refl
+    first true b i = i
+
+    go : (b : Bool) (q : List Item) → among d (allowed (pick b (insideAfter (latest p)) (betweenEvents q))) ≡ true → ⊥
+    go true q j = true≢false (sym j ∙ ap (λ (c : Class). among d (allowed (insideAfter c))) e ∙ f)
+    go false [] j = true≢false (sym j ∙ g)
+    go false (x ∷ q) j = true≢false (sym j ∙ first (same d startEvent) (same d continueEvent) g)
 no-place monitorKind p c d e f g h t i = true≢false (sym (monitor-place p d i) ∙ h)
 no-place commandKind p c d e f g h t i = true≢false (sym i ∙ t)
 
@@ -144,6 +153,7 @@ module _ (kind : Kind) (card : ℕ) where
       rise-lower t u 512 0xFFFF (sampleMarks t xs) (not-before p t u k (s .0)) (times-rise xs (TimeBin t ∷ p) t (begin p t) (s .1))
   times-rise (Text t ∷ xs) p u k s = tt
   times-rise (StartEvent t ts n ∷ xs) p u k s = tt
+  times-rise (ContinueEvent n ∷ xs) p u k s = tt
   times-rise (EndEvent n ∷ xs) p u k s = tt
 
   pub samples-rise : (p xs : List Item) (a b c : ℕ) → Sound kind card (Channel a b c ∷ p) xs → Rise 0 512 0xFFFF (sampleMarks 0 xs)
@@ -169,6 +179,7 @@ module _ (kind : Kind) (card : ℕ) where
   bins-from (TimeBin t ∷ xs) p lo h s = tt
   bins-from (Text t ∷ xs) p lo h s = tt
   bins-from (StartEvent t ts n ∷ xs) p lo h s = tt
+  bins-from (ContinueEvent n ∷ xs) p lo h s = tt
   bins-from (EndEvent n ∷ xs) p lo h s = tt
 
   pub bins-rise : (p xs : List Item) → Sound kind card p xs → Rise 0 4096 0 (binMarks xs)

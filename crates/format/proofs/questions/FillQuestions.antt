@@ -2,7 +2,7 @@
 -- Assumes nothing.
 use Prim.Native.Nat.{ℕ, _<_, _≤_}
 use mathlib.Core.Path.{_≡_, sym, ap, subst, _∙_}
-use mathlib.Core.List.{List}
+use mathlib.Core.List.{List, []}
 use mathlib.Core.Logic.{_↔_}
 use native.Mathlib.Omega.{arith}
 use lib.ListN.{length, getD}
@@ -10,14 +10,14 @@ use borrow.Author.Tests.{le-leb, lt-leb}
 use Rattle.format.specs.Words.{Bytes}
 use Rattle.format.specs.Answers.{Outcome, accepted, refused}
 use Rattle.format.specs.Items.{Item}
-use Rattle.format.specs.Frames.{Frame, verdict}
+use Rattle.format.specs.Frames.{Frame, Sound, verdict}
 use Rattle.format.specs.Questions.{present, past, isHistogram, channelIn, cleared, samplesAt, countsAt, samplesLeft, countsLeft}
 use Rattle.format.specs.Stands.{ChannelIn, HistogramIn, SampleIn, BinIn, Fill, sampleOrdinal, binOrdinal}
 use Rattle.format.proofs.questions.MarkLaws.{Mark, MarkIs, Rise, in-bounds, one-mark, one-value, setAll, filled}
 use Rattle.format.proofs.questions.FillLaws.{sampleMarks, samples-filled, samples-rise, binMarks, counts-filled, bins-rise}
 use Rattle.format.proofs.questions.StandLaws.{sample-mark, sample-in, bin-mark, bin-in}
 use Rattle.format.proofs.questions.FindLaws.{channel-there, channel-in, channel-absent, channel-sound, one-place, histogram-there, histogram-in, histogram-absent, histogram-sound, one-histogram-place}
-use Rattle.format.proofs.questions.EventQuestions.{Sounds, sounds}
+use Rattle.format.proofs.questions.EventQuestions.{sounds}
 
 -- ---- what the answers are
 
@@ -79,11 +79,11 @@ one-of ms n blank i v v′ k k′ r a b =
     let h = one-mark 0 n blank k k′ i v v′ ms r a b in
     (h, one-value k k′ i v v′ ms h a b)
 
-module _ (f : Frame) (h : Sounds f) (e chip c : ℕ) (ys : List Item) (i : ChannelIn (f .items) e chip c ys) where
+module _ (f : Frame) (h : Sound (f .kind) (f .card) [] (f .items)) (e chip c : ℕ) (ys : List Item) (i : ChannelIn (f .items) e chip c ys) where
   pub sample-rise : Rise 0 512 0xFFFF (sampleMarks 0 ys)
   sample-rise =
       samples-rise (f .kind) (f .card) _ ys (i .card) chip c
-      (channel-sound (f .kind) (f .card) (f .items) (h .sound) (h .closed) e chip c ys i)
+      (channel-sound (f .kind) (f .card) (f .items) h e chip c ys i)
 
   -- no two Samples have one time, and none has one after 511
   pub one-sample : (t v v′ : ℕ) (a : SampleIn ys t v) (b : SampleIn ys t v′) → (sampleOrdinal a ≡ sampleOrdinal b) × (v ≡ v′)
@@ -100,12 +100,12 @@ module _ (f : Frame) (h : Sounds f) (e chip c : ℕ) (ys : List Item) (i : Chann
       (fill-of (sampleMarks 0 ys) 512 0xFFFF (SampleIn ys) found sample-rise
       (λ t v a. (sampleOrdinal a, sample-mark ys t v a))
       (λ k t v m. sample-in (f .kind) (f .card) (i .card) chip c k t v _ ys
-      (channel-sound (f .kind) (f .card) (f .items) (h .sound) (h .closed) e chip c ys i) m)
+      (channel-sound (f .kind) (f .card) (f .items) h e chip c ys i) m)
       room)
 
-module _ (f : Frame) (h : Sounds f) (chip c : ℕ) (ys : List Item) (i : HistogramIn (f .items) chip c ys) where
+module _ (f : Frame) (h : Sound (f .kind) (f .card) [] (f .items)) (chip c : ℕ) (ys : List Item) (i : HistogramIn (f .items) chip c ys) where
   pub bin-rise : Rise 0 4096 0 (binMarks ys)
-  bin-rise = bins-rise (f .kind) (f .card) _ ys (histogram-sound (f .kind) (f .card) (f .items) (h .sound) chip c ys i)
+  bin-rise = bins-rise (f .kind) (f .card) _ ys (histogram-sound (f .kind) (f .card) (f .items) h chip c ys i)
 
   -- no two Bins have one number
   pub one-bin : (b n n′ : ℕ) (x : BinIn ys b n) (y : BinIn ys b n′) → (binOrdinal x ≡ binOrdinal y) × (n ≡ n′)
@@ -125,24 +125,24 @@ module _ (f : Frame) (h : Sounds f) (chip c : ℕ) (ys : List Item) (i : Histogr
 -- ---- of an accepted frame
 
 module _ (s : List ℕ) (bs : Bytes s) (f : Frame) (v : verdict s ≡ accepted f) where
-  abbrev good : Sounds f
+  abbrev good : Sound (f .kind) (f .card) [] (f .items)
   good = sounds s bs f v
 
   pub samples-answer : (e chip c room : ℕ) → 512 ≤ room → (ys : List Item) → (samplesAt s e chip c room ≡ accepted ys) ↔ ChannelIn (f .items) e chip c ys
   samples-answer e chip c room h ys =
       let q = samples-of s f v e chip c room h in (
-        λ i. channel-in (f .kind) (f .card) (f .items) (good .sound) (good .closed) e chip c ys (sym q ∙ i),
-        λ i. q ∙ channel-there (f .kind) (f .card) (f .items) (good .sound) (good .closed) e chip c ys i,
+        λ i. channel-in (f .kind) (f .card) (f .items) good e chip c ys (sym q ∙ i),
+        λ i. q ∙ channel-there (f .kind) (f .card) (f .items) good e chip c ys i,
       )
 
   pub samples-none : (e chip c room : ℕ) → 512 ≤ room → (samplesAt s e chip c room ≡ refused 13 0) ↔ ((ys : List Item) → ChannelIn (f .items) e chip c ys → ⊥)
   samples-none e chip c room h =
       subst (λ (o : Outcome (List Item)). (o ≡ refused 13 0) ↔ ((ys : List Item) → ChannelIn (f .items) e chip c ys → ⊥)) (sym (samples-of s f v e chip c room h))
-      (channel-absent (f .kind) (f .card) (f .items) (good .sound) (good .closed) e chip c)
+      (channel-absent (f .kind) (f .card) (f .items) good e chip c)
 
   pub one-channel-header : (e chip c : ℕ) (ys ys′ : List Item) (a : ChannelIn (f .items) e chip c ys) (b : ChannelIn (f .items) e chip c ys′)
       → (a .left ≡ b .left) × (ys ≡ ys′)
-  one-channel-header = one-place (f .kind) (f .card) (f .items) (good .sound) (good .closed)
+  one-channel-header = one-place (f .kind) (f .card) (f .items) good
 
   pub samples-lent : (e chip c : ℕ) (ys : List Item) → ChannelIn (f .items) e chip c ys → (found : List ℕ) → 512 ≤ length found
       → Fill 512 0xFFFF (SampleIn ys) found (samplesLeft (samplesAt s e chip c (length found)) found)
@@ -153,17 +153,17 @@ module _ (s : List ℕ) (bs : Bytes s) (f : Frame) (v : verdict s ≡ accepted f
   pub counts-answer : (chip c room : ℕ) → 4096 ≤ room → (ys : List Item) → (countsAt s chip c room ≡ accepted ys) ↔ HistogramIn (f .items) chip c ys
   counts-answer chip c room h ys =
       let q = counts-of s f v chip c room h in (
-        λ i. histogram-in (f .kind) (f .card) (f .items) (good .sound) chip c ys (sym q ∙ i),
-        λ i. q ∙ histogram-there (f .kind) (f .card) (f .items) (good .sound) chip c ys i,
+        λ i. histogram-in (f .kind) (f .card) (f .items) good chip c ys (sym q ∙ i),
+        λ i. q ∙ histogram-there (f .kind) (f .card) (f .items) good chip c ys i,
       )
 
   pub counts-none : (chip c room : ℕ) → 4096 ≤ room → (countsAt s chip c room ≡ refused 13 0) ↔ ((ys : List Item) → HistogramIn (f .items) chip c ys → ⊥)
   counts-none chip c room h =
       subst (λ (o : Outcome (List Item)). (o ≡ refused 13 0) ↔ ((ys : List Item) → HistogramIn (f .items) chip c ys → ⊥)) (sym (counts-of s f v chip c room h))
-      (histogram-absent (f .kind) (f .card) (f .items) (good .sound) chip c)
+      (histogram-absent (f .kind) (f .card) (f .items) good chip c)
 
   pub one-histogram-header : (chip c : ℕ) (ys ys′ : List Item) (a : HistogramIn (f .items) chip c ys) (b : HistogramIn (f .items) chip c ys′) → (a .left ≡ b .left) × (ys ≡ ys′)
-  one-histogram-header = one-histogram-place (f .kind) (f .card) (f .items) (good .sound)
+  one-histogram-header = one-histogram-place (f .kind) (f .card) (f .items) good
 
   pub counts-lent : (chip c : ℕ) (ys : List Item) → HistogramIn (f .items) chip c ys → (found : List ℕ) → 4096 ≤ length found
       → Fill 4096 0 (BinIn ys) found (countsLeft (countsAt s chip c (length found)) found)

@@ -1,6 +1,6 @@
 -- The header of a channel in an event, and of a histogram in a frame: the questions find it exactly where it stands, and it stands once.
 -- Assumes nothing.
-use Prim.Native.Nat.{ℕ}
+use Prim.Native.Nat.{ℕ, _+_}
 use mathlib.Core.Path.{_≡_, refl, sym, ap, ap₂, subst, _∙_}
 use mathlib.Core.List.{List, [], _∷_, _++_, append-assoc}
 use mathlib.Core.Logic.{_↔_}
@@ -14,16 +14,16 @@ use borrow.Author.Tests.{eqb-true, eq-eqb}
 use Rattle.format.specs.Words.{pick}
 use Rattle.format.specs.Answers.{Outcome, accepted, refused, andThen}
 use Rattle.format.specs.Book.{startEvent, endEvent}
-use Rattle.format.specs.Items.{Item, Channel, Histogram, HitCount, Sample, Bin, LastCell, TimeBin, Text, StartEvent, EndEvent, classFor}
-use Rattle.format.specs.Rules.{Kind, same, count, inEvent}
-use Rattle.format.specs.Frames.{Sound, earlierThen}
+use Rattle.format.specs.Items.{Item, Channel, Histogram, HitCount, Sample, Bin, LastCell, TimeBin, Text, StartEvent, ContinueEvent, EndEvent, classFor}
+use Rattle.format.specs.Rules.{Kind, same, count, openers}
+use Rattle.format.specs.Frames.{Sound, earlierThen, allWords}
 use Rattle.format.specs.Questions.{Event, Opened, events, pickNth, present, until, past, isChannel, isHistogram, channelIn}
-use Rattle.format.specs.Stands.{EventIn, ChannelIn, HistogramIn}
+use Rattle.format.specs.Stands.{Closing, ends-with, goes-on, EventIn, ChannelIn, HistogramIn}
 use Rattle.format.proofs.book.PrefixLaws.{and-left, and-right, and-both}
-use Rattle.format.proofs.rules.SoundLaws.{tally-zero, count-append, sound-left, sound-right, sound-tail, open-start, none-starts}
+use Rattle.format.proofs.rules.SoundLaws.{tally-zero, count-append, sound-left, sound-right, sound-tail, Opening, starts, continues, open-opening, none-opened}
 use Rattle.format.proofs.questions.ItemQuestions.{no-some, some-is}
 use Rattle.format.proofs.rules.RisingLaws.{one-channel, one-histogram}
-use Rattle.format.proofs.questions.EventQuestions.{event-picked, picked-event, between-sound}
+use Rattle.format.proofs.questions.EventQuestions.{opened, opening-of, event-picked, picked-event, between-sound}
 
 -- ---- the first item that passes a test
 
@@ -42,6 +42,7 @@ as-channel chip c (LastCell a b) e = no-pass e
 as-channel chip c (TimeBin t) e = no-pass e
 as-channel chip c (Text s) e = no-pass e
 as-channel chip c (StartEvent t ts n) e = no-pass e
+as-channel chip c (ContinueEvent n) e = no-pass e
 as-channel chip c (EndEvent n) e = no-pass e
 
 pub as-histogram : (chip c : ℕ) (x : Item) → isHistogram chip c x ≡ true → (a : ℕ) × (x ≡ Histogram a chip c)
@@ -55,6 +56,7 @@ as-histogram chip c (LastCell a b) e = no-pass e
 as-histogram chip c (TimeBin t) e = no-pass e
 as-histogram chip c (Text s) e = no-pass e
 as-histogram chip c (StartEvent t ts n) e = no-pass e
+as-histogram chip c (ContinueEvent n) e = no-pass e
 as-histogram chip c (EndEvent n) e = no-pass e
 
 module _ (f : Item → Bool) where
@@ -97,11 +99,17 @@ module _ (f : Item → Bool) where
       go false q i = rw (q, i)
 
 -- the items before the first End event
-pub until-end : (between after : List Item) (m : ℕ) → count endEvent between ≡ 0 → until endEvent (between ++ (EndEvent m ∷ after)) ≡ between
+pub until-end : (between rest : List Item) (z : Option ℕ) → Closing rest z → count endEvent between ≡ 0 → until endEvent (between ++ rest) ≡ between
 unfolding until count
-until-end [] after m h = refl
-until-end (x ∷ xs) after m h =
-    rw (tally-zero (same endEvent (classFor x)) (omega arith)) (ap (λ (l : List Item). x ∷ l) (until-end xs after m (omega arith)))
+until-end [] rest z (ends-with m after) h = refl
+until-end [] rest z goes-on h = refl
+until-end (x ∷ xs) rest z c h =
+    rw (tally-zero (same endEvent (classFor x)) (omega arith)) (ap (λ (l : List Item). x ∷ l) (until-end xs rest z c (omega arith)))
+
+-- the items that an event opens, whichever item opens it
+items-of : (at : ℕ) (x : Item) (k : Opening x) (xs : List Item) → until endEvent (opened at x k xs .items) ≡ until endEvent xs
+items-of at x (starts t ts n i) xs = refl
+items-of at x (continues n i) xs = refl
 
 -- ---- channels
 
@@ -109,19 +117,26 @@ pub present-is : {A : Type 0} (o : Option A) (a : A) → present o ≡ accepted 
 present-is none a e = let z : _≡_ {A = ℕ} 0 1 = cc in absurd (omega arith)
 present-is (some b) a e = cc
 
+-- the items of an event
+pub event-items : (xs : List Item) (e : ℕ) (v : Event) (h : EventIn xs e v)
+    → until endEvent (opened (3 + length (allWords (h .before))) (h .opener) (opening-of (h .opener) v (h .opens)) (h .between ++ h .rest) .items) ≡ h .between
+event-items xs e v h =
+    items-of (3 + length (allWords (h .before))) (h .opener) (opening-of (h .opener) v (h .opens)) (h .between ++ h .rest)
+    ∙ until-end (h .between) (h .rest) (v .size) (h .closing) (h .ended)
+
 -- the question looks among the event's items
 channel-of : (xs : List Item) (e chip c : ℕ) (v : Event) (h : EventIn xs e v) → channelIn e chip c xs ≡ present (past (isChannel chip c) (h .between))
 unfolding channelIn
 channel-of xs e chip c v h =
     ap (λ (o : Option Opened). andThen (present o) (λ o. present (past (isChannel chip c) (until endEvent (o .items))))) (event-picked xs e v h)
-    ∙ ap (λ (l : List Item). present (past (isChannel chip c) l)) (until-end (h .between) (h .after) (v .size) (h .ended))
+    ∙ ap (λ (l : List Item). present (past (isChannel chip c) l)) (event-items xs e v h)
 
 -- event e is one part of the items
 same-between : (xs : List Item) (e : ℕ) (v v′ : Event) (h : EventIn xs e v) (h′ : EventIn xs e v′) → h .between ≡ h′ .between
 same-between xs e v v′ h h′ =
-    sym (until-end (h .between) (h .after) (v .size) (h .ended))
+    sym (event-items xs e v h)
     ∙ ap (λ (o : Opened). until endEvent (o .items)) (some-is _ _ (sym (event-picked xs e v h) ∙ event-picked xs e v′ h′))
-    ∙ until-end (h′ .between) (h′ .after) (v′ .size) (h′ .ended)
+    ∙ event-items xs e v′ h′
 
 -- a list is split at one place by what stands behind it
 one-split : (l l′ : List Item) (x x′ : Item) (ys ys′ : List Item) → ys ≡ ys′ → l ++ (x ∷ ys) ≡ l′ ++ (x′ ∷ ys′) → l ≡ l′
@@ -157,20 +172,20 @@ absent-where o P there back f = (λ e ys h. both ys e (there ys h), λ n. go n f
     go n (finds ys e) = absurd (n ys (back ys e))
     go n (missing e) = e
 
-module _ (kind : Kind) (card : ℕ) (xs : List Item) (sound : Sound kind card [] xs) (closed : inEvent (earlierThen [] xs) ≡ false) (e chip c : ℕ) where
-  -- the items before those between an event's Start event and End event
+module _ (kind : Kind) (card : ℕ) (xs : List Item) (sound : Sound kind card [] xs) (e chip c : ℕ) where
+  -- the items up to the one that opens the event
   abbrev earlier : (v : Event) → EventIn xs e v → List Item
-  earlier v h = StartEvent (v .kind) (v .timestamp) (v .number) ∷ earlierThen [] (h .before)
+  earlier v h = h .opener ∷ earlierThen [] (h .before)
 
   inside : (v : Event) (h : EventIn xs e v) → Sound kind card (earlier v h) (h .between)
-  inside v h = sound-left kind card (earlier v h) (h .between) (EndEvent (v .size) ∷ h .after) (between-sound kind card xs sound closed e v h)
+  inside v h = sound-left kind card (earlier v h) (h .between) (h .rest) (between-sound kind card xs sound e v h)
 
   -- of two headers with one chip and channel, one does not stand
   no-second : (v : Event) (h : EventIn xs e v) (l m r : List Item) (a a′ : ℕ) → h .between ≡ l ++ (Channel a chip c ∷ (m ++ (Channel a′ chip c ∷ r))) → ⊥
   unfolding count
   no-second v h l m r a a′ i =
-      let n : count startEvent (h .between) ≡ 0 =
-      none-starts kind card (earlier v h) (h .between) (inside v h) (open-start (v .kind) (v .timestamp) (v .number) (earlierThen [] (h .before))) (h .ended) in
+      let n : openers (h .between) ≡ 0 =
+      none-opened kind card (earlier v h) (h .between) (inside v h) (open-opening (h .opener) (earlierThen [] (h .before)) (opening-of (h .opener) v (h .opens))) (h .ended) in
       let j = ap (count startEvent) i in
       let k = count-append startEvent l (Channel a chip c ∷ (m ++ (Channel a′ chip c ∷ r))) in
       let q = count-append startEvent m (Channel a′ chip c ∷ r) in
@@ -215,7 +230,7 @@ module _ (kind : Kind) (card : ℕ) (xs : List Item) (sound : Sound kind card []
           → andThen (present o) (λ o. present (past (isChannel chip c) (until endEvent (o .items)))) ≡ accepted ys → ChannelIn xs e chip c ys
       go none p j = let z : _≡_ {A = ℕ} 0 1 = cc in absurd (omega arith)
       go (some o) p j =
-          let h = picked-event kind card xs sound closed e o p in
+          let h = picked-event xs e o p in
           found (o .event) h ys (passing (isChannel chip c) (h .between))
           (present-is (past (isChannel chip c) (h .between)) ys (sym (channel-of xs e chip c (o .event) h) ∙ i))
 

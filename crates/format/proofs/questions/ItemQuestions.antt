@@ -14,7 +14,7 @@ use borrow.Author.Tests.{leb-true, leb-false}
 use Rattle.format.specs.Words.{Bytes, words, bytes, nonZero}
 use Rattle.format.specs.Answers.{Outcome, accepted, refused}
 use Rattle.format.specs.Book.{text}
-use Rattle.format.specs.Items.{Item, Channel, Histogram, HitCount, Sample, Bin, LastCell, TimeBin, Text, StartEvent, EndEvent, classFor, wordsOf, fits}
+use Rattle.format.specs.Items.{Item, Channel, Histogram, HitCount, Sample, Bin, LastCell, TimeBin, Text, StartEvent, ContinueEvent, EndEvent, classFor, wordsOf, fits}
 use Rattle.format.specs.Rules.{Kind, same}
 use Rattle.format.specs.Frames.{Frame, Sound, allWords, frameWords, encode, lastOf, verdict}
 use Rattle.format.specs.Questions.{IndexedItem, nth, itemAt, textIn, textFound, textAt, pickNth}
@@ -106,6 +106,7 @@ some-word (LastCell a b) = omega arith
 some-word (TimeBin t) = omega arith
 some-word (Text s) = omega arith
 some-word (StartEvent t ts n) = omega arith
+some-word (ContinueEvent n) = omega arith
 some-word (EndEvent n) = omega arith
 
 -- one item further, one item's words further
@@ -257,6 +258,7 @@ no-text (LastCell a b) e = refl
 no-text (TimeBin t) e = refl
 no-text (Text s) e = absurd (true≢false e)
 no-text (StartEvent t ts n) e = refl
+no-text (ContinueEvent n) e = refl
 no-text (EndEvent n) e = refl
 
 -- what is not empty is a Text's
@@ -270,6 +272,7 @@ some-text (LastCell x y) b t e = no-byte b t e
 some-text (TimeBin u) b t e = no-byte b t e
 some-text (Text s) b t e = ap Text e
 some-text (StartEvent u ts n) b t e = no-byte b t e
+some-text (ContinueEvent n) b t e = no-byte b t e
 some-text (EndEvent n) b t e = no-byte b t e
 
 pub other-text : (s : List ℕ) (f : Frame) → verdict s ≡ accepted f → (n : ℕ) (x : Item) → ItemIs (f .items) n x → same text (classFor x) ≡ false → textAt s n ≡ []

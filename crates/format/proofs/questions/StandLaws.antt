@@ -9,7 +9,7 @@ use mathlib.Core.Option.{some}
 use native.Mathlib.Omega.{arith}
 use lib.ListN.{length}
 use Rattle.format.specs.Book.{channel, sample, bin, timeBin}
-use Rattle.format.specs.Items.{Item, Channel, Histogram, HitCount, Sample, Bin, LastCell, TimeBin, Text, StartEvent, EndEvent, classFor}
+use Rattle.format.specs.Items.{Item, Channel, Histogram, HitCount, Sample, Bin, LastCell, TimeBin, Text, StartEvent, ContinueEvent, EndEvent, classFor}
 use Rattle.format.specs.Rules.{Kind, count, among}
 use Rattle.format.specs.Frames.{Sound}
 use Rattle.format.specs.Questions.{pickNth}
@@ -39,6 +39,7 @@ as-timed (LastCell a b) e = no-class e
 as-timed (TimeBin t) e = timed t refl
 as-timed (Text s) e = no-class e
 as-timed (StartEvent t ts n) e = no-class e
+as-timed (ContinueEvent n) e = no-class e
 as-timed (EndEvent n) e = no-class e
 
 pub as-sample : (x : Item) → among (classFor x) (sample ∷ []) ≡ true → (v : ℕ) × (x ≡ Sample v)
@@ -51,6 +52,7 @@ as-sample (LastCell a b) e = no-class e
 as-sample (TimeBin t) e = no-class e
 as-sample (Text s) e = no-class e
 as-sample (StartEvent t ts n) e = no-class e
+as-sample (ContinueEvent n) e = no-class e
 as-sample (EndEvent n) e = no-class e
 
 pub as-bin : (x : Item) → among (classFor x) (bin ∷ []) ≡ true → (b n : ℕ) × (x ≡ Bin b n)
@@ -63,6 +65,7 @@ as-bin (LastCell a b) e = no-class e
 as-bin (TimeBin t) e = no-class e
 as-bin (Text s) e = no-class e
 as-bin (StartEvent t ts n) e = no-class e
+as-bin (ContinueEvent n) e = no-class e
 as-bin (EndEvent n) e = no-class e
 
 -- ---- samples
@@ -153,6 +156,7 @@ mark-in u k t v (TimeBin w ∷ ys) e = go (mark-in w k t v ys e)
     go (inr h) = inr (one-more (TimeBin w) ys t v refl h)
 mark-in u k t v (Text s ∷ ys) e = no-some (t, v) e
 mark-in u k t v (StartEvent a ts n ∷ ys) e = no-some (t, v) e
+mark-in u k t v (ContinueEvent n ∷ ys) e = no-some (t, v) e
 mark-in u k t v (EndEvent n ∷ ys) e = no-some (t, v) e
 
 -- behind a Channel header comes no Sample at once
@@ -209,4 +213,5 @@ bin-in k b n (LastCell x y ∷ ys) e = no-some (b, n) e
 bin-in k b n (TimeBin t ∷ ys) e = no-some (b, n) e
 bin-in k b n (Text s ∷ ys) e = no-some (b, n) e
 bin-in k b n (StartEvent x ts y ∷ ys) e = no-some (b, n) e
+bin-in k b n (ContinueEvent m ∷ ys) e = no-some (b, n) e
 bin-in k b n (EndEvent m ∷ ys) e = no-some (b, n) e

@@ -13,13 +13,13 @@ use borrow.Author.Tests.{eqb-true, eq-eqb}
 use Rattle.format.specs.Words.{pick}
 use Rattle.format.specs.Answers.{Outcome, accepted, refused, andThen}
 use Rattle.format.specs.Book.{Class, channel, histogram, bin, sample, timeBin, endEvent}
-use Rattle.format.specs.Items.{Item, Channel, Histogram, HitCount, Sample, Bin, LastCell, TimeBin, Text, StartEvent, EndEvent, classFor, wordsOf}
+use Rattle.format.specs.Items.{Item, Channel, Histogram, HitCount, Sample, Bin, LastCell, TimeBin, Text, StartEvent, ContinueEvent, EndEvent, classFor, wordsOf}
 use Rattle.format.specs.Rules.{Kind, same, inEvent, count, among}
 use Rattle.format.specs.Frames.{Sound, earlierThen, allWords}
-use Rattle.format.specs.Questions.{Behind, Opened, events, pickNth, present, until, past, pastAt, firstInside, isChannel, isHistogram, channelIn, channelAt, sampleWord, binWord}
+use Rattle.format.specs.Questions.{Behind, Opened, events, pickNth, present, until, past, pastAt, isChannel, isHistogram, channelIn, channelAt, sampleWord, binWord}
 use Rattle.format.proofs.questions.ItemQuestions.{no-some, some-is, all-words}
-use Rattle.format.proofs.questions.EventQuestions.{picked-event, event-picked}
-use Rattle.format.proofs.questions.FindLaws.{as-channel, until-end, present-is}
+use Rattle.format.proofs.questions.EventQuestions.{picked-inside, picked-event, event-picked}
+use Rattle.format.proofs.questions.FindLaws.{as-channel, event-items, present-is}
 use Rattle.format.proofs.questions.MarkLaws.{MarkIs, mark-place}
 use Rattle.format.specs.Stands.{only, ChannelIn, HistogramIn, SampleIn, BinIn, beforeSample, beforeBin, sampleOrdinal, binOrdinal}
 use Rattle.format.proofs.book.PrefixLaws.{and-left, and-right, and-both}
@@ -132,6 +132,7 @@ sample-found t u at w (TimeBin n ∷ xs) e = later _ _ (sample-found t _ _ w xs 
         (omega (arith, i))
 sample-found t u at w (Text s ∷ xs) e = no-some w e
 sample-found t u at w (StartEvent k ts n ∷ xs) e = no-some w e
+sample-found t u at w (ContinueEvent n ∷ xs) e = no-some w e
 sample-found t u at w (EndEvent n ∷ xs) e = no-some w e
 
 -- and where one stands, a word is found
@@ -152,6 +153,7 @@ sample-there t u at k v (LastCell a b ∷ xs) e = no-some (t, v) e
 sample-there t u at k v (TimeBin n ∷ xs) e = sample-there t n (at + 1) k v xs e
 sample-there t u at k v (Text s ∷ xs) e = no-some (t, v) e
 sample-there t u at k v (StartEvent a ts n ∷ xs) e = no-some (t, v) e
+sample-there t u at k v (ContinueEvent n ∷ xs) e = no-some (t, v) e
 sample-there t u at k v (EndEvent n ∷ xs) e = no-some (t, v) e
 
 -- ---- the word of a Bin among those that come first
@@ -192,6 +194,7 @@ bin-found b at w (LastCell x y ∷ xs) e = no-some w e
 bin-found b at w (TimeBin t ∷ xs) e = no-some w e
 bin-found b at w (Text s ∷ xs) e = no-some w e
 bin-found b at w (StartEvent k ts n ∷ xs) e = no-some w e
+bin-found b at w (ContinueEvent n ∷ xs) e = no-some w e
 bin-found b at w (EndEvent n ∷ xs) e = no-some w e
 
 pub bin-there : (b at k n : ℕ) (xs : List Item) → MarkIs (binMarks xs) k b n → (w : ℕ) × (binWord b at xs ≡ some w)
@@ -211,6 +214,7 @@ bin-there b at k n (LastCell x y ∷ xs) e = no-some (b, n) e
 bin-there b at k n (TimeBin t ∷ xs) e = no-some (b, n) e
 bin-there b at k n (Text s ∷ xs) e = no-some (b, n) e
 bin-there b at k n (StartEvent x ts y ∷ xs) e = no-some (b, n) e
+bin-there b at k n (ContinueEvent m ∷ xs) e = no-some (b, n) e
 bin-there b at k n (EndEvent m ∷ xs) e = no-some (b, n) e
 
 -- ---- behind the header
@@ -228,37 +232,37 @@ channel-items e chip c xs = go (pickNth e (events 3 xs))
   where
     go : (o : Option Opened)
         → andThen (present o) (λ o. present (past (isChannel chip c) (until endEvent (o .items))))
-        ≡ andThen (andThen (present o) (λ o. present (pastAt (isChannel chip c) (firstInside o) (until endEvent (o .items))))) (λ b. accepted (b .items))
+        ≡ andThen (andThen (present o) (λ o. present (pastAt (isChannel chip c) (o .inside) (until endEvent (o .items))))) (λ b. accepted (b .items))
     go none = refl
     go (some o) =
-        let at : ℕ = firstInside o in
+        let at : ℕ = o .inside in
         ap present (past-of (isChannel chip c) at (until endEvent (o .items))) ∙ then-items (pastAt (isChannel chip c) at (until endEvent (o .items)))
 
 -- the items before it, and the word behind it
 pub record Headed (xs : List Item) (e chip c : ℕ) (b : Behind) : Type 0 where
   pub channel : ChannelIn xs e chip c (b .items)
-  pub index : b .index ≡ 3 + length (allWords (channel .within .before)) + 6 + length (allWords (channel .left)) + 1
+  pub index : b .index ≡ 3 + length (allWords (channel .within .before)) + length (wordsOf (channel .within .opener)) + length (allWords (channel .left)) + 1
 
-pub headed-at : (kind : Kind) (card : ℕ) (xs : List Item) → Sound kind card [] xs → inEvent (earlierThen [] xs) ≡ false
-    → (e chip c : ℕ) (b : Behind) → channelAt e chip c xs ≡ accepted b → Headed xs e chip c b
-unfolding channelAt firstInside wordsOf
-headed-at kind card xs sound closed e chip c b i = go (pickNth e (events 3 xs)) refl i
+pub headed-at : (xs : List Item) (e chip c : ℕ) (b : Behind) → channelAt e chip c xs ≡ accepted b → Headed xs e chip c b
+unfolding channelAt wordsOf
+headed-at xs e chip c b i = go (pickNth e (events 3 xs)) refl i
   where
-    within : (o : Opened) → pickNth e (events 3 xs) ≡ some o → pastAt (isChannel chip c) (firstInside o) (until endEvent (o .items)) ≡ some b → Headed xs e chip c b
+    within : (o : Opened) → pickNth e (events 3 xs) ≡ some o → pastAt (isChannel chip c) (o .inside) (until endEvent (o .items)) ≡ some b → Headed xs e chip c b
     within o p q =
-        let h = picked-event kind card xs sound closed e o p in
-        let l : until endEvent (o .items) ≡ h .between =
-        ap (λ (o : Opened). until endEvent (o .items)) (some-is _ _ (sym p ∙ event-picked xs e (o .event) h)) ∙ until-end (h .between) (h .after) (o .event .size) (h .ended) in
-        let r = passed-at (isChannel chip c) (firstInside o) (until endEvent (o .items)) b q in
+        let h = picked-event xs e o p in
+        let is = some-is _ _ (sym p ∙ event-picked xs e (o .event) h) in
+        let l : until endEvent (o .items) ≡ h .between = ap (λ (o : Opened). until endEvent (o .items)) is ∙ event-items xs e (o .event) h in
+        let m : o .inside ≡ 3 + length (allWords (h .before)) + length (wordsOf (h .opener)) = picked-inside xs e (o .event) h o p in
+        let r = passed-at (isChannel chip c) (o .inside) (until endEvent (o .items)) b q in
         let (a, j) = as-channel chip c (r .item) (r .passes) in
         let n : length (wordsOf (r .item)) ≡ 1 = ap (λ (x : Item). length (wordsOf x)) j in
         record {
           channel = record { event = o .event; within = h; left = r .before; card = a; header = sym l ∙ r .split ∙ ap (λ (x : Item). r .before ++ (x ∷ b .items)) j };
-          index = omega (arith, r .index, h .index);
+          index = omega (arith, r .index);
         }
 
     go : (o : Option Opened) → pickNth e (events 3 xs) ≡ o
-        → andThen (present o) (λ o. present (pastAt (isChannel chip c) (firstInside o) (until endEvent (o .items)))) ≡ accepted b → Headed xs e chip c b
+        → andThen (present o) (λ o. present (pastAt (isChannel chip c) (o .inside) (until endEvent (o .items)))) ≡ accepted b → Headed xs e chip c b
     go none p j = let z : _≡_ {A = ℕ} 0 1 = cc in absurd (omega arith)
     go (some o) p j = within o p (present-is _ b j)
 
@@ -279,9 +283,9 @@ pub channel-sought : (e chip c : ℕ) (xs : List Item) → Sought (channelAt e c
 unfolding channelAt
 channel-sought e chip c xs = go (pickNth e (events 3 xs))
   where
-    go : (o : Option Opened) → Sought (andThen (present o) (λ o. present (pastAt (isChannel chip c) (firstInside o) (until endEvent (o .items)))))
+    go : (o : Option Opened) → Sought (andThen (present o) (λ o. present (pastAt (isChannel chip c) (o .inside) (until endEvent (o .items)))))
     go none = missing refl
-    go (some o) = one-sought (pastAt (isChannel chip c) (firstInside o) (until endEvent (o .items)))
+    go (some o) = one-sought (pastAt (isChannel chip c) (o .inside) (until endEvent (o .items)))
 
 pub same-behind : (o : Outcome Behind) (ys : List Item) → andThen o (λ b. accepted (b .items)) ≡ accepted ys → (b : Behind) × (o ≡ accepted b) × (b .items ≡ ys)
 same-behind (accepted b) ys e = (b, refl, inner (b .items) ys e)
@@ -410,11 +414,11 @@ same-bins ys zs b n m x y q h =
     (omega (arith, bins-counted (x .before) (x .same-histogram), bins-counted (y .before) (y .same-histogram)))
 
 pub sample-long : (xs ys : List Item) (e chip c t n : ℕ) (h : ChannelIn xs e chip c ys) (k : SampleIn ys t n)
-    → length (allWords (beforeSample h k)) ≡ length (allWords (h .within .before)) + 6 + length (allWords (h .left)) + 1 + length (allWords (k .before ++ (TimeBin (k .time) ∷ k .run)))
+    → length (allWords (beforeSample h k)) ≡ length (allWords (h .within .before)) + length (wordsOf (h .within .opener)) + length (allWords (h .left)) + 1 + length (allWords (k .before ++ (TimeBin (k .time) ∷ k .run)))
 unfolding allWords wordsOf
 sample-long xs ys e chip c t n h k =
     let run : List Item = k .before ++ (TimeBin (k .time) ∷ k .run) in
-    omega (arith, words-long (h .within .before) (StartEvent (h .event .kind) (h .event .timestamp) (h .event .number) ∷ (h .left ++ (Channel (h .card) chip c ∷ run))), words-long (h .left) (Channel (h .card) chip c ∷ run))
+    omega (arith, words-long (h .within .before) (h .within .opener ∷ (h .left ++ (Channel (h .card) chip c ∷ run))), length-append (wordsOf (h .within .opener)) (allWords (h .left ++ (Channel (h .card) chip c ∷ run))), words-long (h .left) (Channel (h .card) chip c ∷ run))
 
 pub bin-long : (xs ys : List Item) (chip c b n : ℕ) (h : HistogramIn xs chip c ys) (k : BinIn ys b n) → length (allWords (beforeBin h k)) ≡ length (allWords (h .left)) + 1 + length (allWords (k .before))
 unfolding allWords wordsOf

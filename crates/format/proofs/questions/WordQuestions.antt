@@ -16,7 +16,7 @@ use Rattle.format.specs.Rules.{Kind, same}
 use Rattle.format.specs.Frames.{Frame, Sound, allWords, verdict}
 use Rattle.format.specs.Questions.{Behind, Opened, present, pastAt, isHistogram, channelAt, sampleWord, binWord, sampleWordAt, binWordAt, samplesAt, samplesLeft, countsAt, countsLeft}
 use Rattle.format.proofs.questions.ItemQuestions.{some-is}
-use Rattle.format.proofs.questions.EventQuestions.{Sounds, sounds, event-picked}
+use Rattle.format.proofs.questions.EventQuestions.{sounds, event-picked, picked-inside}
 use Rattle.format.proofs.questions.FindLaws.{as-histogram, present-is, channel-there, channel-sound, histogram-there}
 use Rattle.format.proofs.questions.FillQuestions.{sample-rise, bin-rise, sample-time, bin-number, samples-lent, counts-lent, one-channel-header, one-histogram-header}
 use Rattle.format.proofs.questions.MarkLaws.{MarkIs, one-mark}
@@ -31,9 +31,9 @@ use Rattle.format.proofs.questions.StandLaws.{no-run, sample-mark, bin-
 use Rattle.format.proofs.questions.WordFinds.{passed-at, SampleFound, sample-found, sample-there, BinFound, bin-found, bin-there, histogram-items, channel-items, Headed, headed-at, words-long, one-sought, channel-sought, same-behind, Worded, worded, no-word, no-words, bins-headless, run-headless, same-run, same-bins, sample-long, bin-long, first, timed}
 
 -- the one list of items, split at an event's header and at a Sample behind it
-split-twice : (before left ys after : List Item) (x h e : Item) → before ++ (x ∷ ((left ++ (h ∷ ys)) ++ (e ∷ after))) ≡ (before ++ (x ∷ left)) ++ (h ∷ (ys ++ (e ∷ after)))
-split-twice before left ys after x h e =
-    ap (λ (l : List Item). before ++ (x ∷ l)) (append-assoc left (h ∷ ys) (e ∷ after)) ∙ sym (append-assoc before (x ∷ left) (h ∷ (ys ++ (e ∷ after))))
+split-twice : (before left ys rest : List Item) (x h : Item) → before ++ (x ∷ ((left ++ (h ∷ ys)) ++ rest)) ≡ (before ++ (x ∷ left)) ++ (h ∷ (ys ++ rest))
+split-twice before left ys rest x h =
+    ap (λ (l : List Item). before ++ (x ∷ l)) (append-assoc left (h ∷ ys) rest) ∙ sym (append-assoc before (x ∷ left) (h ∷ (ys ++ rest)))
 
 split-run : (left before run after rest : List Item) (h t y : Item)
     → left ++ (h ∷ ((before ++ (t ∷ (run ++ (y ∷ after)))) ++ rest)) ≡ (left ++ (h ∷ (before ++ (t ∷ run)))) ++ (y ∷ (after ++ rest))
@@ -57,7 +57,7 @@ module _ (s : List ℕ) (f : Frame) (v : verdict s ≡ accepted f) where
   bin-word-of chip c b = rw v
 
 module _ (s : List ℕ) (bs : Bytes s) (f : Frame) (v : verdict s ≡ accepted f) where
-  good : Sounds f
+  good : Sound (f .kind) (f .card) [] (f .items)
   good = sounds s bs f v
 
   pub sample-stands : (e chip c t w : ℕ) → sampleWordAt s e chip c t ≡ accepted w → (n : ℕ) × SampleAt (f .items) e chip c t w n
@@ -66,7 +66,7 @@ module _ (s : List ℕ) (bs : Bytes s) (f : Frame) (v : verdict s ≡ accepted f
       at-word : (b : Behind) (h : Headed (f .items) e chip c b) → SampleFound 0 (b .index) (b .items) t w → (n : ℕ) × SampleAt (f .items) e chip c t w n
       at-word b h (first n k j) =
           absurd (no-run (f .kind) (f .card) (h .channel .card) chip c 0 t n _ (b .items)
-          (channel-sound (f .kind) (f .card) (f .items) (good .sound) (good .closed) e chip c (b .items) (h .channel)) k)
+          (channel-sound (f .kind) (f .card) (f .items) good e chip c (b .items) (h .channel)) k)
       at-word b h (timed n k j) = (
         n,
         record {
@@ -80,7 +80,7 @@ module _ (s : List ℕ) (bs : Bytes s) (f : Frame) (v : verdict s ≡ accepted f
       go : (o : Outcome Behind) → channelAt e chip c (f .items) ≡ o → andThen o (λ h. present (sampleWord t 0 (h .index) (h .items))) ≡ accepted w
           → (n : ℕ) × SampleAt (f .items) e chip c t w n
       go (accepted b) p j =
-          at-word b (headed-at (f .kind) (f .card) (f .items) (good .sound) (good .closed) e chip c b p)
+          at-word b (headed-at (f .items) e chip c b p)
           (sample-found t 0 (b .index) w (b .items) (present-is _ w j))
       go (refused k q) p j = let z : _≡_ {A = ℕ} 0 1 = cc in absurd (omega arith)
 
@@ -90,17 +90,17 @@ module _ (s : List ℕ) (bs : Bytes s) (f : Frame) (v : verdict s ≡ accepted f
       let h = a .channel in
       let k = a .sample in
       let before : List Item = h .within .before in
-      let start : Item = StartEvent (h .event .kind) (h .event .timestamp) (h .event .number) in
+      let start : Item = h .within .opener in
       let left : List Item = before ++ (start ∷ h .left) in
       let run : List Item = k .before ++ (TimeBin (k .time) ∷ k .run) in
-      let rest : List Item = EndEvent (h .event .size) ∷ h .within .after in
+      let rest : List Item = h .within .rest in
       let header : Item = Channel (h .card) chip c in
       let i : f .items ≡ left ++ (header ∷ (a .items ++ rest)) =
-      h .within .items ∙ ap (λ (l : List Item). before ++ (start ∷ (l ++ rest))) (h .header) ∙ split-twice before (h .left) (a .items) (h .within .after) start header (EndEvent (h .event .size)) in
+      h .within .items ∙ ap (λ (l : List Item). before ++ (start ∷ (l ++ rest))) (h .header) ∙ split-twice before (h .left) (a .items) rest start header in
       let j : f .items ≡ (left ++ (header ∷ run)) ++ (Sample n ∷ (k .after ++ rest)) =
       i ∙ ap (λ (l : List Item). left ++ (header ∷ (l ++ rest))) (k .items) ∙ split-run left (k .before) (k .run) (k .after) rest header (TimeBin (k .time)) (Sample n) in
       let w′ : w ≡ 3 + length (allWords (left ++ (header ∷ run))) = a .index ∙ ap (λ (l : List Item). 3 + length (allWords l)) (sym (append-assoc before (start ∷ h .left) (header ∷ run))) in
-      let card : h .card ≡ f .card = header-card (f .kind) (f .card) (f .items) left (a .items ++ rest) header (good .sound) i .0 in
+      let card : h .card ≡ f .card = header-card (f .kind) (f .card) (f .items) left (a .items ++ rest) header good i .0 in
       ap (spot s) w′ ∙ SpotKeys.sample-spot s f v left (h .card) chip c run n (k .after ++ rest) j (run-headless (a .items) t n k)
       ∙ ap (λ (d : ℕ). some (record { kind = 1; value = n; header = record { card = d; chip = chip; channel = c } })) card
 
@@ -108,7 +108,7 @@ module _ (s : List ℕ) (bs : Bytes s) (f : Frame) (v : verdict s ≡ accepted f
   sample-header : (e chip c t : ℕ) (ys : List Item) (n : ℕ) → ChannelIn (f .items) e chip c ys → SampleIn ys t n → Worded (channelAt e chip c (f .items)) (λ h. sampleWord t 0 (h .index) (h .items))
   sample-header e chip c t ys n h k =
       let (b, p, q) = same-behind (channelAt e chip c (f .items)) ys
-      (sym (channel-items e chip c (f .items)) ∙ channel-there (f .kind) (f .card) (f .items) (good .sound) (good .closed) e chip c ys h) in
+      (sym (channel-items e chip c (f .items)) ∙ channel-there (f .kind) (f .card) (f .items) good e chip c ys h) in
       let (w, r) = sample-there t 0 (b .index) (sampleOrdinal k) n (b .items) (subst (λ (l : List Item). MarkIs (sampleMarks 0 l) (sampleOrdinal k) t n) (sym q) (sample-mark ys t n k)) in
       record { behind = b; word = w; header = p; is = r }
 
@@ -133,9 +133,11 @@ module _ (s : List ℕ) (bs : Bytes s) (f : Frame) (v : verdict s ≡ accepted f
           one-mark 0 512 0xFFFF (sampleOrdinal (a .sample)) (sampleOrdinal (b .sample)) t n m (sampleMarks 0 (a .items)) (sample-rise f good e chip c (a .items) (a .channel))
           (sample-mark (a .items) t n (a .sample))
           (subst (λ (l : List Item). MarkIs (sampleMarks 0 l) (sampleOrdinal (b .sample)) t m) (sym q) (sample-mark (b .items) t m (b .sample))) in
-          let i : 3 + length (allWords (a .channel .within .before)) ≡ 3 + length (allWords (b .channel .within .before)) =
-          ap (λ (o : Opened). o .event .index)
-          (some-is _ _ (sym (event-picked (f .items) e (a .channel .event) (a .channel .within)) ∙ event-picked (f .items) e (b .channel .event) (b .channel .within))) in
+          let x = a .channel .within in
+          let y = b .channel .within in
+          let i : 3 + length (allWords (x .before)) + length (wordsOf (x .opener)) ≡ 3 + length (allWords (y .before)) + length (wordsOf (y .opener)) =
+          let p = event-picked (f .items) e (b .channel .event) y in
+          sym (picked-inside (f .items) e (a .channel .event) x _ p) ∙ picked-inside (f .items) e (b .channel .event) y _ p in
           let j : length (allWords (a .channel .left)) ≡ length (allWords (b .channel .left)) = ap (λ (l : List Item). length (allWords l)) l in
           let k = ap (λ (l : List Item). length (allWords l)) (same-run (a .items) (b .items) t n m (a .sample) (b .sample) q o) in
           omega (arith, a .index, b .index, k, sample-long (f .items) (a .items) e chip c t n (a .channel) (a .sample), sample-long (f .items) (b .items) e chip c t m (b .channel) (b .sample))
@@ -180,7 +182,7 @@ module _ (s : List ℕ) (bs : Bytes s) (f : Frame) (v : verdict s ≡ accepted f
       let header : Item = Histogram (h .card) chip c in
       let j : f .items ≡ (h .left ++ (header ∷ k .before)) ++ (Bin b n ∷ k .after) =
       h .header ∙ ap (λ (l : List Item). h .left ++ (header ∷ l)) (k .items) ∙ sym (append-assoc (h .left) (header ∷ k .before) (Bin b n ∷ k .after)) in
-      let card : h .card ≡ f .card = header-card (f .kind) (f .card) (f .items) (h .left) (a .items) header (good .sound) (h .header) .0 in
+      let card : h .card ≡ f .card = header-card (f .kind) (f .card) (f .items) (h .left) (a .items) header good (h .header) .0 in
       ap (spot s) (a .index) ∙ SpotKeys.bin-spot s f v (h .left) (h .card) chip c (k .before) b n (k .after) j (bins-headless (k .before) (k .same-histogram))
       ∙ ap (λ (d : ℕ). some (record { kind = 2; value = n; header = record { card = d; chip = chip; channel = c } })) card
 
@@ -188,7 +190,7 @@ module _ (s : List ℕ) (bs : Bytes s) (f : Frame) (v : verdict s ≡ accepted f
       → Worded (present (pastAt (isHistogram chip c) 3 (f .items))) (λ h. binWord b (h .index) (h .items))
   bin-header chip c b ys n h k =
       let (d, p, q) = same-behind (present (pastAt (isHistogram chip c) 3 (f .items))) ys
-      (sym (histogram-items chip c (f .items)) ∙ histogram-there (f .kind) (f .card) (f .items) (good .sound) chip c ys h) in
+      (sym (histogram-items chip c (f .items)) ∙ histogram-there (f .kind) (f .card) (f .items) good chip c ys h) in
       let (w, r) = bin-there b (d .index) (binOrdinal k) n (d .items) (subst (λ (l : List Item). MarkIs (binMarks l) (binOrdinal k) b n) (sym q) (bin-mark ys b n k)) in
       record { behind = d; word = w; header = p; is = r }
 

@@ -13,8 +13,8 @@ use lib.Seq.{take-at, drop-at}
 use borrow.Author.Tests.{le-leb, lt-leb, lt-ltb, le-ltb, leb-true, ltb-true, eqb-true, eqb-false}
 use Rattle.format.specs.Words.{pick, Bytes, words, bytes, wordAt, longAt, timeAt}
 use Rattle.format.specs.Answers.{accepted}
-use Rattle.format.specs.Book.{Class, channel, histogram, hitCount, sample, bin, lastCell, timeBin, text, startEvent, endEvent, classOf, after, assigned}
-use Rattle.format.specs.Items.{ItemOf, Item, Channel, Histogram, HitCount, Sample, Bin, LastCell, TimeBin, Text, StartEvent, EndEvent, classFor, wordsOf, decode, Token, whole, broken, flawed, tokenFor, tokens}
+use Rattle.format.specs.Book.{Class, channel, histogram, hitCount, sample, bin, lastCell, timeBin, text, startEvent, continueEvent, endEvent, classOf, after, assigned}
+use Rattle.format.specs.Items.{ItemOf, Item, Channel, Histogram, HitCount, Sample, Bin, LastCell, TimeBin, Text, StartEvent, ContinueEvent, EndEvent, classFor, wordsOf, decode, Token, whole, broken, flawed, tokenFor, tokens}
 use Rattle.format.specs.Rules.{Kind, same}
 use Rattle.format.specs.Frames.{Frame, earlierThen, Allowed, Sound, startWord, allWords, frameWords, encode, lastOf, verdict}
 use Rattle.format.specs.Steps.{tokenAt, nextAt, rest}
@@ -26,7 +26,7 @@ use Rattle.format.proofs.items.ItemLaws.{read-written, written-read}
 use Rattle.format.proofs.verdict.WalkLaws.{allowed-fits}
 use Rattle.format.proofs.rules.SoundLaws.{behind-append, sound-right, sound-head, sound-tail}
 use Rattle.format.proofs.reader.StepLaws.{rest-at, Next, next-at}
-use Rattle.format.proofs.reader.TurnLaws.{Stands, alone, bin-there, start-there, end-there, end-broken}
+use Rattle.format.proofs.reader.TurnLaws.{Stands, alone, bin-there, start-there, continue-there, continue-broken, end-there, end-broken}
 use Rattle.format.proofs.questions.ItemQuestions.{no-some, some-is, some-word, all-words}
 use Rattle.format.proofs.spots.PutLaws.{length-encode}
 use Rattle.format.proofs.verdict.Acceptance.{sound}
@@ -339,6 +339,18 @@ module _ (s : List ℕ) (at : ℕ) (g : On s at) where
             let (x, t) = turn h in
             absurd (no-whole endEvent x (sym (end-broken s (lastOf s) at (within-bytes s) k there (eqb-false _ 0 b) .token) ∙ t .token))
 
+    pub continue-turn : continueEvent ≡ classOf (wordAt s at) → Turn s at g (ContinueEvent (longAt s (at + 1))) (at + 3)
+    continue-turn k = go (eqb (wordAt s at % 512) 0) refl
+      where
+        there : at + 3 ≤ lastOf s
+        there = let l = far continueEvent 2 k refl in omega arith
+
+        go : (b : Bool) → eqb (wordAt s at % 512) 0 ≡ b → Turn s at g (ContinueEvent (longAt s (at + 1))) (at + 3)
+        go true b = by-token _ (at + 3) h (continue-there s (lastOf s) at (within-bytes s) _ k there (eqb-true _ 0 b) refl)
+        go false b =
+            let (x, t) = turn h in
+            absurd (no-whole continueEvent x (sym (continue-broken s (lastOf s) at (within-bytes s) k there (eqb-false _ 0 b) .token) ∙ t .token))
+
 -- ---- an item as it is answered tells the item, but for a text's bytes
 
 shown-item : (x : Item) → same text (classFor x) ≡ false → x ≡ unshown (shown x)
@@ -351,6 +363,7 @@ shown-item (LastCell a b) e = refl
 shown-item (TimeBin t) e = refl
 shown-item (Text s) e = absurd (true≢false e)
 shown-item (StartEvent t ts n) e = refl
+shown-item (ContinueEvent n) e = refl
 shown-item (EndEvent n) e = refl
 
 pub shown-class : (x : Item) → classFor (shown x) ≡ classFor x
@@ -363,6 +376,7 @@ shown-class (LastCell a b) = refl
 shown-class (TimeBin t) = refl
 shown-class (Text s) = refl
 shown-class (StartEvent t ts n) = refl
+shown-class (ContinueEvent n) = refl
 shown-class (EndEvent n) = refl
 
 module _ (s : List ℕ) (at : ℕ) (g : On s at) where

@@ -3,113 +3,59 @@
 use Prim.Native.Nat.{ℕ, zero, suc, _+_, _-_, _*_, _/_, _%_, _<_, _≤_}
 use mathlib.Core.Path.{_≡_, refl, sym, ap, ap₂, subst, _∙_}
 use mathlib.Core.List.{List, [], _∷_, _++_, append-nil}
-use mathlib.Core.Bool.{Bool, true, false, not, _&&_, _||_, true≢false}
+use mathlib.Core.Bool.{Bool, true, false}
 use native.Mathlib.Omega.{arith}
-use lib.Dec.{leb, eqb}
 use lib.ListN.{length, take, drop, length-append}
-use borrow.Author.Tests.{leb-true, leb-false, le-leb, lt-leb, eq-eqb, ne-eqb, not-true}
+use borrow.Author.Tests.{eq-eqb, ne-eqb}
 use Rattle.format.specs.Words.{pick, words, wordAt}
 use Rattle.format.specs.Answers.{Outcome, accepted, refused, andThen}
-use Rattle.format.specs.Book.{Class, channel, histogram, hitCount, sample, bin, lastCell, timeBin, dataFrame, monitorFrame, commandFrame, text, startEvent, endEvent, frameEnd, unassigned}
-use Rattle.format.specs.Items.{Item, Channel, Histogram, HitCount, Sample, Bin, LastCell, TimeBin, Text, StartEvent, EndEvent, classFor, wordsOf, Token}
-use Rattle.format.specs.Rules.{Kind, dataKind, monitorKind, commandKind, same, since, count, has, latest, inEvent, ReaderMode, insideAfter, outside, headed, unheaded, modeAfter, allowed, among, place, mayEnd}
-use Rattle.format.specs.Frames.{Frame, earlierThen, lastOf, headFault, kindIn, cardIn, front, body, walk, ending, judged, verdict}
-use Rattle.format.specs.Steps.{ReaderState, stateOf, endedBy, indexIn, Summary, summary, summed, rest, Overview, overview, readOf, Indexed, indexOf}
+use Rattle.format.specs.Items.{Item, Channel, Histogram, HitCount, Sample, Bin, LastCell, TimeBin, Text, StartEvent, ContinueEvent, EndEvent, wordsOf, Token}
+use Rattle.format.specs.Rules.{Kind, dataKind, monitorKind, commandKind, since, count, total, modeAfter, mayEnd}
+use Rattle.format.specs.Frames.{Frame, earlierThen, Allowed, lastOf, headFault, kindIn, cardIn, front, body, walk, ending, judged, verdict}
+use Rattle.format.specs.Steps.{ReaderState, stateOf, stateAfter, endedBy, indexIn, Summary, summary, summed, rest, Overview, overview, readOf, Indexed, indexOf}
+use Rattle.format.proofs.reader.StateLaws.{turn-of}
 use Rattle.format.proofs.verdict.WalkLaws.{Stepped, walk-step}
 use Rattle.format.proofs.verdict.Acceptance.{in-order, behind-behind, length-behind}
 
--- ---- the items may end exactly where no event is open
+-- ---- the items may end: not after Channel or Time bin
 
-no : {A : Type 0} → false ≡ true → A
-no e = let z : _≡_ {A = ℕ} 0 1 = cc in absurd (omega arith)
+by-item : (at : ℕ) (st : ReaderState) (x : Item) (p : List Item) → endedBy (stateAfter at st x .mode) ≡ mayEnd (x ∷ p)
+by-item at st (Channel a b c) p = refl
+by-item at st (Histogram a b c) p = refl
+by-item at st (HitCount a b c) p = refl
+by-item at st (Sample v) p = refl
+by-item at st (Bin b n) p = refl
+by-item at st (LastCell a b) p = refl
+by-item at st (TimeBin t) p = refl
+by-item at st (Text s) p = refl
+by-item at st (StartEvent t ts n) p = refl
+by-item at st (ContinueEvent n) p = refl
+by-item at st (EndEvent n) p = refl
 
-within-open : (c : Class) → endedBy (insideAfter c) ≡ false
-within-open channel = refl
-within-open histogram = refl
-within-open hitCount = refl
-within-open sample = refl
-within-open bin = refl
-within-open lastCell = refl
-within-open timeBin = refl
-within-open dataFrame = refl
-within-open monitorFrame = refl
-within-open commandFrame = refl
-within-open text = refl
-within-open startEvent = refl
-within-open endEvent = refl
-within-open frameEnd = refl
-within-open unassigned = refl
+after-item : (kind : Kind) (card : ℕ) (p : List Item) (x : Item) → Allowed kind card p x → endedBy (modeAfter kind (x ∷ p)) ≡ mayEnd (x ∷ p)
+unfolding stateOf
+after-item kind card p x a =
+    sym (ap (λ (st : ReaderState). endedBy (st .mode)) (turn-of kind p x (a .placed) .after (a .ordered))) ∙ by-item (3 + total p) (stateOf kind p) x p
 
--- outside a data frame no event begins
-quiet-item : (x : Item) (p : List Item) → same startEvent (classFor x) ≡ false → inEvent p ≡ false → inEvent (x ∷ p) ≡ false
+before-items : (kind : Kind) → endedBy (modeAfter kind []) ≡ mayEnd []
 unfolding since count
-quiet-item x p n e = go (same endEvent (classFor x))
-  where
-    few : count startEvent (since endEvent p) ≡ 0
-    few = omega (arith, leb-false 1 (count startEvent (since endEvent p)) e)
+before-items dataKind = refl
+before-items monitorKind = refl
+before-items commandKind = refl
 
-    go : (b : Bool) → leb 1 (pick (same startEvent (classFor x)) 1 0 + count startEvent (pick b [] (since endEvent p))) ≡ false
-    go true = rw n
-    go false = rw (n, few)
-
-not-start : (kind : Kind) (p : List Item) (x : Item) → (kind ≡ dataKind → ⊥) → place kind p (classFor x) ≡ true → same startEvent (classFor x) ≡ false
-not-start kind p (Channel a b c) d h = refl
-not-start kind p (Histogram a b c) d h = refl
-not-start kind p (HitCount a b c) d h = refl
-not-start kind p (Sample v) d h = refl
-not-start kind p (Bin b n) d h = refl
-not-start kind p (LastCell a b) d h = refl
-not-start kind p (TimeBin t) d h = refl
-not-start kind p (Text s) d h = refl
-not-start dataKind p (StartEvent t ts n) d h = absurd (d refl)
-not-start monitorKind p (StartEvent t ts n) d h = absurd (go (same histogram (latest p) || same bin (latest p)) h)
-  where
-    go : (b : Bool) → among startEvent (allowed (pick b headed unheaded)) ≡ true → ⊥
-    go true e = no e
-    go false e = no e
-not-start commandKind p (StartEvent t ts n) d h = no h
-not-start kind p (EndEvent n) d h = refl
-
-quiet : (kind : Kind) (card : ℕ) → (kind ≡ dataKind → ⊥) → (ts : List Token) (p q : List Item) (at : ℕ) → inEvent p ≡ false → walk kind card p at ts ≡ accepted q → inEvent q ≡ false
+ended-walk : (kind : Kind) (card : ℕ) (ts : List Token) (p q : List Item) (at : ℕ) → endedBy (modeAfter kind p) ≡ mayEnd p → walk kind card p at ts ≡ accepted q
+    → endedBy (modeAfter kind q) ≡ mayEnd q
 unfolding walk
-quiet kind card d [] p q at e w = subst (λ (l : List Item). inEvent l ≡ false) (inner p q w) e
+ended-walk kind card [] p q at e w = subst (λ (l : List Item). endedBy (modeAfter kind l) ≡ mayEnd l) (inner p q w) e
   where
     inner : (p q : List Item) → accepted p ≡ accepted q → p ≡ q
     inner p q f = cc
-quiet kind card d (t ∷ ts) p q at e w =
+ended-walk kind card (t ∷ ts) p q at e w =
     let s = walk-step kind card p at t ts q w in
-    quiet kind card d ts (s .item ∷ p) q (at + length (wordsOf (s .item)))
-    (quiet-item (s .item) p (not-start kind p (s .item) d (s .allowed .placed)) e) (s .rest)
-
-other-ended : (kind : Kind) (p : List Item) → (kind ≡ dataKind → ⊥) → endedBy (modeAfter kind p) ≡ true
-other-ended dataKind p d = absurd (d refl)
-other-ended monitorKind p d = go (same histogram (latest p) || same bin (latest p))
-  where
-    go : (b : Bool) → endedBy (pick b headed unheaded) ≡ true
-    go true = refl
-    go false = refl
-other-ended commandKind p d = refl
-
-data-ended : (p : List Item) → endedBy (modeAfter dataKind p) ≡ mayEnd p
-data-ended p = go (inEvent p)
-  where
-    go : (b : Bool) → endedBy (pick b (insideAfter (latest p)) outside) ≡ not b
-    go true = within-open (latest p)
-    go false = refl
+    ended-walk kind card ts (s .item ∷ p) q (at + length (wordsOf (s .item))) (after-item kind card p (s .item) (s .allowed)) (s .rest)
 
 pub may-end : (kind : Kind) (card at : ℕ) (ts : List Token) (p : List Item) → walk kind card [] at ts ≡ accepted p → endedBy (modeAfter kind p) ≡ mayEnd p
-unfolding since count
-may-end dataKind card at ts p w = data-ended p
-may-end monitorKind card at ts p w =
-    other-ended monitorKind p (λ e. other e) ∙ sym (ap not (quiet monitorKind card (λ e. other e) ts [] p at refl w))
-  where
-    other : monitorKind ≡ dataKind → ⊥
-    other e = let z : _≡_ {A = ℕ} 0 1 = cc in omega arith
-may-end commandKind card at ts p w =
-    other-ended commandKind p (λ e. other e) ∙ sym (ap not (quiet commandKind card (λ e. other e) ts [] p at refl w))
-  where
-    other : commandKind ≡ dataKind → ⊥
-    other e = let z : _≡_ {A = ℕ} 0 1 = cc in omega arith
+may-end kind card at ts p w = ended-walk kind card ts [] p at (before-items kind) w
 
 -- ---- the answers
 

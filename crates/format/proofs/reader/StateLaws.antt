@@ -7,13 +7,13 @@ use mathlib.Core.Bool.{Bool, true, false, not, _&&_, _||_, true≢false}
 use native.Mathlib.Nat.{zero-add}
 use native.Mathlib.Omega.{arith}
 use lib.ListN.{length}
-use lib.Dec.{leb, ltb}
-use borrow.Author.Tests.{leb-true, leb-false, le-leb, lt-leb, ltb-true, ltb-false}
+use lib.Dec.{leb, ltb, eqb}
+use borrow.Author.Tests.{leb-true, leb-false, le-leb, lt-leb, ltb-true, ltb-false, ne-eqb}
 use Rattle.format.specs.Words.{pick}
-use Rattle.format.specs.Book.{Class, channel, histogram, hitCount, sample, bin, lastCell, timeBin, dataFrame, monitorFrame, commandFrame, text, startEvent, endEvent, frameEnd, unassigned}
-use Rattle.format.specs.Items.{Item, Channel, Histogram, HitCount, Sample, Bin, LastCell, TimeBin, Text, StartEvent, EndEvent, classFor, wordsOf, key, Token, whole, broken, flawed}
-use Rattle.format.specs.Rules.{Kind, dataKind, monitorKind, commandKind, same, since, before, count, has, latest, total, gather, channelKey, histogramKey, binNumber, startTime, headOrZero, above, inEvent, time, lastTime, ReaderMode, outside, inside, afterChannel, afterTime, afterSample, unheaded, headed, commands, insideAfter, modeAfter, allowed, among, place, value, order, Checked, good, bad, check}
-use Rattle.format.specs.Steps.{ReaderState, aboveAll, openerAfter, stateOf, start, valueBy, paused, orderBy, stateAfter, checkBy}
+use Rattle.format.specs.Book.{Class, channel, histogram, hitCount, sample, bin, lastCell, timeBin, dataFrame, monitorFrame, commandFrame, text, startEvent, continueEvent, endEvent, frameEnd, unassigned}
+use Rattle.format.specs.Items.{Item, Channel, Histogram, HitCount, Sample, Bin, LastCell, TimeBin, Text, StartEvent, ContinueEvent, EndEvent, classFor, wordsOf, inRange, key, Token, whole, broken, flawed}
+use Rattle.format.specs.Rules.{Kind, dataKind, monitorKind, commandKind, same, since, before, count, has, latest, total, gather, channelKey, histogramKey, binNumber, startTime, headOrZero, above, openers, inEvent, begun, time, lastTime, ReaderMode, fresh, outside, inside, afterChannel, afterTime, afterSample, unheaded, headed, commands, insideAfter, betweenEvents, modeAfter, allowed, among, place, eventSize, value, order, Checked, good, bad, check}
+use Rattle.format.specs.Steps.{Marks, ReaderState, aboveAll, openerAfter, firstAfter, leadAfter, marksAfter, stateOf, start, valueBy, marksChannel, marksStart, marksEnd, paused, orderBy, stateAfter, checkBy}
 
 -- ---- numbers above all of some
 
@@ -40,6 +40,7 @@ no e = let z : _≡_ {A = ℕ} 0 1 = cc in absurd (omega arith)
 
 -- the places of a data frame, and of a monitor frame
 abbrev InData : ReaderMode → Type 0
+InData fresh = Unit {0}
 InData outside = Unit {0}
 InData inside = Unit {0}
 InData afterChannel = Unit {0}
@@ -62,6 +63,7 @@ within-data monitorFrame = tt
 within-data commandFrame = tt
 within-data text = tt
 within-data startEvent = tt
+within-data continueEvent = tt
 within-data endEvent = tt
 within-data frameEnd = tt
 within-data unassigned = tt
@@ -69,9 +71,13 @@ within-data unassigned = tt
 in-data : (p : List Item) → InData (modeAfter dataKind p)
 in-data p = go (inEvent p)
   where
-    go : (b : Bool) → InData (pick b (insideAfter (latest p)) outside)
+    between : (q : List Item) → InData (betweenEvents q)
+    between [] = tt
+    between (x ∷ q) = tt
+
+    go : (b : Bool) → InData (pick b (insideAfter (latest p)) (betweenEvents p))
     go true = within-data (latest p)
-    go false = tt
+    go false = between p
 
 -- a class that stands in no place of a data frame, of a monitor frame
 not-data : (p : List Item) (c : Class) → ((m : ReaderMode) → InData m → among c (allowed m) ≡ false) → place dataKind p c ≡ true → ⊥
@@ -85,6 +91,7 @@ not-monitor p c u v h = go (same histogram (latest p) || same bin (latest p)) h
     go false e = true≢false (sym e ∙ v)
 
 histogram-not : (m : ReaderMode) → InData m → among histogram (allowed m) ≡ false
+histogram-not fresh i = refl
 histogram-not outside i = refl
 histogram-not inside i = refl
 histogram-not afterChannel i = refl
@@ -95,6 +102,7 @@ histogram-not headed i = absurd i
 histogram-not commands i = absurd i
 
 bin-not : (m : ReaderMode) → InData m → among bin (allowed m) ≡ false
+bin-not fresh i = refl
 bin-not outside i = refl
 bin-not inside i = refl
 bin-not afterChannel i = refl
@@ -105,6 +113,7 @@ bin-not headed i = absurd i
 bin-not commands i = absurd i
 
 text-not : (m : ReaderMode) → InData m → among text (allowed m) ≡ false
+text-not fresh i = refl
 text-not outside i = refl
 text-not inside i = refl
 text-not afterChannel i = refl
@@ -114,22 +123,26 @@ text-not unheaded i = absurd i
 text-not headed i = absurd i
 text-not commands i = absurd i
 
--- any class but a Start event stands inside an event only
-open-there : (p : List Item) (c : Class) → same c startEvent ≡ false → place dataKind p c ≡ true → inEvent p ≡ true
-open-there p c n h = go (inEvent p) refl
+-- any class but a Start or Continue event stands inside an event only
+open-there : (p : List Item) (c : Class) → same c startEvent ≡ false → same c continueEvent ≡ false → place dataKind p c ≡ true → inEvent p ≡ true
+open-there p c n m h = go (inEvent p) refl
   where
+    between : (q : List Item) → among c (allowed (betweenEvents q)) ≡ false
+    between [] = rw (n, m)
+    between (x ∷ q) = rw n
+
     go : (b : Bool) → inEvent p ≡ b → inEvent p ≡ true
     go true e = e
     go false e =
-        let g : among c (allowed (pick (inEvent p) (insideAfter (latest p)) outside)) ≡ false = rw (e, n) in
+        let g : among c (allowed (pick (inEvent p) (insideAfter (latest p)) (betweenEvents p))) ≡ false = rw e (between p) in
         absurd (true≢false (sym h ∙ g))
 
 -- an event that is open stays so until its End event
 still : (x : Item) (p : List Item) → same endEvent (classFor x) ≡ false → inEvent p ≡ true → inEvent (x ∷ p) ≡ true
 unfolding since count
 still x p n e =
-    let h : 1 ≤ count startEvent (since endEvent p) = leb-true _ _ e in
-    rw n (le-leb 1 (pick (same startEvent (classFor x)) 1 0 + count startEvent (since endEvent p)) (omega arith))
+    let h : 1 ≤ openers (since endEvent p) = leb-true _ _ e in
+    rw n (le-leb 1 ((pick (same startEvent (classFor x)) 1 0 + count startEvent (since endEvent p)) + (pick (same continueEvent (classFor x)) 1 0 + count continueEvent (since endEvent p))) (omega arith))
 
 -- ---- the words since the latest Start event
 
@@ -142,9 +155,12 @@ since-less c (x ∷ p) = go (same c (classFor x)) (since-less c p)
     go true h = omega arith
     go false h = omega arith
 
-opener-same : (x : Item) (p : List Item) → same startEvent (classFor x) ≡ false → openerAfter p ≡ openerAfter (x ∷ p)
-unfolding since total
-opener-same x p n = rw n (omega arith)
+opener-same : (x : Item) (p : List Item) → same startEvent (classFor x) ≡ false → same endEvent (classFor x) ≡ false → openerAfter p ≡ openerAfter (x ∷ p)
+unfolding since total count
+opener-same x p n m =
+    let z : 0 + count startEvent (since endEvent p) ≡ count startEvent (since endEvent p) = omega arith in
+    let e : (3 + (length (wordsOf x) + total p)) - (length (wordsOf x) + total (since startEvent p)) ≡ (3 + total p) - total (since startEvent p) = omega arith in
+    rw (n, m, z, e)
 
 -- ---- one item
 
@@ -152,9 +168,42 @@ pub record Turn (kind : Kind) (p : List Item) (x : Item) : Type 0 where
   pub ordered : orderBy (stateOf kind p) x ≡ order p x
   pub after : order p x ≡ true → stateAfter (3 + total p) (stateOf kind p) x ≡ stateOf kind (x ∷ p)
 
-alike : (m m′ : ReaderMode) (k k′ n n′ o o′ : ℕ) → m ≡ m′ → k ≡ k′ → n ≡ n′ → o ≡ o′
-    → _≡_ {A = ReaderState} (record { mode = m; key = k; next = n; opener = o }) (record { mode = m′; key = k′; next = n′; opener = o′ })
-alike m m′ k k′ n n′ o o′ e f g h = λ i. record { mode = e i; key = f i; next = g i; opener = h i }
+alike : (m m′ : ReaderMode) (k k′ n n′ : ℕ) (o o′ : Marks) → m ≡ m′ → k ≡ k′ → n ≡ n′ → o ≡ o′
+    → _≡_ {A = ReaderState} (record { mode = m; key = k; next = n; marks = o }) (record { mode = m′; key = k′; next = n′; marks = o′ })
+alike m m′ k k′ n n′ o o′ e f g h = λ i. record { mode = e i; key = f i; next = g i; marks = h i }
+
+marked-alike : (a a′ b b′ c c′ : ℕ) → a ≡ a′ → b ≡ b′ → c ≡ c′
+    → _≡_ {A = Marks} (record { opener = a; first = b; lead = c }) (record { opener = a′; first = b′; lead = c′ })
+marked-alike a a′ b b′ c c′ e f g = λ i. record { opener = e i; first = f i; lead = g i }
+
+-- the opener tells whether the open event began in this frame: a word of the frame's items is at least 3
+pub unopened : (p : List Item) → eqb (openerAfter p) 0 ≡ not (begun p)
+unopened p = go (begun p)
+  where
+    go : (b : Bool) → eqb (pick b ((3 + total p) - total (since startEvent p)) 0) 0 ≡ not b
+    go true = let l = since-less startEvent p in ne-eqb ((3 + total p) - total (since startEvent p)) 0 (λ (i : (3 + total p) - total (since startEvent p) ≡ 0). omega arith)
+    go false = refl
+
+-- no mark is set by an item that is no Channel and neither begins nor ends an event
+marks-same : (x : Item) (p : List Item) → same startEvent (classFor x) ≡ false → same endEvent (classFor x) ≡ false → same channel (classFor x) ≡ false
+    → marksAfter p ≡ marksAfter (x ∷ p)
+unfolding marksAfter firstAfter leadAfter
+marks-same x p a b c = marked-alike _ _ _ _ _ _ (opener-same x p a b) (rw c) (rw b)
+
+channel-marks : (a b c : ℕ) (p : List Item) → marksChannel (key a b c + 1) (marksAfter p) ≡ marksAfter (Channel a b c ∷ p)
+unfolding marksAfter firstAfter leadAfter aboveAll
+channel-marks a b c p =
+    let k : key a b c + 1 ≡ max (suc (key a b c)) 0 = omega arith in
+    marked-alike _ _ _ _ _ _ (opener-same (Channel a b c) p refl refl) (rw (unopened p, k)) refl
+
+start-marks : (t ts n : ℕ) (p : List Item) → marksStart (3 + total p) (marksAfter p) ≡ marksAfter (StartEvent t ts n ∷ p)
+unfolding marksAfter firstAfter leadAfter since count total wordsOf
+start-marks t ts n p =
+    marked-alike _ _ _ _ _ _ (sym (rw (le-leb 1 (1 + count startEvent (since endEvent p)) (omega arith)) (omega arith))) refl refl
+
+end-marks : (n : ℕ) (p : List Item) → marksEnd (3 + total p) (marksAfter p) ≡ marksAfter (EndEvent n ∷ p)
+unfolding marksAfter firstAfter leadAfter since count
+end-marks n p = marked-alike _ _ _ _ _ _ refl refl (rw (unopened p))
 
 -- a time that no Time bin and no Sample changes
 time-same : (p : List Item) (n : ℕ) → n ≡ 0 → time p ≡ headOrZero (gather startTime p) + (n + count sample (since timeBin p))
@@ -174,6 +223,7 @@ pause (LastCell a b) q t h = no h
 pause (TimeBin u) q t h = no h
 pause (Text s) q t h = no h
 pause (StartEvent k ts n) q t h = no h
+pause (ContinueEvent n) q t h = no h
 pause (EndEvent n) q t h = no h
 
 time-ordered : (p : List Item) (t : ℕ) → place dataKind p timeBin ≡ true → inEvent p ≡ true
@@ -187,71 +237,82 @@ module _ (p : List Item) where
   unfolding stateOf since count gather
   hit-turn a b c h = record {
     ordered = refl;
-    after = λ e. alike _ _ _ _ _ _ _ _ (sym (rw (still (HitCount a b c) p refl (open-there p hitCount refl h)))) refl (time-same p 0 refl) (opener-same (HitCount a b c) p refl);
+    after = λ e. alike _ _ _ _ _ _ _ _ (sym (rw (still (HitCount a b c) p refl (open-there p hitCount refl refl h)))) refl (time-same p 0 refl) (marks-same (HitCount a b c) p refl refl refl);
   }
 
   cell-turn : (a b : ℕ) → place dataKind p lastCell ≡ true → Turn dataKind p (LastCell a b)
   unfolding stateOf since count gather
   cell-turn a b h = record {
     ordered = refl;
-    after = λ e. alike _ _ _ _ _ _ _ _ (sym (rw (still (LastCell a b) p refl (open-there p lastCell refl h)))) refl (time-same p 0 refl) (opener-same (LastCell a b) p refl);
+    after = λ e. alike _ _ _ _ _ _ _ _ (sym (rw (still (LastCell a b) p refl (open-there p lastCell refl refl h)))) refl (time-same p 0 refl) (marks-same (LastCell a b) p refl refl refl);
   }
 
   channel-turn : (a b c : ℕ) → place dataKind p channel ≡ true → Turn dataKind p (Channel a b c)
   unfolding stateOf since count gather
   channel-turn a b c h = record {
     ordered = sym (above-leb (key a b c) (gather channelKey (since startEvent p)));
-    after = λ e. alike _ _ _ _ _ _ _ _ (sym (rw (still (Channel a b c) p refl (open-there p channel refl h)))) (above-next (key a b c) (gather channelKey (since startEvent p)) e) (time-same p 0 refl) (opener-same (Channel a b c) p refl);
+    after = λ e. alike _ _ _ _ _ _ _ _ (sym (rw (still (Channel a b c) p refl (open-there p channel refl refl h)))) (above-next (key a b c) (gather channelKey (since startEvent p)) e) (time-same p 0 refl) (channel-marks a b c p);
   }
 
   end-turn : (n : ℕ) → Turn dataKind p (EndEvent n)
   unfolding stateOf since count gather
   end-turn n = record {
     ordered = refl;
-    after = λ e. alike _ _ _ _ _ _ _ _ refl refl (time-same p 0 refl) (opener-same (EndEvent n) p refl);
+    after = λ e. alike _ _ _ _ _ _ _ _ refl refl (time-same p 0 refl) (end-marks n p);
   }
 
   start-turn : (t ts n : ℕ) → Turn dataKind p (StartEvent t ts n)
   unfolding stateOf since count gather total wordsOf aboveAll
   start-turn t ts n = record {
     ordered = refl;
-    after = λ e. alike _ _ _ _ _ _ _ _ (sym (rw (le-leb 1 (1 + count startEvent (since endEvent p)) (omega arith)))) refl (time-same p 0 refl) (omega arith);
+    after = λ e. alike _ _ _ _ _ _ _ _
+        (sym (rw (le-leb 1 ((1 + count startEvent (since endEvent p)) + (0 + count continueEvent (since endEvent p))) (omega arith)))) refl (time-same p 0 refl)
+        (start-marks t ts n p);
+  }
+
+  continue-turn : (n : ℕ) → Turn dataKind p (ContinueEvent n)
+  unfolding stateOf since count gather
+  continue-turn n = record {
+    ordered = refl;
+    after = λ e. alike _ _ _ _ _ _ _ _
+        (sym (rw (le-leb 1 ((0 + count startEvent (since endEvent p)) + (1 + count continueEvent (since endEvent p))) (omega arith)))) refl (time-same p 0 refl)
+        (marks-same (ContinueEvent n) p refl refl refl);
   }
 
   sample-turn : (v : ℕ) → place dataKind p sample ≡ true → Turn dataKind p (Sample v)
   unfolding stateOf since count gather
   sample-turn v h = record {
     ordered = refl;
-    after = λ e. alike _ _ _ _ _ _ _ _ (sym (rw (still (Sample v) p refl (open-there p sample refl h)))) refl (omega arith) (opener-same (Sample v) p refl);
+    after = λ e. alike _ _ _ _ _ _ _ _ (sym (rw (still (Sample v) p refl (open-there p sample refl refl h)))) refl (omega arith) (marks-same (Sample v) p refl refl refl);
   }
 
   time-turn : (t : ℕ) → place dataKind p timeBin ≡ true → Turn dataKind p (TimeBin t)
   unfolding stateOf since count gather
   time-turn t h = record {
-    ordered = time-ordered p t h (open-there p timeBin refl h);
-    after = λ e. alike _ _ _ _ _ _ _ _ (sym (rw (still (TimeBin t) p refl (open-there p timeBin refl h)))) refl (omega arith) (opener-same (TimeBin t) p refl);
+    ordered = time-ordered p t h (open-there p timeBin refl refl h);
+    after = λ e. alike _ _ _ _ _ _ _ _ (sym (rw (still (TimeBin t) p refl (open-there p timeBin refl refl h)))) refl (omega arith) (marks-same (TimeBin t) p refl refl refl);
   }
 
   histogram-turn : (a b c : ℕ) → Turn monitorKind p (Histogram a b c)
   unfolding stateOf since count gather aboveAll
   histogram-turn a b c = record {
     ordered = sym (above-leb (key a b c) (gather histogramKey p));
-    after = λ e. alike _ _ _ _ _ _ _ _ refl (above-next (key a b c) (gather histogramKey p) e) refl (opener-same (Histogram a b c) p refl);
+    after = λ e. alike _ _ _ _ _ _ _ _ refl (above-next (key a b c) (gather histogramKey p) e) refl (marks-same (Histogram a b c) p refl refl refl);
   }
 
   bin-turn : (b n : ℕ) → Turn monitorKind p (Bin b n)
   unfolding stateOf since count gather
   bin-turn b n = record {
     ordered = sym (above-leb b (gather binNumber (since histogram p)));
-    after = λ e. alike _ _ _ _ _ _ _ _ refl refl (above-next b (gather binNumber (since histogram p)) e) (opener-same (Bin b n) p refl);
+    after = λ e. alike _ _ _ _ _ _ _ _ refl refl (above-next b (gather binNumber (since histogram p)) e) (marks-same (Bin b n) p refl refl refl);
   }
 
   text-turn : (s : List ℕ) → Turn commandKind p (Text s)
   unfolding stateOf
-  text-turn s = record { ordered = refl; after = λ e. alike _ _ _ _ _ _ _ _ refl refl refl (opener-same (Text s) p refl) }
+  text-turn s = record { ordered = refl; after = λ e. alike _ _ _ _ _ _ _ _ refl refl refl (marks-same (Text s) p refl refl refl) }
 
 -- every item that may stand there
-turn-of : (kind : Kind) (p : List Item) (x : Item) → place kind p (classFor x) ≡ true → Turn kind p x
+pub turn-of : (kind : Kind) (p : List Item) (x : Item) → place kind p (classFor x) ≡ true → Turn kind p x
 turn-of dataKind p (Channel a b c) h = channel-turn p a b c h
 turn-of dataKind p (Histogram a b c) h = absurd (not-data p histogram histogram-not h)
 turn-of dataKind p (HitCount a b c) h = hit-turn p a b c h
@@ -261,6 +322,7 @@ turn-of dataKind p (LastCell a b) h = cell-turn p a b h
 turn-of dataKind p (TimeBin t) h = time-turn p t h
 turn-of dataKind p (Text s) h = absurd (not-data p text text-not h)
 turn-of dataKind p (StartEvent t ts n) h = start-turn p t ts n
+turn-of dataKind p (ContinueEvent n) h = continue-turn p n
 turn-of dataKind p (EndEvent n) h = end-turn p n
 turn-of monitorKind p (Channel a b c) h = absurd (not-monitor p channel refl refl h)
 turn-of monitorKind p (Histogram a b c) h = histogram-turn p a b c
@@ -271,6 +333,7 @@ turn-of monitorKind p (LastCell a b) h = absurd (not-monitor p lastCell refl ref
 turn-of monitorKind p (TimeBin t) h = absurd (not-monitor p timeBin refl refl h)
 turn-of monitorKind p (Text s) h = absurd (not-monitor p text refl refl h)
 turn-of monitorKind p (StartEvent t ts n) h = absurd (not-monitor p startEvent refl refl h)
+turn-of monitorKind p (ContinueEvent n) h = absurd (not-monitor p continueEvent refl refl h)
 turn-of monitorKind p (EndEvent n) h = absurd (not-monitor p endEvent refl refl h)
 turn-of commandKind p (Channel a b c) h = no h
 turn-of commandKind p (Histogram a b c) h = no h
@@ -281,11 +344,12 @@ turn-of commandKind p (LastCell a b) h = no h
 turn-of commandKind p (TimeBin t) h = no h
 turn-of commandKind p (Text s) h = text-turn p s
 turn-of commandKind p (StartEvent t ts n) h = no h
+turn-of commandKind p (ContinueEvent n) h = no h
 turn-of commandKind p (EndEvent n) h = no h
 
 -- the value rules by the state
 value-same : (kind : Kind) (card : ℕ) (p : List Item) (x : Item) → valueBy card (3 + total p) (stateOf kind p) x ≡ value card p x
-unfolding stateOf
+unfolding stateOf marksAfter
 value-same kind card p (Channel a b c) = refl
 value-same kind card p (Histogram a b c) = refl
 value-same kind card p (HitCount a b c) = refl
@@ -295,10 +359,18 @@ value-same kind card p (LastCell a b) = refl
 value-same kind card p (TimeBin t) = refl
 value-same kind card p (Text s) = refl
 value-same kind card p (StartEvent t ts n) = refl
-value-same kind card p (EndEvent n) =
-    let l = since-less startEvent p in
-    let e : 2 * ((3 + total p) - ((3 + total p) - total (since startEvent p))) + 6 ≡ 2 * total (since startEvent p) + 6 = omega arith in
-    rw e
+value-same kind card p (ContinueEvent n) = refl
+value-same kind card p (EndEvent n) = ap (λ (b : Bool). inRange card (EndEvent n) && b) (go (begun p))
+  where
+    go : (b : Bool)
+        → eqb (pick b ((3 + total p) - total (since startEvent p)) 0) 0 || eqb n (2 * ((3 + total p) - pick b ((3 + total p) - total (since startEvent p)) 0) + 6)
+        ≡ not b || eqb n (eventSize p)
+    go true =
+        let l = since-less startEvent p in
+        let z : eqb ((3 + total p) - total (since startEvent p)) 0 ≡ false = ne-eqb ((3 + total p) - total (since startEvent p)) 0 (λ (i : (3 + total p) - total (since startEvent p) ≡ 0). omega arith) in
+        let e : 2 * ((3 + total p) - ((3 + total p) - total (since startEvent p))) + 6 ≡ 2 * total (since startEvent p) + 6 = omega arith in
+        rw (z, e)
+    go false = refl
 
 abbrev pub states : Kind → Checked (List Item) → Checked ReaderState
 states kind (good q) = good (stateOf kind q)
@@ -326,7 +398,7 @@ turn kind card p (whole x) =
     (λ h. turn-of kind p x h .ordered) (λ h. turn-of kind p x h .after)
 
 pub start-state : (kind : Kind) → start kind ≡ stateOf kind []
-unfolding stateOf since count gather total aboveAll
+unfolding stateOf marksAfter firstAfter leadAfter since count gather total aboveAll
 start-state dataKind = refl
 start-state monitorKind = refl
 start-state commandKind = refl

@@ -12,8 +12,8 @@ use lib.ListN.{length, getD, take, drop, length-append, length-drop, drop-of-len
 use lib.Seq.{drop-cons, drop-drop, getD-take, length-take-le}
 use Rattle.format.specs.Words.{pick, words, bytes, wordAt, longOf}
 use Rattle.format.specs.Answers.{Outcome, accepted, refused, andThen}
-use Rattle.format.specs.Book.{Class, channel, histogram, hitCount, sample, bin, lastCell, timeBin, dataFrame, monitorFrame, commandFrame, text, startEvent, endEvent, frameEnd, unassigned, classOf, after}
-use Rattle.format.specs.Items.{Item, Text, EndEvent, wordsOf, closed, decode, Token, whole, broken, flawed, tokenOf, tokens}
+use Rattle.format.specs.Book.{Class, channel, histogram, hitCount, sample, bin, lastCell, timeBin, dataFrame, monitorFrame, commandFrame, text, startEvent, continueEvent, endEvent, frameEnd, unassigned, classOf, after}
+use Rattle.format.specs.Items.{Item, Text, ContinueEvent, EndEvent, wordsOf, closed, decode, Token, whole, broken, flawed, tokenOf, tokens}
 use Rattle.format.specs.Rules.{Kind, total, Checked, good, bad, check}
 use Rattle.format.specs.Frames.{width, walk}
 use Rattle.format.specs.Steps.{ReaderState, stateOf, start, checkBy, tokenAt, nextAt, rest, Stepped, moved, stopped, marked, stepOf, indexIn, Summary, summary, summed}
@@ -62,6 +62,7 @@ decode-width monitorFrame w ws x n e = no-item x e
 decode-width commandFrame w ws x n e = no-item x e
 decode-width text w ws x n e = let (t, f) = kept _ _ x e in same-words _ x _ f (text-width (w % 256) ws t n)
 decode-width startEvent w ws x n e = same-words _ x 6 e refl
+decode-width continueEvent w ws x n e = let (t, f) = kept (eqb (w % 512) 0) (some (ContinueEvent (longOf ws))) x e in same-words (ContinueEvent (longOf ws)) x 3 f refl
 decode-width endEvent w ws x n e = let (t, f) = kept (eqb (w % 16) 0) (some (EndEvent (longOf ws))) x e in same-words (EndEvent (longOf ws)) x 3 f refl
 decode-width frameEnd w ws x n e = no-item x e
 decode-width unassigned w ws x n e = no-item x e

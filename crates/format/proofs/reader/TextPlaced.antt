@@ -10,8 +10,8 @@ use lib.Dec.{eqb}
 use lib.ListN.{length, take, drop}
 use lib.Seq.{take-take, length-take-le}
 use Rattle.format.specs.Words.{Bytes, pick, words, bytes, wordAt, longOf}
-use Rattle.format.specs.Book.{Class, channel, histogram, hitCount, sample, bin, lastCell, timeBin, dataFrame, monitorFrame, commandFrame, text, startEvent, endEvent, frameEnd, unassigned, classOf, after, textWords}
-use Rattle.format.specs.Items.{Item, Text, EndEvent, classFor, closed, decode, whole}
+use Rattle.format.specs.Book.{Class, channel, histogram, hitCount, sample, bin, lastCell, timeBin, dataFrame, monitorFrame, commandFrame, text, startEvent, continueEvent, endEvent, frameEnd, unassigned, classOf, after, textWords}
+use Rattle.format.specs.Items.{Item, Text, ContinueEvent, EndEvent, classFor, closed, decode, whole}
 use Rattle.format.specs.Rules.{same}
 use Rattle.format.specs.Steps.{tokenAt}
 use Rattle.format.proofs.items.TextLaws.{text-back}
@@ -52,6 +52,9 @@ decode-text text w ws t e =
     inner : (u v : List ℕ) → _≡_ {A = Item} (Text u) (Text v) → v ≡ u
     inner u v g = cc
 decode-text startEvent w ws t e = other _ t refl e
+decode-text continueEvent w ws t e =
+    let (c, f) = kept (eqb (w % 512) 0) (some (ContinueEvent (longOf ws))) (Text t) e in
+    other (ContinueEvent (longOf ws)) t refl f
 decode-text endEvent w ws t e =
     let (c, f) = kept (eqb (w % 16) 0) (some (EndEvent (longOf ws))) (Text t) e in
     other (EndEvent (longOf ws)) t refl f

@@ -12,8 +12,8 @@ use lib.ListN.{length, getD, take, drop}
 use lib.Seq.{getD-drop, getD-take}
 use borrow.Author.Tests.{le-leb, lt-leb, eq-eqb, ne-eqb}
 use Rattle.format.specs.Words.{pick, words, bytes, wordAt, longAt, timeAt, longOf, timeOf}
-use Rattle.format.specs.Book.{Class, channel, histogram, hitCount, sample, bin, lastCell, timeBin, dataFrame, monitorFrame, commandFrame, text, startEvent, endEvent, frameEnd, unassigned, classOf, after, assigned, textWords}
-use Rattle.format.specs.Items.{Item, Channel, Histogram, HitCount, Sample, Bin, LastCell, TimeBin, Text, StartEvent, EndEvent, closed, decode, Token, whole, broken, flawed, tokenFor, tokenOf}
+use Rattle.format.specs.Book.{Class, channel, histogram, hitCount, sample, bin, lastCell, timeBin, dataFrame, monitorFrame, commandFrame, text, startEvent, continueEvent, endEvent, frameEnd, unassigned, classOf, after, assigned, textWords}
+use Rattle.format.specs.Items.{Item, Channel, Histogram, HitCount, Sample, Bin, LastCell, TimeBin, Text, StartEvent, ContinueEvent, EndEvent, closed, decode, Token, whole, broken, flawed, tokenFor, tokenOf}
 use Rattle.format.specs.Rules.{Checked, good, bad}
 use Rattle.format.specs.Steps.{ReaderState, checkBy, tokenAt, nextAt, Stepped, moved, stopped, marked, stepOf}
 use Rattle.format.proofs.items.WordLaws.{word-at}
@@ -106,6 +106,19 @@ module _ (s : List ℕ) (last at : ℕ) where
         (getD-drop 3 (take 5 ws) 1 0 ∙ word-after 5 4 (omega arith) (omega arith) ∙ ap (λ (i : ℕ). wordAt s i) (omega arith)) ∙ sym f in
         let w = there startEvent (whole (StartEvent (wordAt s at % 16) ts n)) 5 k refl refl (omega arith) (ap₂ (λ (x y : ℕ). whole (StartEvent (wordAt s at % 16) x y)) a b) in
         record { token = w .token; follow = w .follow ∙ add-assoc at 1 5 }
+
+    pub continue-there : (n : ℕ) → continueEvent ≡ classOf (wordAt s at) → at + 3 ≤ last → wordAt s at % 512 ≡ 0 → n ≡ longAt s (at + 1)
+        → Stands s last at (whole (ContinueEvent n)) (at + 3)
+    unfolding decode
+    continue-there n k l z e =
+        let w = there continueEvent (whole (ContinueEvent n)) 2 k refl refl (omega arith) (rw (eq-eqb (wordAt s at % 512) 0 z) (ap (λ (m : ℕ). whole (ContinueEvent m)) (long-after 2 (omega arith) (omega arith) ∙ sym e))) in
+        record { token = w .token; follow = w .follow ∙ add-assoc at 1 2 }
+
+    pub continue-broken : continueEvent ≡ classOf (wordAt s at) → at + 3 ≤ last → (wordAt s at % 512 ≡ 0 → ⊥) → Stands s last at (broken continueEvent) (at + 3)
+    unfolding decode
+    continue-broken k l z =
+        let w = there continueEvent (broken continueEvent) 2 k refl refl (omega arith) (rw (ne-eqb (wordAt s at % 512) 0 z)) in
+        record { token = w .token; follow = w .follow ∙ add-assoc at 1 2 }
 
     pub end-there : (n : ℕ) → endEvent ≡ classOf (wordAt s at) → at + 3 ≤ last → wordAt s at % 16 ≡ 0 → n ≡ longAt s (at + 1)
         → Stands s last at (whole (EndEvent n)) (at + 3)

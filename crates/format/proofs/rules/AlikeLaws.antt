@@ -7,8 +7,8 @@ use mathlib.Core.Bool.{Bool, true, false, not, _&&_}
 use lib.ListN.{length}
 use Rattle.format.specs.Words.{pick}
 use Rattle.format.specs.Book.{Class}
-use Rattle.format.specs.Items.{Item, Channel, Histogram, HitCount, Sample, Bin, LastCell, TimeBin, Text, StartEvent, EndEvent, classFor, wordsOf, inRange}
-use Rattle.format.specs.Rules.{Kind, dataKind, monitorKind, commandKind, same, since, before, count, latest, total, gather, channelKey, histogramKey, binNumber, startTime, inEvent, place, mayEnd, sized, order}
+use Rattle.format.specs.Items.{Item, Channel, Histogram, HitCount, Sample, Bin, LastCell, TimeBin, Text, StartEvent, ContinueEvent, EndEvent, classFor, wordsOf, inRange}
+use Rattle.format.specs.Rules.{Kind, dataKind, monitorKind, commandKind, same, since, before, count, latest, total, gather, channelKey, histogramKey, binNumber, startTime, betweenEvents, place, mayEnd, sized, order}
 use Rattle.format.specs.Frames.{earlierThen, Allowed, Sound}
 use Rattle.format.specs.Spots.{withValue}
 use Rattle.format.proofs.book.PrefixLaws.{and-right, and-both}
@@ -25,6 +25,7 @@ blind g p q (LastCell a b) v = refl
 blind g p q (TimeBin t) v = refl
 blind g p q (Text s) v = refl
 blind g p q (StartEvent t ts n) v = refl
+blind g p q (ContinueEvent n) v = refl
 blind g p q (EndEvent n) v = refl
 
 -- an item without its value
@@ -105,11 +106,15 @@ times-bare = gather-bare startTime (blind startTime (λ m n. refl) (λ b m n. re
 
 -- ---- the rules, whatever they make of these
 
-event-bare : (p : List Item) → inEvent (bares p) ≡ inEvent p
-event-bare p = simp (since-bare, count-bare)
+between-bare : (p : List Item) → betweenEvents (bares p) ≡ betweenEvents p
+between-bare [] = refl
+between-bare (x ∷ p) = refl
+
+ended-bare : (p : List Item) → mayEnd (bares p) ≡ mayEnd p
+ended-bare p = simp latest-bare
 
 place-bare : (kind : Kind) (c : Class) (p : List Item) → place kind (bares p) c ≡ place kind p c
-place-bare dataKind c p = simp (since-bare, count-bare, latest-bare)
+place-bare dataKind c p = simp (since-bare, count-bare, latest-bare, between-bare)
 place-bare monitorKind c p = simp latest-bare
 place-bare commandKind c p = refl
 
@@ -123,7 +128,8 @@ sized-bare (LastCell a b) p = refl
 sized-bare (TimeBin t) p = refl
 sized-bare (Text s) p = refl
 sized-bare (StartEvent t ts n) p = refl
-sized-bare (EndEvent n) p = simp (since-bare, total-bare)
+sized-bare (ContinueEvent n) p = refl
+sized-bare (EndEvent n) p = simp (since-bare, count-bare, total-bare)
 
 order-bare : (x : Item) (p : List Item) → order (bares p) x ≡ order p x
 order-bare (Channel a b c) p = simp (since-bare, channels-bare)
@@ -135,6 +141,7 @@ order-bare (LastCell a b) p = refl
 order-bare (TimeBin t) p = simp (since-bare, before-bare, count-bare, times-bare)
 order-bare (Text s) p = refl
 order-bare (StartEvent t ts n) p = refl
+order-bare (ContinueEvent n) p = refl
 order-bare (EndEvent n) p = refl
 
 -- what does not look at values says the same of two lists that differ in nothing else
@@ -181,6 +188,5 @@ bares-with (y ∷ before) x after v = ap (λ (l : List Item). bare y ∷ l) (bar
 pub ended-with : (before : List Item) (x : Item) (after : List Item) (v : ℕ)
     → mayEnd (earlierThen [] (before ++ (withValue x v ∷ after))) ≡ mayEnd (earlierThen [] (before ++ (x ∷ after)))
 ended-with before x after v =
-    ap not
-    (alike inEvent event-bare _ _
-    (sym (behind-bare [] (before ++ (withValue x v ∷ after))) ∙ ap (earlierThen []) (bares-with before x after v) ∙ behind-bare [] (before ++ (x ∷ after))))
+    alike mayEnd ended-bare (earlierThen [] (before ++ (withValue x v ∷ after))) (earlierThen [] (before ++ (x ∷ after)))
+    (sym (behind-bare [] (before ++ (withValue x v ∷ after))) ∙ ap (earlierThen []) (bares-with before x after v) ∙ behind-bare [] (before ++ (x ∷ after)))

@@ -10,7 +10,7 @@ use lib.Dec.{leb, ltb, eqb}
 use lib.Pow.{areBytes}
 use borrow.Author.Tests.{leb-true, le-leb, eqb-true, eq-eqb, ltb-true, lt-ltb}
 use Rattle.format.specs.Words.{nonZero}
-use Rattle.format.specs.Items.{Item, Channel, Histogram, HitCount, Sample, Bin, LastCell, TimeBin, Text, StartEvent, EndEvent, fits, obeys, inRange}
+use Rattle.format.specs.Items.{Item, Channel, Histogram, HitCount, Sample, Bin, LastCell, TimeBin, Text, StartEvent, ContinueEvent, EndEvent, fits, obeys, inRange}
 use Rattle.format.specs.Rules.{Kind, sized}
 use Rattle.format.specs.Frames.{Allowed}
 use Rattle.format.specs.Tree.{Letters, Limits}
@@ -85,6 +85,7 @@ limits card (LastCell a b) = two (most _ _) (most _ _)
 limits card (TimeBin t) = most _ _
 limits card (Text s) = with-letters s (most _ _)
 limits card (StartEvent t ts n) = three (most _ _) (most-below _ _) (below _ _)
+limits card (ContinueEvent n) = below _ _
 limits card (EndEvent n) = below _ _
 
 -- so those of an allowed item hold

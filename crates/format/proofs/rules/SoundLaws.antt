@@ -8,9 +8,9 @@ use native.Mathlib.Omega.{arith}
 use lib.ListN.{length, length-append}
 use borrow.Author.Tests.{le-leb}
 use Rattle.format.specs.Words.{pick}
-use Rattle.format.specs.Book.{Class, channel, histogram, hitCount, sample, bin, lastCell, timeBin, dataFrame, monitorFrame, commandFrame, text, startEvent, endEvent, frameEnd, unassigned}
-use Rattle.format.specs.Items.{Item, Channel, Histogram, HitCount, Sample, Bin, LastCell, TimeBin, Text, StartEvent, EndEvent, classFor, wordsOf}
-use Rattle.format.specs.Rules.{Kind, dataKind, monitorKind, commandKind, same, since, count, latest, total, inEvent, insideAfter, outside, headed, unheaded, allowed, among, place}
+use Rattle.format.specs.Book.{Class, channel, histogram, hitCount, sample, bin, lastCell, timeBin, dataFrame, monitorFrame, commandFrame, text, startEvent, continueEvent, endEvent, frameEnd, unassigned}
+use Rattle.format.specs.Items.{Item, Channel, Histogram, HitCount, Sample, Bin, LastCell, TimeBin, Text, StartEvent, ContinueEvent, EndEvent, classFor, wordsOf}
+use Rattle.format.specs.Rules.{Kind, dataKind, monitorKind, commandKind, same, since, count, latest, total, inEvent, openers, betweenEvents, insideAfter, outside, headed, unheaded, allowed, among, place}
 use Rattle.format.specs.Frames.{Allowed, Sound, earlierThen, allWords}
 use Rattle.format.specs.Questions.{opens, endSize}
 
@@ -55,29 +55,45 @@ module _ (kind : Kind) (card : ℕ) where
 
 -- ---- an item as events see it
 
--- neither starts nor ends an event
+-- opens an event, or goes on with one
+pub data Opening (x : Item) : Type 0 where
+  starts : (t ts n : ℕ) → x ≡ StartEvent t ts n → Opening x
+  continues : (n : ℕ) → x ≡ ContinueEvent n → Opening x
+
+-- neither opens nor ends an event
 pub record Plain (x : Item) : Type 0 where
   pub no-start : same startEvent (classFor x) ≡ false
+  pub no-continue : same continueEvent (classFor x) ≡ false
   pub no-end : same endEvent (classFor x) ≡ false
   pub no-event : (at : ℕ) (xs : List Item) → opens at x xs ≡ []
   pub no-size : endSize x ≡ []
 
 pub data Seen (x : Item) : Type 0 where
-  starts : (t ts n : ℕ) → x ≡ StartEvent t ts n → Seen x
+  opening : Opening x → Seen x
   ends : (n : ℕ) → x ≡ EndEvent n → Seen x
   other : Plain x → Seen x
 
 pub seen : (x : Item) → Seen x
-seen (Channel a b c) = other (record { no-start = refl; no-end = refl; no-event = λ at xs. refl; no-size = refl })
-seen (Histogram a b c) = other (record { no-start = refl; no-end = refl; no-event = λ at xs. refl; no-size = refl })
-seen (HitCount a b c) = other (record { no-start = refl; no-end = refl; no-event = λ at xs. refl; no-size = refl })
-seen (Sample v) = other (record { no-start = refl; no-end = refl; no-event = λ at xs. refl; no-size = refl })
-seen (Bin b n) = other (record { no-start = refl; no-end = refl; no-event = λ at xs. refl; no-size = refl })
-seen (LastCell a b) = other (record { no-start = refl; no-end = refl; no-event = λ at xs. refl; no-size = refl })
-seen (TimeBin t) = other (record { no-start = refl; no-end = refl; no-event = λ at xs. refl; no-size = refl })
-seen (Text s) = other (record { no-start = refl; no-end = refl; no-event = λ at xs. refl; no-size = refl })
-seen (StartEvent t ts n) = starts t ts n refl
+seen (Channel a b c) = other (record { no-start = refl; no-continue = refl; no-end = refl; no-event = λ at xs. refl; no-size = refl })
+seen (Histogram a b c) = other (record { no-start = refl; no-continue = refl; no-end = refl; no-event = λ at xs. refl; no-size = refl })
+seen (HitCount a b c) = other (record { no-start = refl; no-continue = refl; no-end = refl; no-event = λ at xs. refl; no-size = refl })
+seen (Sample v) = other (record { no-start = refl; no-continue = refl; no-end = refl; no-event = λ at xs. refl; no-size = refl })
+seen (Bin b n) = other (record { no-start = refl; no-continue = refl; no-end = refl; no-event = λ at xs. refl; no-size = refl })
+seen (LastCell a b) = other (record { no-start = refl; no-continue = refl; no-end = refl; no-event = λ at xs. refl; no-size = refl })
+seen (TimeBin t) = other (record { no-start = refl; no-continue = refl; no-end = refl; no-event = λ at xs. refl; no-size = refl })
+seen (Text s) = other (record { no-start = refl; no-continue = refl; no-end = refl; no-event = λ at xs. refl; no-size = refl })
+seen (StartEvent t ts n) = opening (starts t ts n refl)
+seen (ContinueEvent n) = opening (continues n refl)
 seen (EndEvent n) = ends n refl
+
+-- an item that opens counts as one
+pub opening-one : (x : Item) → Opening x → tally (same startEvent (classFor x)) + tally (same continueEvent (classFor x)) ≡ 1
+opening-one x (starts t ts n e) = rw e
+opening-one x (continues n e) = rw e
+
+pub opening-no-end : (x : Item) → Opening x → same endEvent (classFor x) ≡ false
+opening-no-end x (starts t ts n e) = rw e
+opening-no-end x (continues n e) = rw e
 
 -- ---- when an event is open
 
@@ -85,9 +101,11 @@ pub open-nil : inEvent [] ≡ false
 unfolding since count
 open-nil = refl
 
-pub open-start : (t ts n : ℕ) (p : List Item) → inEvent (StartEvent t ts n ∷ p) ≡ true
+pub open-opening : (x : Item) (p : List Item) → Opening x → inEvent (x ∷ p) ≡ true
 unfolding since count
-open-start t ts n p = le-leb 1 (1 + count startEvent (since endEvent p)) (omega arith)
+open-opening x p h =
+    rw (opening-no-end x h)
+    (le-leb 1 ((tally (same startEvent (classFor x)) + count startEvent (since endEvent p)) + (tally (same continueEvent (classFor x)) + count continueEvent (since endEvent p))) (omega (arith, opening-one x h)))
 
 pub open-end : (n : ℕ) (p : List Item) → inEvent (EndEvent n ∷ p) ≡ false
 unfolding since count
@@ -96,8 +114,8 @@ open-end n p = refl
 pub open-other : (x : Item) (p : List Item) → Plain x → inEvent (x ∷ p) ≡ inEvent p
 unfolding since count
 open-other x p h =
-    let z : 0 + count startEvent (since endEvent p) ≡ count startEvent (since endEvent p) = omega arith in
-    rw (h .no-end, h .no-start, z)
+    let z : (0 + count startEvent (since endEvent p)) + (0 + count continueEvent (since endEvent p)) ≡ openers (since endEvent p) = omega arith in
+    rw (h .no-end, h .no-start, h .no-continue, z)
 
 -- the places of a Start event and of an End event
 no-start-within : (c : Class) → among startEvent (allowed (insideAfter c)) ≡ false
@@ -113,9 +131,28 @@ no-start-within monitorFrame = refl
 no-start-within commandFrame = refl
 no-start-within text = refl
 no-start-within startEvent = refl
+no-start-within continueEvent = refl
 no-start-within endEvent = refl
 no-start-within frameEnd = refl
 no-start-within unassigned = refl
+
+no-continue-within : (c : Class) → among continueEvent (allowed (insideAfter c)) ≡ false
+no-continue-within channel = refl
+no-continue-within histogram = refl
+no-continue-within hitCount = refl
+no-continue-within sample = refl
+no-continue-within bin = refl
+no-continue-within lastCell = refl
+no-continue-within timeBin = refl
+no-continue-within dataFrame = refl
+no-continue-within monitorFrame = refl
+no-continue-within commandFrame = refl
+no-continue-within text = refl
+no-continue-within startEvent = refl
+no-continue-within continueEvent = refl
+no-continue-within endEvent = refl
+no-continue-within frameEnd = refl
+no-continue-within unassigned = refl
 
 -- in a monitor frame only these two classes have a place
 pub monitor-place : (p : List Item) (c : Class) → place monitorKind p c ≡ true → same c histogram || same c bin ≡ true
@@ -137,20 +174,43 @@ monitor-place p c e = go (same histogram (latest p) || same bin (latest p)) e
 pub start-place : (kind : Kind) (p : List Item) → place kind p startEvent ≡ true → (kind ≡ dataKind) × (inEvent p ≡ false)
 start-place dataKind p e = (refl, go (inEvent p) e)
   where
-    go : (b : Bool) → among startEvent (allowed (pick b (insideAfter (latest p)) outside)) ≡ true → b ≡ false
+    go : (b : Bool) → among startEvent (allowed (pick b (insideAfter (latest p)) (betweenEvents p))) ≡ true → b ≡ false
     go true f = absurd (true≢false (sym f ∙ no-start-within (latest p)))
     go false f = refl
 start-place monitorKind p e = absurd (true≢false (sym (monitor-place p startEvent e)))
 start-place commandKind p e = absurd (true≢false (sym e))
 
-pub end-place : (kind : Kind) (p : List Item) → place kind p endEvent ≡ true → (kind ≡ dataKind) × (inEvent p ≡ true)
-end-place dataKind p e = (refl, go (inEvent p) e)
+-- a Continue event is the first item
+pub continue-place : (kind : Kind) (p : List Item) → place kind p continueEvent ≡ true → (kind ≡ dataKind) × (p ≡ [])
+continue-place dataKind p e = (refl, go (inEvent p) p e)
   where
-    go : (b : Bool) → among endEvent (allowed (pick b (insideAfter (latest p)) outside)) ≡ true → b ≡ true
-    go true f = refl
-    go false f = absurd (true≢false (sym f))
-end-place monitorKind p e = absurd (true≢false (sym (monitor-place p endEvent e)))
-end-place commandKind p e = absurd (true≢false (sym e))
+    go : (b : Bool) (q : List Item) → among continueEvent (allowed (pick b (insideAfter (latest p)) (betweenEvents q))) ≡ true → q ≡ []
+    go true q f = absurd (true≢false (sym f ∙ no-continue-within (latest p)))
+    go false [] f = refl
+    go false (x ∷ q) f = absurd (true≢false (sym f))
+continue-place monitorKind p e = absurd (true≢false (sym (monitor-place p continueEvent e)))
+continue-place commandKind p e = absurd (true≢false (sym e))
+
+pub opening-place : (kind : Kind) (p : List Item) (x : Item) → Opening x → place kind p (classFor x) ≡ true → (kind ≡ dataKind) × (inEvent p ≡ false)
+opening-place kind p x (starts t ts n e) h = start-place kind p (ap (λ (y : Item). place kind p (classFor y)) (sym e) ∙ h)
+opening-place kind p x (continues n e) h =
+    let (d, m) = continue-place kind p (ap (λ (y : Item). place kind p (classFor y)) (sym e) ∙ h) in
+    (d, ap (λ (q : List Item). inEvent q) m ∙ open-nil)
+
+-- a class of no header, text or opener stands inside an event only
+pub inside-place : (kind : Kind) (p : List Item) (c : Class) → same c startEvent ≡ false → same c continueEvent ≡ false → same c histogram || same c bin ≡ false → same c text ≡ false
+    → place kind p c ≡ true → (kind ≡ dataKind) × (inEvent p ≡ true)
+inside-place dataKind p c s n h t e = (refl, go (inEvent p) p e)
+  where
+    go : (b : Bool) (q : List Item) → among c (allowed (pick b (insideAfter (latest p)) (betweenEvents q))) ≡ true → b ≡ true
+    go true q f = refl
+    go false [] f = absurd (true≢false (sym f ∙ rw (s, n)))
+    go false (x ∷ q) f = absurd (true≢false (sym f ∙ rw s))
+inside-place monitorKind p c s n h t e = absurd (true≢false (sym (monitor-place p c e) ∙ h))
+inside-place commandKind p c s n h t e = absurd (true≢false (sym e ∙ rw t))
+
+pub end-place : (kind : Kind) (p : List Item) → place kind p endEvent ≡ true → (kind ≡ dataKind) × (inEvent p ≡ true)
+end-place kind p e = inside-place kind p endEvent refl refl refl refl e
 
 -- an open event stays open until an End event
 pub stays-open : (p xs : List Item) → inEvent p ≡ true → count endEvent xs ≡ 0 → inEvent (earlierThen p xs) ≡ true
@@ -159,14 +219,13 @@ stays-open p [] o n = o
 stays-open p (x ∷ xs) o n = stays-open (x ∷ p) xs (go (seen x)) (omega arith)
   where
     go : Seen x → inEvent (x ∷ p) ≡ true
-    go (starts t ts k e) = ap (λ (y : Item). inEvent (y ∷ p)) e ∙ open-start t ts k p
+    go (opening h) = open-opening x p h
     go (ends k e) = let m : tally (same endEvent (classFor x)) ≡ 1 = rw e in absurd (omega arith)
     go (other h) = open-other x p h ∙ o
 
 module _ (kind : Kind) (card : ℕ) where
-  -- each Start event opens one, each End event closes one
-  pub balance : (p xs : List Item) → Sound kind card p xs
-      → count startEvent xs + tally (inEvent p) ≡ count endEvent xs + tally (inEvent (earlierThen p xs))
+  -- each Start event opens one, a Continue event goes on with one, each End event closes one
+  pub balance : (p xs : List Item) → Sound kind card p xs → openers xs + tally (inEvent p) ≡ count endEvent xs + tally (inEvent (earlierThen p xs))
   unfolding Sound earlierThen count
   balance p [] s = refl
   balance p (x ∷ xs) s = go (seen x) (balance (x ∷ p) xs (s .1))
@@ -174,40 +233,48 @@ module _ (kind : Kind) (card : ℕ) where
       last : ℕ
       last = tally (inEvent (earlierThen (x ∷ p) xs))
 
-      go : Seen x → count startEvent xs + tally (inEvent (x ∷ p)) ≡ count endEvent xs + last
-          → tally (same startEvent (classFor x)) + count startEvent xs + tally (inEvent p) ≡ tally (same endEvent (classFor x)) + count endEvent xs + last
-      go (starts t ts n e) h =
-          let o : tally (inEvent (x ∷ p)) ≡ 1 = ap (λ (b : Bool). tally b) (ap (λ (y : Item). inEvent (y ∷ p)) e ∙ open-start t ts n p) in
-          let c : tally (inEvent p) ≡ 0 = ap (λ (b : Bool). tally b) (start-place kind p (ap (λ (y : Item). place kind p (classFor y)) (sym e) ∙ s .0 .placed) .1) in
-          let a : tally (same startEvent (classFor x)) ≡ 1 = rw e in
-          let b : tally (same endEvent (classFor x)) ≡ 0 = rw e in
-          omega arith
+      go : Seen x → openers xs + tally (inEvent (x ∷ p)) ≡ count endEvent xs + last
+          → (tally (same startEvent (classFor x)) + count startEvent xs) + (tally (same continueEvent (classFor x)) + count continueEvent xs) + tally (inEvent p)
+          ≡ tally (same endEvent (classFor x)) + count endEvent xs + last
+      go (opening q) h =
+          let o : tally (inEvent (x ∷ p)) ≡ 1 = ap (λ (b : Bool). tally b) (open-opening x p q) in
+          let c : tally (inEvent p) ≡ 0 = ap (λ (b : Bool). tally b) (opening-place kind p x q (s .0 .placed) .1) in
+          let b : tally (same endEvent (classFor x)) ≡ 0 = rw (opening-no-end x q) in
+          omega (arith, opening-one x q)
       go (ends n e) h =
           let o : tally (inEvent (x ∷ p)) ≡ 0 = ap (λ (b : Bool). tally b) (ap (λ (y : Item). inEvent (y ∷ p)) e ∙ open-end n p) in
           let c : tally (inEvent p) ≡ 1 = ap (λ (b : Bool). tally b) (end-place kind p (ap (λ (y : Item). place kind p (classFor y)) (sym e) ∙ s .0 .placed) .1) in
           let a : tally (same startEvent (classFor x)) ≡ 0 = rw e in
+          let d : tally (same continueEvent (classFor x)) ≡ 0 = rw e in
           let b : tally (same endEvent (classFor x)) ≡ 1 = rw e in
           omega arith
       go (other q) h =
           let o : tally (inEvent (x ∷ p)) ≡ tally (inEvent p) = ap (λ (b : Bool). tally b) (open-other x p q) in
           let a : tally (same startEvent (classFor x)) ≡ 0 = rw (q .no-start) in
+          let d : tally (same continueEvent (classFor x)) ≡ 0 = rw (q .no-continue) in
           let b : tally (same endEvent (classFor x)) ≡ 0 = rw (q .no-end) in
           omega arith
 
-  -- no other kind of frame has a Start event
-  pub no-starts : (kind ≡ dataKind → ⊥) → (p xs : List Item) → Sound kind card p xs → count startEvent xs ≡ 0
+  -- no other kind of frame has an event
+  pub no-openers : (kind ≡ dataKind → ⊥) → (p xs : List Item) → Sound kind card p xs → openers xs ≡ 0
   unfolding Sound count
-  no-starts d p [] s = refl
-  no-starts d p (x ∷ xs) s = go (seen x) (no-starts d (x ∷ p) xs (s .1))
+  no-openers d p [] s = refl
+  no-openers d p (x ∷ xs) s = go (seen x) (no-openers d (x ∷ p) xs (s .1))
     where
-      go : Seen x → count startEvent xs ≡ 0 → tally (same startEvent (classFor x)) + count startEvent xs ≡ 0
-      go (starts t ts n e) h = absurd (d (start-place kind p (ap (λ (y : Item). place kind p (classFor y)) (sym e) ∙ s .0 .placed) .0))
-      go (ends n e) h = let b : tally (same startEvent (classFor x)) ≡ 0 = rw e in omega arith
-      go (other q) h = let b : tally (same startEvent (classFor x)) ≡ 0 = rw (q .no-start) in omega arith
+      go : Seen x → openers xs ≡ 0 → (tally (same startEvent (classFor x)) + count startEvent xs) + (tally (same continueEvent (classFor x)) + count continueEvent xs) ≡ 0
+      go (opening q) h = absurd (d (opening-place kind p x q (s .0 .placed) .0))
+      go (ends n e) h =
+          let a : tally (same startEvent (classFor x)) ≡ 0 = rw e in
+          let b : tally (same continueEvent (classFor x)) ≡ 0 = rw e in
+          omega arith
+      go (other q) h =
+          let a : tally (same startEvent (classFor x)) ≡ 0 = rw (q .no-start) in
+          let b : tally (same continueEvent (classFor x)) ≡ 0 = rw (q .no-continue) in
+          omega arith
 
-  -- inside an event none starts
-  pub none-starts : (p xs : List Item) → Sound kind card p xs → inEvent p ≡ true → count endEvent xs ≡ 0 → count startEvent xs ≡ 0
-  none-starts p xs s o n =
+  -- inside an event none is opened
+  pub none-opened : (p xs : List Item) → Sound kind card p xs → inEvent p ≡ true → count endEvent xs ≡ 0 → openers xs ≡ 0
+  none-opened p xs s o n =
       let a : tally (inEvent p) ≡ 1 = ap (λ (b : Bool). tally b) o in
       let b : tally (inEvent (earlierThen p xs)) ≡ 1 = ap (λ (b : Bool). tally b) (stays-open p xs o n) in
       omega (arith, balance p xs s)

@@ -12,7 +12,7 @@ use lib.ListN.{length}
 use borrow.Author.Tests.{ltb-true, ltb-false, eqb-true, eqb-false, eq-eqb, ne-eqb}
 use Rattle.format.specs.Words.{pick, Bytes}
 use Rattle.format.specs.Answers.{Outcome, accepted, refused}
-use Rattle.format.specs.Items.{ItemOf, Item, Channel, Histogram, HitCount, Sample, Bin, LastCell, TimeBin, Text, StartEvent, EndEvent, wordsOf}
+use Rattle.format.specs.Items.{ItemOf, Item, Channel, Histogram, HitCount, Sample, Bin, LastCell, TimeBin, Text, StartEvent, ContinueEvent, EndEvent, wordsOf}
 use Rattle.format.specs.Frames.{Frame, lastOf, verdict}
 use Rattle.format.specs.Steps.{nextAt}
 use Rattle.format.specs.Questions.{shown, Found, Shown}
@@ -38,6 +38,7 @@ shown-under k (LastCell a b) = refl
 shown-under k (TimeBin t) = refl
 shown-under k (Text s) = refl
 shown-under k (StartEvent t ts n) = refl
+shown-under k (ContinueEvent n) = refl
 shown-under k (EndEvent n) = refl
 
 pub shown-head : (h at : ℕ) (x : Item) → headBy h at (shown x) ≡ headBy h at x
@@ -50,6 +51,7 @@ shown-head h at (LastCell a b) = refl
 shown-head h at (TimeBin t) = refl
 shown-head h at (Text s) = refl
 shown-head h at (StartEvent t ts n) = refl
+shown-head h at (ContinueEvent n) = refl
 shown-head h at (EndEvent n) = refl
 
 pub shown-spot : (k : Header) (x : Item) → spotOf k (shown x) ≡ spotOf k x
@@ -62,6 +64,7 @@ shown-spot k (LastCell a b) = refl
 shown-spot k (TimeBin t) = refl
 shown-spot k (Text s) = refl
 shown-spot k (StartEvent t ts n) = refl
+shown-spot k (ContinueEvent n) = refl
 shown-spot k (EndEvent n) = refl
 
 -- ---- of an accepted frame's items
@@ -154,6 +157,7 @@ module _ (s : List ℕ) (at h : ℕ) (g : Ahead s at h) where
       go (TimeBin t) q = refl
       go (Text t) q = refl
       go (StartEvent t ts n) q = refl
+      go (ContinueEvent n) q = refl
       go (EndEvent n) q = refl
 
   head-noted : (x : Item) → 1 ≤ at → 1 ≤ headBy h at x
@@ -166,6 +170,7 @@ module _ (s : List ℕ) (at h : ℕ) (g : Ahead s at h) where
   head-noted (TimeBin t) l = g .noted
   head-noted (Text t) l = g .noted
   head-noted (StartEvent t ts n) l = g .noted
+  head-noted (ContinueEvent n) l = g .noted
   head-noted (EndEvent n) l = g .noted
 
   pub pass : (x : Item) (n : ℕ) → Turn s at (g .on) x n → Passed s at h x n
@@ -248,6 +253,7 @@ behind-spot s h at (LastCell a b) = refl
 behind-spot s h at (TimeBin t) = refl
 behind-spot s h at (Text t) = refl
 behind-spot s h at (StartEvent t ts n) = refl
+behind-spot s h at (ContinueEvent n) = refl
 behind-spot s h at (EndEvent n) = refl
 
 -- a spot of an item has the header that the item was given
@@ -261,6 +267,7 @@ own-header p k (LastCell a b) e = no-some p (sym e)
 own-header p k (TimeBin t) e = no-some p (sym e)
 own-header p k (Text t) e = no-some p (sym e)
 own-header p k (StartEvent t ts n) e = no-some p (sym e)
+own-header p k (ContinueEvent n) e = no-some p (sym e)
 own-header p k (EndEvent n) e = no-some p (sym e)
 
 module _ (s : List ℕ) (y : Bytes s) (w : ℕ) where

@@ -11,8 +11,8 @@ use lib.ListN.{length}
 use Rattle.format.specs.Words.{pick, Bytes}
 use Rattle.format.specs.Answers.{accepted}
 use Rattle.format.specs.Book.{Class, channel, histogram, sample, bin, timeBin}
-use Rattle.format.specs.Items.{Item, Channel, Histogram, HitCount, Sample, Bin, LastCell, TimeBin, Text, StartEvent, EndEvent, classFor, wordsOf}
-use Rattle.format.specs.Rules.{Kind, dataKind, monitorKind, commandKind, same, since, count, inEvent, ReaderMode, outside, inside, afterChannel, afterTime, afterSample, unheaded, headed, commands, insideAfter, modeAfter, allowed, among}
+use Rattle.format.specs.Items.{Item, Channel, Histogram, HitCount, Sample, Bin, LastCell, TimeBin, Text, StartEvent, ContinueEvent, EndEvent, classFor, wordsOf}
+use Rattle.format.specs.Rules.{Kind, dataKind, monitorKind, commandKind, same, since, count, inEvent, ReaderMode, fresh, outside, inside, afterChannel, afterTime, afterSample, unheaded, headed, commands, insideAfter, modeAfter, allowed, among}
 use Rattle.format.specs.Frames.{Frame, Allowed, Sound, allWords, verdict}
 use Rattle.format.specs.Spots.{Header, noHeader, Spot, spotOf, spotIn, spot, under, underAll, SpotIs}
 use Rattle.format.proofs.rules.SoundLaws.{tally, tally-zero, sound-head, sound-tail}
@@ -36,6 +36,7 @@ under-other k (LastCell a b) p q = refl
 under-other k (TimeBin t) p q = refl
 under-other k (Text s) p q = refl
 under-other k (StartEvent t ts n) p q = refl
+under-other k (ContinueEvent n) p q = refl
 under-other k (EndEvent n) p q = refl
 
 headless : (k : Header) (xs : List Item) → Headless xs → underAll k xs ≡ k
@@ -106,18 +107,20 @@ met afterSample = true
 met unheaded = false
 met headed = true
 met commands = false
+met fresh = false
 
 -- a class that has a place only there
-met-for : (c : Class) → among c (allowed outside) ≡ false → among c (allowed inside) ≡ false → among c (allowed unheaded) ≡ false → among c (allowed commands) ≡ false
+met-for : (c : Class) → among c (allowed fresh) ≡ false → among c (allowed outside) ≡ false → among c (allowed inside) ≡ false → among c (allowed unheaded) ≡ false → among c (allowed commands) ≡ false
     → (w : ReaderMode) → among c (allowed w) ≡ true → met w ≡ true
-met-for c a b d f outside e = absurd (true≢false (sym e ∙ a))
-met-for c a b d f inside e = absurd (true≢false (sym e ∙ b))
-met-for c a b d f afterChannel e = refl
-met-for c a b d f afterTime e = refl
-met-for c a b d f afterSample e = refl
-met-for c a b d f unheaded e = absurd (true≢false (sym e ∙ d))
-met-for c a b d f headed e = refl
-met-for c a b d f commands e = absurd (true≢false (sym e ∙ f))
+met-for c g a b d f outside e = absurd (true≢false (sym e ∙ a))
+met-for c g a b d f inside e = absurd (true≢false (sym e ∙ b))
+met-for c g a b d f afterChannel e = refl
+met-for c g a b d f afterTime e = refl
+met-for c g a b d f afterSample e = refl
+met-for c g a b d f unheaded e = absurd (true≢false (sym e ∙ d))
+met-for c g a b d f headed e = refl
+met-for c g a b d f commands e = absurd (true≢false (sym e ∙ f))
+met-for c g a b d f fresh e = absurd (true≢false (sym e ∙ g))
 
 -- behind an item of another class that is no header
 not-met : (kind : Kind) (x : Item) (p : List Item) → met (insideAfter (classFor x)) ≡ false → same histogram (classFor x) || same bin (classFor x) ≡ false
@@ -166,12 +169,13 @@ module _ (kind : Kind) (card : ℕ) where
   met-behind xs p (Channel a b c) m l e = (_, headed-here xs (Channel a b c) _ (λ k. refl))
   met-behind xs p (Histogram a b c) m l e = (_, headed-here xs (Histogram a b c) _ (λ k. refl))
   met-behind xs p (HitCount a b c) m l e = absurd (true≢false (sym e ∙ not-met kind (HitCount a b c) p refl refl))
-  met-behind xs p (Sample v) m l e = let (h, g) = m (met-for sample refl refl refl refl (modeAfter kind p) (l .placed)) in (h, headed-behind xs (Sample v) h refl refl g)
-  met-behind xs p (Bin b n) m l e = let (h, g) = m (met-for bin refl refl refl refl (modeAfter kind p) (l .placed)) in (h, headed-behind xs (Bin b n) h refl refl g)
+  met-behind xs p (Sample v) m l e = let (h, g) = m (met-for sample refl refl refl refl refl (modeAfter kind p) (l .placed)) in (h, headed-behind xs (Sample v) h refl refl g)
+  met-behind xs p (Bin b n) m l e = let (h, g) = m (met-for bin refl refl refl refl refl (modeAfter kind p) (l .placed)) in (h, headed-behind xs (Bin b n) h refl refl g)
   met-behind xs p (LastCell a b) m l e = absurd (true≢false (sym e ∙ not-met kind (LastCell a b) p refl refl))
-  met-behind xs p (TimeBin t) m l e = let (h, g) = m (met-for timeBin refl refl refl refl (modeAfter kind p) (l .placed)) in (h, headed-behind xs (TimeBin t) h refl refl g)
+  met-behind xs p (TimeBin t) m l e = let (h, g) = m (met-for timeBin refl refl refl refl refl (modeAfter kind p) (l .placed)) in (h, headed-behind xs (TimeBin t) h refl refl g)
   met-behind xs p (Text s) m l e = absurd (true≢false (sym e ∙ not-met kind (Text s) p refl refl))
   met-behind xs p (StartEvent t ts n) m l e = absurd (true≢false (sym e ∙ not-met kind (StartEvent t ts n) p refl refl))
+  met-behind xs p (ContinueEvent n) m l e = absurd (true≢false (sym e ∙ not-met kind (ContinueEvent n) p refl refl))
   met-behind xs p (EndEvent n) m l e = absurd (true≢false (sym e ∙ not-met kind (EndEvent n) p refl refl))
 
   met-at : (xs before : List Item) (x : Item) (after p : List Item) → Met xs p → Sound kind card p (before ++ (x ∷ after))
@@ -207,10 +211,11 @@ spot-headed s y f v w p is =
     by (Channel a b c) e q m l = no-some p e
     by (Histogram a b c) e q m l = no-some p e
     by (HitCount a b c) e q m l = no-some p e
-    by (Sample v) e q m l = here 1 v e (m (met-for sample refl refl refl refl (modeAfter (f .kind) q) (l .placed)))
-    by (Bin b n) e q m l = here 2 n e (m (met-for bin refl refl refl refl (modeAfter (f .kind) q) (l .placed)))
+    by (Sample v) e q m l = here 1 v e (m (met-for sample refl refl refl refl refl (modeAfter (f .kind) q) (l .placed)))
+    by (Bin b n) e q m l = here 2 n e (m (met-for bin refl refl refl refl refl (modeAfter (f .kind) q) (l .placed)))
     by (LastCell a b) e q m l = no-some p e
     by (TimeBin t) e q m l = no-some p e
     by (Text t) e q m l = no-some p e
     by (StartEvent t ts n) e q m l = no-some p e
+    by (ContinueEvent n) e q m l = no-some p e
     by (EndEvent n) e q m l = no-some p e

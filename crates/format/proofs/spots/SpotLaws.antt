@@ -12,7 +12,7 @@ use lib.ListN.{length, take, length-append}
 use lib.Seq.{take-all, take-length}
 use borrow.Author.Tests.{eqb-true, eqb-false, eq-eqb, ne-eqb}
 use Rattle.format.specs.Words.{pick}
-use Rattle.format.specs.Items.{Item, Channel, Histogram, HitCount, Sample, Bin, LastCell, TimeBin, Text, StartEvent, EndEvent, wordsOf, inRange}
+use Rattle.format.specs.Items.{Item, Channel, Histogram, HitCount, Sample, Bin, LastCell, TimeBin, Text, StartEvent, ContinueEvent, EndEvent, wordsOf, inRange}
 use Rattle.format.specs.Frames.{allWords}
 use Rattle.format.specs.Spots.{Header, noHeader, Spot, spotOf, under, spotIn, valueWord, valueWords, legalValue, revalued, withValue, underAll, SpotIs}
 use Rattle.format.proofs.book.PrefixLaws.{and-left, and-right, and-both}
@@ -172,6 +172,7 @@ valued k (LastCell a b) p e = no-some p e
 valued k (TimeBin t) p e = no-some p e
 valued k (Text s) p e = no-some p e
 valued k (StartEvent t ts n) p e = no-some p e
+valued k (ContinueEvent n) p e = no-some p e
 valued k (EndEvent n) p e = no-some p e
 
 -- ---- the items with the value v in the one at word w

@@ -7,9 +7,9 @@ use mathlib.Core.Bool.{Bool, true, false, _||_, true≢false}
 use mathlib.Core.Logic.{_⊎_, inl, inr}
 use lib.ListN.{getD}
 use borrow.Author.Tests.{eqb-true}
-use Rattle.format.specs.Book.{Class, channel, histogram, hitCount, sample, bin, lastCell, timeBin, dataFrame, monitorFrame, commandFrame, text, startEvent, endEvent, frameEnd, unassigned}
-use Rattle.format.specs.Items.{Item, Channel, Histogram, HitCount, Sample, Bin, LastCell, TimeBin, Text, StartEvent, EndEvent, classFor}
-use Rattle.format.specs.Rules.{rowOf, same, among}
+use Rattle.format.specs.Book.{Class, channel, histogram, hitCount, sample, bin, lastCell, timeBin, dataFrame, monitorFrame, commandFrame, text, startEvent, continueEvent, endEvent, frameEnd, unassigned, rowOf}
+use Rattle.format.specs.Items.{Item, Channel, Histogram, HitCount, Sample, Bin, LastCell, TimeBin, Text, StartEvent, ContinueEvent, EndEvent, classFor}
+use Rattle.format.specs.Rules.{same, among}
 
 -- the item is of the class
 pub data Is : Class → Item → Type 0 where
@@ -22,6 +22,7 @@ pub data Is : Class → Item → Type 0 where
   isTimeBin : (t : ℕ) → Is timeBin (TimeBin t)
   isText : (s : List ℕ) → Is text (Text s)
   isStartEvent : (t ts n : ℕ) → Is startEvent (StartEvent t ts n)
+  isContinueEvent : (n : ℕ) → Is continueEvent (ContinueEvent n)
   isEndEvent : (z : ℕ) → Is endEvent (EndEvent z)
 
 its-own : (x : Item) → Is (classFor x) x
@@ -34,6 +35,7 @@ its-own (LastCell a b) = isLastCell a b
 its-own (TimeBin t) = isTimeBin t
 its-own (Text s) = isText s
 its-own (StartEvent t ts n) = isStartEvent t ts n
+its-own (ContinueEvent z) = isContinueEvent z
 its-own (EndEvent z) = isEndEvent z
 
 -- the class of a row
@@ -41,7 +43,7 @@ abbrev classAt : ℕ → Class
 classAt n =
     getD
     (unassigned ∷ channel ∷ histogram ∷ hitCount ∷ sample ∷ bin ∷ lastCell ∷ timeBin ∷ dataFrame ∷ monitorFrame ∷ commandFrame ∷ text ∷ startEvent
-    ∷ endEvent ∷ frameEnd ∷ []) n unassigned
+    ∷ endEvent ∷ frameEnd ∷ continueEvent ∷ []) n unassigned
 
 row-back : (c : Class) → classAt (rowOf c) ≡ c
 row-back channel = refl
@@ -56,6 +58,7 @@ row-back monitorFrame = refl
 row-back commandFrame = refl
 row-back text = refl
 row-back startEvent = refl
+row-back continueEvent = refl
 row-back endEvent = refl
 row-back frameEnd = refl
 row-back unassigned = refl

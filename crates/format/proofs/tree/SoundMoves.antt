@@ -3,21 +3,20 @@
 use Prim.Native.Nat.{ℕ, suc, _+_}
 use mathlib.Core.Path.{_≡_, refl, sym, ap, subst, _∙_}
 use mathlib.Core.List.{List, [], _∷_}
-use mathlib.Core.Bool.{Bool, true, false, not, true≢false}
+use mathlib.Core.Bool.{Bool, true, false, true≢false}
 use mathlib.Core.Logic.{inl, inr}
 use native.Mathlib.Omega.{arith}
 use lib.Dec.{eqb}
-use borrow.Author.Tests.{leb-true, eqb-true, not-true}
-use Rattle.format.specs.Words.{pick}
+use borrow.Author.Tests.{leb-true}
 use Rattle.format.specs.Book.{Class, channel, hitCount, sample, lastCell, timeBin, endEvent}
 use Rattle.format.specs.Items.{Item, Channel, Histogram, EndEvent, classFor, headerBits, inRange}
-use Rattle.format.specs.Rules.{Kind, dataKind, monitorKind, commandKind, since, has, latest, time, lastTime, ReaderMode, outside, inside, afterChannel, afterTime, afterSample, unheaded, headed, commands, insideAfter, modeAfter, allowed, among, place, mayEnd, eventSize, sized, value, order}
+use Rattle.format.specs.Rules.{Kind, dataKind, monitorKind, commandKind, since, has, time, lastTime, ReaderMode, fresh, outside, inside, afterChannel, afterTime, afterSample, unheaded, headed, commands, modeAfter, allowed, among, place, mayEnd, sized, value, order}
 use Rattle.format.specs.Frames.{earlierThen, Allowed, Sound}
 use Rattle.format.specs.Tree.{Limited}
 use Rattle.format.proofs.book.PrefixLaws.{and-left, and-right}
 use Rattle.format.proofs.rules.LimitLaws.{limits}
-use Rattle.format.proofs.tree.ClassLaws.{isChannel, isHistogram, isHitCount, isSample, isBin, isLastCell, isTimeBin, isText, isStartEvent, isEndEvent, OneOf, one-of}
-use Rattle.format.proofs.tree.Moves.{State, out, amid, opened, timed, sampled, empty, filling, texts, kindFor, Body, free, past, Move, starts, counts, cells, opens, ends, times, first, next, later, heads, heads-next, fills, says, Final, at-out, at-empty, at-filling, at-texts, Moves, done, move, InEvent, Filled, Leaves, sample-order, next-bin-order, channel-order, histogram-order, body-kind, empty-shut, moved}
+use Rattle.format.proofs.tree.ClassLaws.{isChannel, isHistogram, isHitCount, isSample, isBin, isLastCell, isTimeBin, isText, isStartEvent, isContinueEvent, isEndEvent, OneOf, one-of}
+use Rattle.format.proofs.tree.Moves.{State, begin, out, amid, opened, timed, sampled, empty, filling, texts, kindFor, Body, free, past, at-first, at-next, Move, starts, continues, counts, cells, opens, ends, times, first, next, later, heads, heads-next, fills, says, Final, at-outer, at-body, at-empty, at-filling, at-texts, Moves, done, move, InEvent, Filled, Leaves, sample-order, next-bin-order, channel-order, histogram-order, body-ended, body-kind, outer-kind, outer-ended, fresh-place, outside-place, end-size, moved}
 
 module _ (card : ℕ) where
   -- ---- an allowed item is a move
@@ -28,36 +27,40 @@ module _ (card : ℕ) where
   ranged : (p : List Item) (x : Item) → value card p x ≡ true → inRange card x ≡ true
   ranged p x v = and-left (inRange card x) (sized p x) v
 
-  body-move : (st : State) (p : List Item) (m n : ℕ) (x : Item) (ds : List Class) → Body st m n → InEvent card p m n → value card p x ≡ true → order p x ≡ true
+  body-move : (st : State) (p : List Item) (h : Bool) (m n : ℕ) (x : Item) (ds : List Class) → Body st h m n → InEvent card p h m n → value card p x ≡ true → order p x ≡ true
       → OneOf (hitCount ∷ lastCell ∷ channel ∷ endEvent ∷ ds) x → (OneOf ds x → Moved st x) → Moved st x
-  body-move st p m n x ds d i v o (inl (isHitCount a b c)) k = (amid m (n + 1), counts st m n a b c d)
-  body-move st p m n x ds d i v o (inr (inl (isLastCell a b))) k = (amid m (n + 1), cells st m n a b d)
-  body-move st p m n x ds d i v o (inr (inr (inl (isChannel a b c)))) k =
+  body-move st p h m n x ds d i v o (inl (isHitCount a b c)) k = (amid h m (n + 1), counts st h m n a b c d)
+  body-move st p h m n x ds d i v o (inr (inl (isLastCell a b))) k = (amid h m (n + 1), cells st h m n a b d)
+  body-move st p h m n x ds d i v o (inr (inr (inl (isChannel a b c)))) k =
       let e = limits card (Channel a b c) .0 (ranged p (Channel a b c) v) .0 in
-      (opened (suc (headerBits a b c)) (n + 1), opens st m n a b c d (channel-order card p m n a b c i e .0 o))
-  body-move st p m n x ds d i v o (inr (inr (inr (inl (isEndEvent z))))) k =
-      let s = eqb-true z (eventSize p) (and-right (inRange card (EndEvent z)) (eqb z (eventSize p)) v) in
-      (out, ends st m n z d (omega (arith, i .words)))
-  body-move st p m n x ds d i v o (inr (inr (inr (inr h)))) k = k h
+      (opened h (suc (headerBits a b c)) (n + 1), opens st h m n a b c d (channel-order card p h m n a b c i e .0 o))
+  body-move st p h m n x ds d i v o (inr (inr (inr (inl (isEndEvent z))))) k =
+      (out, ends st h m n z d (end-size card p h m n z i .0 (and-right (inRange card (EndEvent z)) (sized p (EndEvent z)) v)))
+  body-move st p h m n x ds d i v o (inr (inr (inr (inr g)))) k = k g
+
+  begin-move : (x : Item) → OneOf (allowed fresh) x → Moved begin x
+  begin-move x (inl (isStartEvent t ts n)) = (amid true 0 6, starts begin t ts n at-first)
+  begin-move x (inr (inl (isContinueEvent n))) = (amid false 0 3, continues n)
+  begin-move x (inr (inr h)) = absurd h
 
   out-move : (x : Item) → OneOf (allowed outside) x → Moved out x
-  out-move x (inl (isStartEvent t ts n)) = (amid 0 6, starts t ts n)
+  out-move x (inl (isStartEvent t ts n)) = (amid true 0 6, starts out t ts n at-next)
   out-move x (inr h) = absurd h
 
-  opened-move : (m n : ℕ) (x : Item) → OneOf (allowed afterChannel) x → Moved (opened m n) x
-  opened-move m n x (inl (isTimeBin t)) = (timed m (n + 1) t, times m n t)
-  opened-move m n x (inr h) = absurd h
+  opened-move : (h : Bool) (m n : ℕ) (x : Item) → OneOf (allowed afterChannel) x → Moved (opened h m n) x
+  opened-move h m n x (inl (isTimeBin t)) = (timed h m (n + 1) t, times h m n t)
+  opened-move h m n x (inr g) = absurd g
 
-  timed-move : (p : List Item) (m n t : ℕ) (x : Item) → time p ≡ t → order p x ≡ true → OneOf (allowed afterTime) x → Moved (timed m n t) x
-  timed-move p m n t x e o (inl (isSample v)) = let h = sample-order p v .0 o in (sampled m (n + 1) (t + 1), first m n t v (omega arith))
-  timed-move p m n t x e o (inr h) = absurd h
+  timed-move : (p : List Item) (h : Bool) (m n t : ℕ) (x : Item) → time p ≡ t → order p x ≡ true → OneOf (allowed afterTime) x → Moved (timed h m n t) x
+  timed-move p h m n t x e o (inl (isSample v)) = let g = sample-order p v .0 o in (sampled h m (n + 1) (t + 1), first h m n t v (omega arith))
+  timed-move p h m n t x e o (inr g) = absurd g
 
-  sampled-move : (p : List Item) (m n t : ℕ) (x : Item) → time p ≡ t → lastTime p + 1 ≡ t → has sample (since channel p) ≡ true → order p x ≡ true → OneOf (sample ∷ timeBin ∷ []) x
-      → Moved (sampled m n t) x
-  sampled-move p m n t x e f s o (inl (isSample v)) = let h = sample-order p v .0 o in (sampled m (n + 1) (t + 1), next m n t v (omega arith))
-  sampled-move p m n t x e f s o (inr (inl (isTimeBin u))) =
-      (timed m (n + 1) u, later m n t u (next-bin-order p t u s f .0 o))
-  sampled-move p m n t x e f s o (inr (inr h)) = absurd h
+  sampled-move : (p : List Item) (h : Bool) (m n t : ℕ) (x : Item) → time p ≡ t → lastTime p + 1 ≡ t → has sample (since channel p) ≡ true → order p x ≡ true → OneOf (sample ∷ timeBin ∷ []) x
+      → Moved (sampled h m n t) x
+  sampled-move p h m n t x e f s o (inl (isSample v)) = let g = sample-order p v .0 o in (sampled h m (n + 1) (t + 1), next h m n t v (omega arith))
+  sampled-move p h m n t x e f s o (inr (inl (isTimeBin u))) =
+      (timed h m (n + 1) u, later h m n t u (next-bin-order p t u s f .0 o))
+  sampled-move p h m n t x e f s o (inr (inr g)) = absurd g
 
   empty-move : (x : Item) → OneOf (allowed unheaded) x → Moved empty x
   empty-move x (inl (isHistogram a b c)) = (filling (suc (headerBits a b c)) 0, heads a b c)
@@ -78,14 +81,15 @@ module _ (card : ℕ) where
   in-place kind p w x e h = one-of (allowed w) x (ap (λ (w : ReaderMode). among (classFor x) (allowed w)) (sym e) ∙ h)
 
   pub move-of : (p : List Item) (st : State) (x : Item) → Leaves card p st → Allowed (kindFor st) card p x → Moved st x
-  move-of p out x l a = out-move x (in-place dataKind p outside x (ap (λ (b : Bool). pick b (insideAfter (latest p)) outside) l) (a .placed))
-  move-of p (amid m n) x l a =
-      body-move (amid m n) p m n x [] (free m n) (l .event) (a .valued) (a .ordered) (in-place dataKind p inside x (l .stands) (a .placed)) (λ h. absurd h)
-  move-of p (opened m n) x l a = opened-move m n x (in-place dataKind p afterChannel x (l .0 .stands) (a .placed))
-  move-of p (timed m n t) x l a = timed-move p m n t x (l .1) (a .ordered) (in-place dataKind p afterTime x (l .0 .stands) (a .placed))
-  move-of p (sampled m n t) x l a =
-      body-move (sampled m n t) p m n x (sample ∷ timeBin ∷ []) (past m n t) (l .0 .event) (a .valued) (a .ordered)
-      (in-place dataKind p afterSample x (l .0 .stands) (a .placed)) (sampled-move p m n t x (l .1) (l .3) (l .2) (a .ordered))
+  move-of p begin x l a = begin-move x (in-place dataKind p fresh x (fresh-place card p l) (a .placed))
+  move-of p out x l a = out-move x (in-place dataKind p outside x (outside-place card p l) (a .placed))
+  move-of p (amid h m n) x l a =
+      body-move (amid h m n) p h m n x [] (free h m n) (l .event) (a .valued) (a .ordered) (in-place dataKind p inside x (l .stands) (a .placed)) (λ g. absurd g)
+  move-of p (opened h m n) x l a = opened-move h m n x (in-place dataKind p afterChannel x (l .0 .stands) (a .placed))
+  move-of p (timed h m n t) x l a = timed-move p h m n t x (l .1) (a .ordered) (in-place dataKind p afterTime x (l .0 .stands) (a .placed))
+  move-of p (sampled h m n t) x l a =
+      body-move (sampled h m n t) p h m n x (sample ∷ timeBin ∷ []) (past h m n t) (l .0 .event) (a .valued) (a .ordered)
+      (in-place dataKind p afterSample x (l .0 .stands) (a .placed)) (sampled-move p h m n t x (l .1) (l .3) (l .2) (a .ordered))
   move-of p empty x l a = empty-move x (in-place monitorKind p unheaded x (ap (λ (p : List Item). modeAfter monitorKind p) l) (a .placed))
   move-of p (filling m k) x l a = filling-move p m k x l (a .valued) (a .ordered) (in-place monitorKind p headed x (l .stands) (a .placed))
   move-of p texts x l a = texts-move x (in-place commandKind p commands x refl (a .placed))
@@ -94,15 +98,16 @@ module _ (card : ℕ) where
 
   -- a move stays in the frame's kind
   same-kind : (st st′ : State) (x : Item) → Move st x st′ → kindFor st ≡ kindFor st′
-  same-kind st st′ x (starts t ts n) = refl
-  same-kind st st′ x (counts _ m n a b c d) = body-kind card st m n d
-  same-kind st st′ x (cells _ m n a b d) = body-kind card st m n d
-  same-kind st st′ x (opens _ m n a b c d h) = body-kind card st m n d
-  same-kind st st′ x (ends _ m n z d h) = body-kind card st m n d
-  same-kind st st′ x (times m n t) = refl
-  same-kind st st′ x (first m n t v h) = refl
-  same-kind st st′ x (next m n t v h) = refl
-  same-kind st st′ x (later m n t u h) = refl
+  same-kind st st′ x (starts _ t ts n o) = outer-kind card st o
+  same-kind st st′ x (continues n) = refl
+  same-kind st st′ x (counts _ h m n a b c d) = body-kind card st h m n d
+  same-kind st st′ x (cells _ h m n a b d) = body-kind card st h m n d
+  same-kind st st′ x (opens _ h m n a b c d g) = body-kind card st h m n d
+  same-kind st st′ x (ends _ h m n z d g) = body-kind card st h m n d
+  same-kind st st′ x (times h m n t) = refl
+  same-kind st st′ x (first h m n t v g) = refl
+  same-kind st st′ x (next h m n t v g) = refl
+  same-kind st st′ x (later h m n t u g) = refl
   same-kind st st′ x (heads a b c) = refl
   same-kind st st′ x (heads-next m k a b c h) = refl
   same-kind st st′ x (fills m k b n h) = refl
@@ -110,17 +115,19 @@ module _ (card : ℕ) where
 
   -- the items may end exactly in a final state
   may-end : (st : State) (p : List Item) → Leaves card p st → Final st → mayEnd p ≡ true
-  may-end st p l at-out = ap not l
-  may-end st p l at-empty = ap not (empty-shut card p l)
-  may-end st p l (at-filling m k) = ap not (l .shut)
-  may-end st p l at-texts = ap not l
+  may-end st p l (at-outer _ o) = outer-ended card st p o l
+  may-end st p l (at-body _ h m n d) = body-ended card st p h m n d l
+  may-end st p l at-empty = ap (λ (q : List Item). mayEnd q) l
+  may-end st p l (at-filling m k) = l .ended
+  may-end st p l at-texts = l
 
   final-of : (st : State) (p : List Item) → Leaves card p st → mayEnd p ≡ true → Final st
-  final-of out p l e = at-out
-  final-of (amid m n) p l e = absurd (true≢false (sym (l .event .opened) ∙ not-true _ e))
-  final-of (opened m n) p l e = absurd (true≢false (sym (l .0 .event .opened) ∙ not-true _ e))
-  final-of (timed m n t) p l e = absurd (true≢false (sym (l .0 .event .opened) ∙ not-true _ e))
-  final-of (sampled m n t) p l e = absurd (true≢false (sym (l .0 .event .opened) ∙ not-true _ e))
+  final-of begin p l e = at-outer begin at-first
+  final-of out p l e = at-outer out at-next
+  final-of (amid h m n) p l e = at-body (amid h m n) h m n (free h m n)
+  final-of (opened h m n) p l e = absurd (true≢false (sym e ∙ l .0 .ended))
+  final-of (timed h m n t) p l e = absurd (true≢false (sym e ∙ l .0 .ended))
+  final-of (sampled h m n t) p l e = at-body (sampled h m n t) h m n (past h m n t)
   final-of empty p l e = at-empty
   final-of (filling m k) p l e = at-filling m k
   final-of texts p l e = at-texts

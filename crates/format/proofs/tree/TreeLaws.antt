@@ -7,14 +7,14 @@ use mathlib.Core.List.{List, [], _∷_}
 use mathlib.Core.Bool.{true, false, true≢false}
 use mathlib.Core.Logic.{_↔_}
 use native.Mathlib.Omega.{arith}
-use Rattle.format.specs.Book.{Class, sample, bin, timeBin}
+use Rattle.format.specs.Book.{Class, channel, hitCount, sample, bin, lastCell, timeBin, continueEvent}
 use Rattle.format.specs.Items.{Item, Channel, HitCount, LastCell, EndEvent}
 use Rattle.format.specs.Rules.{Kind, dataKind, monitorKind, commandKind, same, since, count, latest, mayEnd}
 use Rattle.format.specs.Frames.{Frame, earlierThen, Sound, Legal}
-use Rattle.format.specs.Tree.{Stretch, stretch, Part, hits, cell, pulse, Event, event, Bar, bar, Pedestal, pedestal, Tree, ofSamples, ofStretches, ofParts, ofEvents, ofBars, ofPedestals, ofTexts, leaves, Shaped, Limited, Lawful, TreeOf}
-use Rattle.format.proofs.tree.Moves.{State, out, empty, texts, kindFor, Leaves, Moves}
+use Rattle.format.specs.Tree.{Stretch, stretch, Part, hits, cell, pulse, Event, event, Bar, bar, Pedestal, pedestal, new, ending, Tail, shut, opening, Readout, events, through, Tree, ofSamples, ofStretches, ofParts, ofEvents, ofTail, ofReadout, ofBars, ofPedestals, ofTexts, leaves, Shaped, Limited, Lawful, TreeOf}
+use Rattle.format.proofs.tree.Moves.{State, begin, empty, texts, kindFor, Leaves, Moves}
 use Rattle.format.proofs.tree.SoundMoves.{sound-moves, moves-sound}
-use Rattle.format.proofs.tree.TreeMoves.{events-moves, monitor-moves, texts-moves, build}
+use Rattle.format.proofs.tree.TreeMoves.{readout-moves, monitor-moves, texts-moves, build}
 
 -- ---- no two trees have the same leaves: each level ends where an item of another class begins
 
@@ -55,63 +55,116 @@ same-runs (stretch u v vs ∷ rs) (stretch u′ v′ vs′ ∷ rs′) xs xs′ o
     let (k, l) = same-runs rs rs′ xs xs′ o o′ t t′ j in
     (cc, l)
 
-parts-off : (c : Class) (ps : List Part) (z : ℕ) (xs : List Item) → Off c (HitCount 0 0 0 ∷ []) → Off c (LastCell 0 0 ∷ []) → Off c (Channel 0 0 0 ∷ []) → Off c (EndEvent 0 ∷ [])
-    → Off c (ofParts ps (EndEvent z ∷ xs))
-unfolding ofParts
-parts-off c [] z xs h l k e = e
-parts-off c (hits a₁ a₂ a₃ ∷ ps) z xs h l k e = h
-parts-off c (cell a₁ a₂ ∷ ps) z xs h l k e = l
-parts-off c (pulse a₁ a₂ a₃ r rs ∷ ps) z xs h l k e = k
+-- what comes after an event's parts: no item of these classes
+record Outside (xs : List Item) : Type 0 where
+  no-hits : Off hitCount xs
+  no-cell : Off lastCell xs
+  no-channel : Off channel xs
+  no-sample : Off sample xs
+  no-time : Off timeBin xs
 
-record SameBody (ps ps′ : List Part) (z z′ : ℕ) (xs xs′ : List Item) : Type 0 where
-  parts : ps ≡ ps′
-  size : z ≡ z′
-  rest : xs ≡ xs′
+ended-outside : (z : ℕ) (xs : List Item) → Outside (EndEvent z ∷ xs)
+ended-outside z xs = record { no-hits = refl; no-cell = refl; no-channel = refl; no-sample = refl; no-time = refl }
+
+nothing-outside : Outside []
+nothing-outside = record { no-hits = refl; no-cell = refl; no-channel = refl; no-sample = refl; no-time = refl }
+
+parts-off : (c : Class) (ps : List Part) (xs : List Item) → Off c (HitCount 0 0 0 ∷ []) → Off c (LastCell 0 0 ∷ []) → Off c (Channel 0 0 0 ∷ []) → Off c xs → Off c (ofParts ps xs)
+unfolding ofParts
+parts-off c [] xs h l k e = e
+parts-off c (hits a₁ a₂ a₃ ∷ ps) xs h l k e = h
+parts-off c (cell a₁ a₂ ∷ ps) xs h l k e = l
+parts-off c (pulse a₁ a₂ a₃ r rs ∷ ps) xs h l k e = k
 
 no-body : {A : Type 0} → _≡_ {A = ℕ} 0 1 → A
 no-body e = absurd (omega arith)
 
-same-parts : (ps ps′ : List Part) (z z′ : ℕ) (xs xs′ : List Item) → ofParts ps (EndEvent z ∷ xs) ≡ ofParts ps′ (EndEvent z′ ∷ xs′) → SameBody ps ps′ z z′ xs xs′
+same-parts : (ps ps′ : List Part) (xs xs′ : List Item) → Outside xs → Outside xs′ → ofParts ps xs ≡ ofParts ps′ xs′ → (ps ≡ ps′) × (xs ≡ xs′)
 unfolding ofParts
-same-parts [] [] z z′ xs xs′ e = record { parts = refl; size = cc; rest = cc }
-same-parts [] (hits a₁ a₂ a₃ ∷ qs) z z′ xs xs′ e = no-body (cc)
-same-parts [] (cell a₁ a₂ ∷ qs) z z′ xs xs′ e = no-body (cc)
-same-parts [] (pulse a₁ a₂ a₃ r rs ∷ qs) z z′ xs xs′ e = no-body (cc)
-same-parts (hits a₁ a₂ a₃ ∷ ps) [] z z′ xs xs′ e = no-body (cc)
-same-parts (hits a₁ a₂ a₃ ∷ ps) (hits b₁ b₂ b₃ ∷ qs) z z′ xs xs′ e =
-    let h = same-parts ps qs z z′ xs xs′ (cc) in
-    let g = h .parts in
-    record { parts = cc; size = h .size; rest = h .rest }
-same-parts (hits a₁ a₂ a₃ ∷ ps) (cell b₁ b₂ ∷ qs) z z′ xs xs′ e = no-body (cc)
-same-parts (hits a₁ a₂ a₃ ∷ ps) (pulse b₁ b₂ b₃ r rs ∷ qs) z z′ xs xs′ e = no-body (cc)
-same-parts (cell a₁ a₂ ∷ ps) [] z z′ xs xs′ e = no-body (cc)
-same-parts (cell a₁ a₂ ∷ ps) (hits b₁ b₂ b₃ ∷ qs) z z′ xs xs′ e = no-body (cc)
-same-parts (cell a₁ a₂ ∷ ps) (cell b₁ b₂ ∷ qs) z z′ xs xs′ e =
-    let h = same-parts ps qs z z′ xs xs′ (cc) in
-    let g = h .parts in
-    record { parts = cc; size = h .size; rest = h .rest }
-same-parts (cell a₁ a₂ ∷ ps) (pulse b₁ b₂ b₃ r rs ∷ qs) z z′ xs xs′ e = no-body (cc)
-same-parts (pulse a₁ a₂ a₃ r rs ∷ ps) [] z z′ xs xs′ e = no-body (cc)
-same-parts (pulse a₁ a₂ a₃ r rs ∷ ps) (hits b₁ b₂ b₃ ∷ qs) z z′ xs xs′ e = no-body (cc)
-same-parts (pulse a₁ a₂ a₃ r rs ∷ ps) (cell b₁ b₂ ∷ qs) z z′ xs xs′ e = no-body (cc)
-same-parts (pulse a₁ a₂ a₃ r rs ∷ ps) (pulse b₁ b₂ b₃ r′ rs′ ∷ qs) z z′ xs xs′ e =
-    let (f, i) = same-runs (r ∷ rs) (r′ ∷ rs′) (ofParts ps (EndEvent z ∷ xs)) (ofParts qs (EndEvent z′ ∷ xs′))
-    (parts-off sample ps z xs refl refl refl refl) (parts-off sample qs z′ xs′ refl refl refl refl)
-    (parts-off timeBin ps z xs refl refl refl refl) (parts-off timeBin qs z′ xs′ refl refl refl refl) (cc) in
-    let h = same-parts ps qs z z′ xs xs′ i in
-    let g = h .parts in
-    record { parts = cc; size = h .size; rest = h .rest }
+same-parts [] [] xs xs′ o o′ e = (refl, e)
+same-parts [] (hits a₁ a₂ a₃ ∷ qs) xs xs′ o o′ e = differ hitCount xs _ (o .no-hits) refl e
+same-parts [] (cell a₁ a₂ ∷ qs) xs xs′ o o′ e = differ lastCell xs _ (o .no-cell) refl e
+same-parts [] (pulse a₁ a₂ a₃ r rs ∷ qs) xs xs′ o o′ e = differ channel xs _ (o .no-channel) refl e
+same-parts (hits a₁ a₂ a₃ ∷ ps) [] xs xs′ o o′ e = differ hitCount xs′ _ (o′ .no-hits) refl (sym e)
+same-parts (hits a₁ a₂ a₃ ∷ ps) (hits b₁ b₂ b₃ ∷ qs) xs xs′ o o′ e =
+    let (g, h) = same-parts ps qs xs xs′ o o′ (cc) in
+    (cc, h)
+same-parts (hits a₁ a₂ a₃ ∷ ps) (cell b₁ b₂ ∷ qs) xs xs′ o o′ e = no-body (cc)
+same-parts (hits a₁ a₂ a₃ ∷ ps) (pulse b₁ b₂ b₃ r rs ∷ qs) xs xs′ o o′ e = no-body (cc)
+same-parts (cell a₁ a₂ ∷ ps) [] xs xs′ o o′ e = differ lastCell xs′ _ (o′ .no-cell) refl (sym e)
+same-parts (cell a₁ a₂ ∷ ps) (hits b₁ b₂ b₃ ∷ qs) xs xs′ o o′ e = no-body (cc)
+same-parts (cell a₁ a₂ ∷ ps) (cell b₁ b₂ ∷ qs) xs xs′ o o′ e =
+    let (g, h) = same-parts ps qs xs xs′ o o′ (cc) in
+    (cc, h)
+same-parts (cell a₁ a₂ ∷ ps) (pulse b₁ b₂ b₃ r rs ∷ qs) xs xs′ o o′ e = no-body (cc)
+same-parts (pulse a₁ a₂ a₃ r rs ∷ ps) [] xs xs′ o o′ e = differ channel xs′ _ (o′ .no-channel) refl (sym e)
+same-parts (pulse a₁ a₂ a₃ r rs ∷ ps) (hits b₁ b₂ b₃ ∷ qs) xs xs′ o o′ e = no-body (cc)
+same-parts (pulse a₁ a₂ a₃ r rs ∷ ps) (cell b₁ b₂ ∷ qs) xs xs′ o o′ e = no-body (cc)
+same-parts (pulse a₁ a₂ a₃ r rs ∷ ps) (pulse b₁ b₂ b₃ r′ rs′ ∷ qs) xs xs′ o o′ e =
+    let (f, i) = same-runs (r ∷ rs) (r′ ∷ rs′) (ofParts ps xs) (ofParts qs xs′)
+    (parts-off sample ps xs refl refl refl (o .no-sample)) (parts-off sample qs xs′ refl refl refl (o′ .no-sample))
+    (parts-off timeBin ps xs refl refl refl (o .no-time)) (parts-off timeBin qs xs′ refl refl refl (o′ .no-time)) (cc) in
+    let (g, h) = same-parts ps qs xs xs′ o o′ i in
+    (cc, h)
 
-same-events : (es es′ : List Event) → ofEvents es ≡ ofEvents es′ → es ≡ es′
+-- an event that the frame ends in, and one that an End event ends
+no-end : {A : Type 0} (z : ℕ) (xs : List Item) → EndEvent z ∷ xs ≡ [] → A
+no-end z xs e = no-body (cc)
+
+same-ended : (ps ps′ : List Part) (z z′ : ℕ) (xs xs′ : List Item) → ofParts ps (EndEvent z ∷ xs) ≡ ofParts ps′ (EndEvent z′ ∷ xs′) → (ps ≡ ps′) × (z ≡ z′) × (xs ≡ xs′)
+same-ended ps ps′ z z′ xs xs′ e =
+    let (g, h) = same-parts ps ps′ (EndEvent z ∷ xs) (EndEvent z′ ∷ xs′) (ended-outside z xs) (ended-outside z′ xs′) e in
+    (g, cc, cc)
+
+ended-going : {A : Type 0} (ps ps′ : List Part) (z : ℕ) (xs : List Item) → ofParts ps (EndEvent z ∷ xs) ≡ ofParts ps′ [] → A
+ended-going ps ps′ z xs e =
+    let (g, h) = same-parts ps ps′ (EndEvent z ∷ xs) [] (ended-outside z xs) nothing-outside e in
+    no-end z xs h
+
+same-going : (ps ps′ : List Part) → ofParts ps [] ≡ ofParts ps′ [] → ps ≡ ps′
+same-going ps ps′ e = let (g, h) = same-parts ps ps′ [] [] nothing-outside nothing-outside e in g
+
+same-tails : (o o′ : Tail) → ofTail o ≡ ofTail o′ → o ≡ o′
+same-tails shut shut e = refl
+same-tails shut (opening t ts n ps) e = no-body (cc)
+same-tails (opening t ts n ps) shut e = no-body (cc)
+same-tails (opening t ts n ps) (opening t′ ts′ n′ ps′) e =
+    let g = same-going ps ps′ (cc) in
+    cc
+
+same-events : (es es′ : List Event) (o o′ : Tail) → ofEvents es (ofTail o) ≡ ofEvents es′ (ofTail o′) → (es ≡ es′) × (o ≡ o′)
 unfolding ofEvents
-same-events [] [] e = refl
-same-events [] (event t ts n ps z ∷ es′) e = no-body (cc)
-same-events (event t ts n ps z ∷ es) [] e = no-body (cc)
-same-events (event t ts n ps z ∷ es) (event t′ ts′ n′ ps′ z′ ∷ es′) e =
-    let h = same-parts ps ps′ z z′ (ofEvents es) (ofEvents es′) (cc) in
-    let g = same-events es es′ (h .rest) in
-    let i = h .parts in
-    let j = h .size in
+same-events [] [] o o′ e = (refl, same-tails o o′ e)
+same-events [] (event t ts n ps z ∷ es′) shut o′ e = no-body (cc)
+same-events [] (event t ts n ps z ∷ es′) (opening t′ ts′ n′ ps′) o′ e = ended-going ps ps′ z (ofEvents es′ (ofTail o′)) (sym (cc))
+same-events (event t ts n ps z ∷ es) [] o shut e = no-body (cc)
+same-events (event t ts n ps z ∷ es) [] o (opening t′ ts′ n′ ps′) e = ended-going ps ps′ z (ofEvents es (ofTail o)) (cc)
+same-events (event t ts n ps z ∷ es) (event t′ ts′ n′ ps′ z′ ∷ es′) o o′ e =
+    let (g, i, r) = same-ended ps ps′ z z′ (ofEvents es (ofTail o)) (ofEvents es′ (ofTail o′)) (cc) in
+    let (h, j) = same-events es es′ o o′ r in
+    (cc, j)
+
+-- what goes on after an event does not begin with a Continue event
+events-off : (es : List Event) (o : Tail) → Off continueEvent (ofEvents es (ofTail o))
+unfolding ofEvents
+events-off [] shut = refl
+events-off [] (opening t ts n ps) = refl
+events-off (event t ts n ps z ∷ es) o = refl
+
+same-readouts : (r r′ : Readout) → ofReadout r ≡ ofReadout r′ → r ≡ r′
+same-readouts (events new es o) (events new es′ o′) e = let (g, h) = same-events es es′ o o′ e in cc
+same-readouts (events new es o) (events (ending n ps z) es′ o′) e = differ continueEvent _ _ (events-off es o) refl e
+same-readouts (events new es o) (through n ps) e = differ continueEvent _ _ (events-off es o) refl e
+same-readouts (events (ending n ps z) es o) (events new es′ o′) e = differ continueEvent _ _ (events-off es′ o′) refl (sym e)
+same-readouts (events (ending n ps z) es o) (events (ending n′ ps′ z′) es′ o′) e =
+    let (g, i, r) = same-ended ps ps′ z z′ (ofEvents es (ofTail o)) (ofEvents es′ (ofTail o′)) (cc) in
+    let (h, j) = same-events es es′ o o′ r in
+    cc
+same-readouts (events (ending n ps z) es o) (through n′ ps′) e = ended-going ps ps′ z (ofEvents es (ofTail o)) (cc)
+same-readouts (through n ps) (events new es′ o′) e = differ continueEvent _ _ (events-off es′ o′) refl (sym e)
+same-readouts (through n ps) (events (ending n′ ps′ z′) es′ o′) e = ended-going ps′ ps z′ (ofEvents es′ (ofTail o′)) (sym (cc))
+same-readouts (through n ps) (through n′ ps′) e =
+    let g = same-going ps ps′ (cc) in
     cc
 
 same-bars : (bs bs′ : List Bar) (xs xs′ : List Item) → Off bin xs → Off bin xs′ → ofBars bs xs ≡ ofBars bs′ xs′ → (bs ≡ bs′) × (xs ≡ xs′)
@@ -148,49 +201,49 @@ same-texts (s ∷ ss) (s′ ∷ ss′) e =
     cc
 
 pub one-tree : (kind : Kind) (t u : Tree kind) → leaves kind t ≡ leaves kind u → t ≡ u
-one-tree dataKind t u e = same-events t u e
+one-tree dataKind t u e = same-readouts t u e
 one-tree monitorKind t u e = same-pedestals t u e
 one-tree commandKind t u e = same-texts t u e
 
 -- ---- the two writings say the same
 
 -- where a frame of the kind begins
-abbrev begin : Kind → State
-begin dataKind = out
-begin monitorKind = empty
-begin commandKind = texts
+abbrev first : Kind → State
+first dataKind = begin
+first monitorKind = empty
+first commandKind = texts
 
-kind-back : (kind : Kind) → kindFor (begin kind) ≡ kind
+kind-back : (kind : Kind) → kindFor (first kind) ≡ kind
 kind-back dataKind = refl
 kind-back monitorKind = refl
 kind-back commandKind = refl
 
-begins : (kind : Kind) (card : ℕ) → Leaves card [] (begin kind)
+begins : (kind : Kind) (card : ℕ) → Leaves card [] (first kind)
 unfolding since count
 begins dataKind card = refl
 begins monitorKind card = refl
 begins commandKind card = refl
 
-tree-moves : (kind : Kind) (tree : Tree kind) → Shaped kind tree → Moves (begin kind) (leaves kind tree)
-tree-moves dataKind es h = events-moves es h
+tree-moves : (kind : Kind) (tree : Tree kind) → Shaped kind tree → Moves (first kind) (leaves kind tree)
+tree-moves dataKind r h = readout-moves r h
 tree-moves monitorKind hs h = monitor-moves hs (h .0) (h .1)
 tree-moves commandKind ss h = texts-moves ss
 
-moves-tree : (kind : Kind) (xs : List Item) → Moves (begin kind) xs → (tree : Tree kind) × Shaped kind tree × (leaves kind tree ≡ xs)
-moves-tree dataKind xs ms = build xs out ms tt
+moves-tree : (kind : Kind) (xs : List Item) → Moves (first kind) xs → (tree : Tree kind) × Shaped kind tree × (leaves kind tree ≡ xs)
+moves-tree dataKind xs ms = build xs begin ms tt
 moves-tree monitorKind xs ms = let (hs, r, a, e) = build xs empty ms tt in (hs, (r, a), e)
 moves-tree commandKind xs ms = let (ss, e) = build xs texts ms tt in (ss, tt, e)
 
--- the leaves of a lawful tree are sound, and end outside an event
+-- the leaves of a lawful tree are sound, and may end
 pub of-tree : (kind : Kind) (card : ℕ) (tree : Tree kind) → Lawful kind card tree → Sound kind card [] (leaves kind tree) × (mayEnd (earlierThen [] (leaves kind tree)) ≡ true)
 of-tree kind card tree l =
-    let (s, e) = moves-sound card (leaves kind tree) (begin kind) (tree-moves kind tree (l .shaped)) [] (begins kind card) (l .limited) in
+    let (s, e) = moves-sound card (leaves kind tree) (first kind) (tree-moves kind tree (l .shaped)) [] (begins kind card) (l .limited) in
     (subst (λ (k : Kind). Sound k card [] (leaves kind tree)) (kind-back kind) s, e)
 
 -- and such a list is the leaves of a lawful tree
 pub tree-of : (kind : Kind) (card : ℕ) (xs : List Item) → Sound kind card [] xs → mayEnd (earlierThen [] xs) ≡ true → TreeOf kind card xs
 tree-of kind card xs s e =
-    let (ms, r) = sound-moves card xs [] (begin kind) (begins kind card) (subst (λ (k : Kind). Sound k card [] xs) (sym (kind-back kind)) s) e in
+    let (ms, r) = sound-moves card xs [] (first kind) (begins kind card) (subst (λ (k : Kind). Sound k card [] xs) (sym (kind-back kind)) s) e in
     let (t, h, l) = moves-tree kind xs ms in
     record { tree = t; lawful = record { shaped = h; limited = subst (Limited card) (sym l) r }; leaves-are = l }
 

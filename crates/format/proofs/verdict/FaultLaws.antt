@@ -11,7 +11,7 @@ use lib.ListN.{length, getD, take, drop, length-drop, take-append-drop}
 use lib.Seq.{drop-cons, getD-take, length-take-le}
 use borrow.Author.Tests.{leb-true, leb-false, eqb-true, eqb-false}
 use Rattle.format.specs.Words.{Bytes, words, wordAt}
-use Rattle.format.specs.Book.{Class, channel, histogram, hitCount, sample, bin, lastCell, timeBin, dataFrame, monitorFrame, commandFrame, text, startEvent, endEvent, frameEnd, unassigned, classOf, after, assigned}
+use Rattle.format.specs.Book.{Class, channel, histogram, hitCount, sample, bin, lastCell, timeBin, dataFrame, monitorFrame, commandFrame, text, startEvent, continueEvent, endEvent, frameEnd, unassigned, classOf, after, assigned}
 use Rattle.format.specs.Items.{Item, classFor, wordsOf, fits, inRange, decode, Token, whole, broken, tokenFor, tokenOf, tokens}
 use Rattle.format.specs.Rules.{place, sized, value, order, bad, check}
 use Rattle.format.specs.Frames.{Allowed, isStart, lengthFits, startFits, lastOf, headFault, kindIn, cardIn}
@@ -133,6 +133,7 @@ none-of monitorFrame e = absurd (true≢false e)
 none-of commandFrame e = absurd (true≢false e)
 none-of text e = absurd (true≢false e)
 none-of startEvent e = absurd (true≢false e)
+none-of continueEvent e = absurd (true≢false e)
 none-of endEvent e = absurd (true≢false e)
 none-of frameEnd e = absurd (true≢false e)
 none-of unassigned e = refl

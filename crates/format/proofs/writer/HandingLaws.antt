@@ -11,7 +11,7 @@ use lib.Seq.{take-at}
 use Rattle.format.specs.Words.{Bytes, bytes, words, longWords, timeWords}
 use Rattle.format.specs.Answers.{Outcome, accepted, refused}
 use Rattle.format.specs.Book.{Class, text}
-use Rattle.format.specs.Items.{Item, Channel, Histogram, HitCount, Sample, Bin, LastCell, TimeBin, Text, StartEvent, EndEvent, wordsOf, Token, whole, broken}
+use Rattle.format.specs.Items.{Item, Channel, Histogram, HitCount, Sample, Bin, LastCell, TimeBin, Text, StartEvent, ContinueEvent, EndEvent, wordsOf, Token, whole, broken}
 use Rattle.format.specs.Rules.{Kind}
 use Rattle.format.specs.Frames.{Frame, startWord, allWords, frameWords, encode, Legal, Sound, verdict}
 use Rattle.format.specs.Questions.{IndexedShown, shown, shownAt}
@@ -40,6 +40,7 @@ told-words index (LastCell a b) next = ap (λ (w : ℕ). w ∷ []) (omega arith)
 told-words index (TimeBin t) next = ap (λ (w : ℕ). w ∷ []) (omega arith)
 told-words index (Text s) next = ap (λ (w : ℕ). w ∷ words (s ++ (0 ∷ []))) (omega arith)
 told-words index (StartEvent t ts m) next = ap (λ (w : ℕ). w ∷ (timeWords ts ++ longWords m)) (omega arith)
+told-words index (ContinueEvent m) next = refl
 told-words index (EndEvent m) next = refl
 
 -- THE LAW of the arguments: handed over as it is answered, an item is itself
@@ -53,6 +54,7 @@ handed-over (LastCell a b) = refl
 handed-over (TimeBin t) = refl
 handed-over (Text s) = refl
 handed-over (StartEvent t ts n) = refl
+handed-over (ContinueEvent n) = refl
 handed-over (EndEvent n) = refl
 
 whole-is : (x y : Item) → whole x ≡ whole y → x ≡ y
@@ -72,6 +74,7 @@ handed-back (byAdd (LastCell a b)) x e = ap handOver (whole-is _ x e)
 handed-back (byAdd (TimeBin t)) x e = ap handOver (whole-is _ x e)
 handed-back (byAdd (Text n)) x e = no-item text x e
 handed-back (byAdd (StartEvent t ts n)) x e = ap handOver (whole-is _ x e)
+handed-back (byAdd (ContinueEvent n)) x e = ap handOver (whole-is _ x e)
 handed-back (byAdd (EndEvent n)) x e = ap handOver (whole-is _ x e)
 handed-back (byText s) x e = ap handOver (whole-is _ x e)
 

@@ -11,7 +11,7 @@ use borrow.Author.Tests.{eqb-true}
 use Rattle.format.specs.Words.{Bytes}
 use Rattle.format.specs.Answers.{Outcome, refused}
 use Rattle.format.specs.Book.{Class}
-use Rattle.format.specs.Items.{ItemOf, Item, Channel, Histogram, HitCount, Sample, Bin, LastCell, TimeBin, Text, StartEvent, EndEvent, Token, whole}
+use Rattle.format.specs.Items.{ItemOf, Item, Channel, Histogram, HitCount, Sample, Bin, LastCell, TimeBin, Text, StartEvent, ContinueEvent, EndEvent, Token, whole}
 use Rattle.format.specs.Rules.{Kind}
 use Rattle.format.specs.Frames.{earlierThen}
 use Rattle.format.specs.Faults.{ItemBroken, noClass, cut, misplaced, misvalued, disordered, FirstFaulty, NewBroken, outOfPlace, wrongValue, outOfOrder, EmptyBroken, emptyOutOfPlace, noContent}
@@ -126,6 +126,7 @@ given-handed (LastCell a b) = refl
 given-handed (TimeBin t) = refl
 given-handed (Text n) = refl
 given-handed (StartEvent a b c) = refl
+given-handed (ContinueEvent n) = refl
 given-handed (EndEvent n) = refl
 
 pub add-numbers : (buf : List ℕ) → Bytes buf → (n : ℕ) (t : Token) → handed t ≡ true → (k p : ℕ) → addAnswer buf n t ≡ refused k p → oneOf k addNumbers ≡ true

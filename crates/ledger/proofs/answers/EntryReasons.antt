@@ -11,7 +11,7 @@ use native.Mathlib.Decide.{decLt}
 use lib.ListN.{length}
 use lib.Dec.{eqb}
 use borrow.Author.Tests.{leb-false, eqb-true, eqb-false, not-false}
-use Rattle.format.specs.Items.{Item, Channel, Histogram, HitCount, Sample, Bin, LastCell, TimeBin, Text, StartEvent, EndEvent}
+use Rattle.format.specs.Items.{Item, Channel, Histogram, HitCount, Sample, Bin, LastCell, TimeBin, Text, StartEvent, ContinueEvent, EndEvent}
 use Rattle.format.specs.Words.{wordAt, longAt}
 use Rattle.format.specs.Spots.{Spot, spotOf, spot, legalValue}
 use Rattle.format.specs.Spots as spots
@@ -40,6 +40,7 @@ kind-of k (LastCell a b) p e = no-some p e
 kind-of k (TimeBin t) p e = no-some p e
 kind-of k (Text s) p e = no-some p e
 kind-of k (StartEvent t ts n) p e = no-some p e
+kind-of k (ContinueEvent n) p e = no-some p e
 kind-of k (EndEvent n) p e = no-some p e
 
 pub spot-kind : (s : List ℕ) (w : ℕ) (p : Spot) → spot s w ≡ some p → (p .kind ≡ 1) ⊎ (p .kind ≡ 2)
