@@ -28,8 +28,9 @@ use Rattle.book.specs.declared.items.LastCell.{LastCell}
 use Rattle.book.specs.declared.items.TimeBin.{TimeBin}
 use Rattle.book.specs.declared.items.Text.{Text}
 use Rattle.book.specs.declared.items.StartEvent.{StartEvent}
+use Rattle.book.specs.declared.items.ContinueEvent.{ContinueEvent}
 use Rattle.book.specs.declared.items.EndEvent.{EndEvent}
-use Rattle.book.specs.Fields.{channelOf, histogramOf, hitsOf, sampleOf, binOf, cellOf, timeBinOf, textOf, typeOf, headerBitsCut, channelWord, histogramWord, hitsWord, sampleWord, binWord, cellWord, timeBinWord, textWord, startWord, channelItem, histogramItem, hitsItem, sampleItem, binItem, cellItem, timeItem, startItem, endItem}
+use Rattle.book.specs.Fields.{channelOf, histogramOf, hitsOf, sampleOf, binOf, cellOf, timeBinOf, textOf, typeOf, headerBitsCut, channelWord, histogramWord, hitsWord, sampleWord, binWord, cellWord, timeBinWord, textWord, startWord, channelItem, histogramItem, hitsItem, sampleItem, binItem, cellItem, timeItem, startItem, continueItem, endItem}
 
 -- values of A lie in words as fields of the widths ns below a head
 pub record Laid (A : Type 0) (ns : List ℕ) (head : ℕ) : Type 0 where
@@ -221,6 +222,9 @@ pub start-words : (x : StartEvent) → fits (startItem x) ≡ true
     → wordsOf (startItem x) ≡ startWord x ∷ (timeWords (x .timestamp) ++ longWords (x .number))
 start-words x f = first-word (startItem x) ∙ written type (x .kind) (timeWords (x .timestamp) ++ longWords (x .number)) (content-fit (startItem x) f)
 
+pub continue-words : (x : ContinueEvent) → wordsOf (continueItem x) ≡ 0x0A00 ∷ longWords (x .number)
+continue-words x = first-word (continueItem x)
+
 pub end-words : (x : EndEvent) → wordsOf (endItem x) ≡ 0x00E0 ∷ longWords (x .size)
 end-words x = first-word (endItem x)
 
@@ -258,6 +262,10 @@ pub start-read : (w : ℕ) (ws : List ℕ)
     → decode paper.startEvent w ws ≡ some (startItem (record { kind = typeOf w; timestamp = timeOf ws; number = longOf (drop 3 ws) }))
 unfolding decode
 start-read w ws = refl
+
+pub continue-read : (w : ℕ) (ws : List ℕ) → w % 512 ≡ 0 → decode paper.continueEvent w ws ≡ some (continueItem (record { number = longOf ws }))
+unfolding decode
+continue-read w ws e = rw e
 
 pub end-read : (w : ℕ) (ws : List ℕ) → w % 16 ≡ 0 → decode paper.endEvent w ws ≡ some (endItem (record { size = longOf ws }))
 unfolding decode

@@ -21,7 +21,7 @@ use Rattle.book.specs.declared.items.Text.{Text}
 use Rattle.book.specs.declared.items.StartEvent.{StartEvent}
 use Rattle.book.specs.Fields.{channelOf, histogramOf, hitsOf, binOf, cellOf, typeOf, channelWord, histogramWord, hitsWord, sampleWord, binWord, cellWord, timeBinWord, textWord, startWord, channelItem, histogramItem, hitsItem, sampleItem, binItem, cellItem, timeItem, startItem}
 use Rattle.book.specs.Views.{view}
-use Rattle.book.specs.Promises.{Classified, RowTold, TextLong, WordsAfter, KeyTold, ChannelRead, ChannelWord, ChannelValid, HistogramRead, HistogramWord, HistogramValid, HitCountRead, HitCountWord, HitCountValid, SampleRead, SampleWord, SampleValid, BinRead, BinWord, BinValid, LastCellRead, LastCellWord, LastCellValid, TimeBinRead, TimeBinWord, TimeBinValid, TextRead, TextWord, StartEventRead, StartEventWord, StartEventValid, EndEventLow, WordRead, LongRead, TimeRead, Copied}
+use Rattle.book.specs.Promises.{Classified, RowTold, TextLong, WordsAfter, KeyTold, ChannelRead, ChannelWord, ChannelValid, HistogramRead, HistogramWord, HistogramValid, HitCountRead, HitCountWord, HitCountValid, SampleRead, SampleWord, SampleValid, BinRead, BinWord, BinValid, LastCellRead, LastCellWord, LastCellValid, TimeBinRead, TimeBinWord, TimeBinValid, TextRead, TextWord, StartEventRead, StartEventWord, StartEventValid, EndEventLow, ContinueEventLow, WordRead, LongRead, TimeRead, Copied}
 use Rattle.book.proofs.Unique.{one, undone, same-class, equal-once}
 
 -- ---- the class of a word, and the words that come after it
@@ -123,6 +123,9 @@ start-event-valid-once x = equal-once (inRange 0 (startItem x))
 
 pub low-bits-once : (w r q : ℕ) → EndEventLow w r → EndEventLow w q → r ≡ q
 low-bits-once w = equal-once (w % 16)
+
+pub continue-low-once : (w r q : ℕ) → ContinueEventLow w r → ContinueEventLow w q → r ≡ q
+continue-low-once w = equal-once (w % 512)
 
 -- ---- words in bytes; `copy` answers nothing, its promise is of the list that it leaves, whole
 

@@ -6,7 +6,7 @@ use Rattle.format.specs.Answers.{Outcome, refused}
 use Rattle.format.specs.Book as paper
 use Rattle.format.specs.Items as items
 use Rattle.book.specs.declared.class.Class.{Class}
-use Rattle.book.specs.declared.class.Class.the-variants.{Channel, Histogram, HitCount, Sample, Bin, LastCell, TimeBin, DataFrame, MonitorFrame, CommandFrame, Text, StartEvent, EndEvent, FrameEnd, Unassigned}
+use Rattle.book.specs.declared.class.Class.the-variants.{Channel, Histogram, HitCount, Sample, Bin, LastCell, TimeBin, DataFrame, MonitorFrame, CommandFrame, Text, StartEvent, ContinueEvent, EndEvent, FrameEnd, Unassigned}
 use Rattle.book.specs.declared.items.Item.{Item}
 use Rattle.book.specs.declared.items.Item.the-variants as item
 use Rattle.book.specs.declared.refusal.Refusal.{Refusal}
@@ -36,6 +36,7 @@ classBack paper.monitorFrame = MonitorFrame
 classBack paper.commandFrame = CommandFrame
 classBack paper.text = Text
 classBack paper.startEvent = StartEvent
+classBack paper.continueEvent = ContinueEvent
 classBack paper.endEvent = EndEvent
 classBack paper.frameEnd = FrameEnd
 classBack paper.unassigned = Unassigned
@@ -53,6 +54,7 @@ class-back MonitorFrame = refl
 class-back CommandFrame = refl
 class-back Text = refl
 class-back StartEvent = refl
+class-back ContinueEvent = refl
 class-back EndEvent = refl
 class-back FrameEnd = refl
 class-back Unassigned = refl
@@ -71,6 +73,7 @@ itemBack (items.LastCell a b) = item.LastCell (record { chip = a; cell = b })
 itemBack (items.TimeBin t) = item.TimeBin (record { time = t })
 itemBack (items.Text n) = item.Text (record { length = n })
 itemBack (items.StartEvent t ts n) = item.StartEvent (record { kind = t; timestamp = ts; number = n })
+itemBack (items.ContinueEvent n) = item.ContinueEvent (record { number = n })
 itemBack (items.EndEvent n) = item.EndEvent (record { size = n })
 
 item-back : (r : Item) → itemBack (viewItem r) ≡ r
@@ -83,6 +86,7 @@ item-back (item.LastCell x) = refl
 item-back (item.TimeBin x) = refl
 item-back (item.Text x) = refl
 item-back (item.StartEvent x) = refl
+item-back (item.ContinueEvent x) = refl
 item-back (item.EndEvent x) = refl
 
 pub same-item : (r q : Item) → viewItem r ≡ viewItem q → r ≡ q

@@ -11,6 +11,7 @@ use Rattle.book.specs.declared.items.LastCell.{LastCell}
 use Rattle.book.specs.declared.items.TimeBin.{TimeBin}
 use Rattle.book.specs.declared.items.Text.{Text}
 use Rattle.book.specs.declared.items.StartEvent.{StartEvent}
+use Rattle.book.specs.declared.items.ContinueEvent.{ContinueEvent}
 use Rattle.book.specs.declared.items.EndEvent.{EndEvent}
 
 -- card 5, chip 2, channel 7
@@ -100,6 +101,9 @@ timeItem x = items.TimeBin (x .time)
 
 abbrev pub startItem : StartEvent → items.Item
 startItem x = items.StartEvent (x .kind) (x .timestamp) (x .number)
+
+abbrev pub continueItem : ContinueEvent → items.Item
+continueItem x = items.ContinueEvent (x .number)
 
 abbrev pub endItem : EndEvent → items.Item
 endItem x = items.EndEvent (x .size)

@@ -125,6 +125,10 @@ StartEventValid x r = r ≡ inRange 0 (startItem x)
 abbrev pub EndEventLow : ℕ → ℕ → Type 0
 EndEventLow w r = r ≡ w % 16
 
+-- the content of a Continue event's first word
+abbrev pub ContinueEventLow : ℕ → ℕ → Type 0
+ContinueEventLow w r = r ≡ w % 512
+
 -- ---- words of 16, 32 and 48 bits in bytes; bytes copied to the start of others, as far as there is room
 
 abbrev pub WordRead : List ℕ → ℕ → ℕ → Type 0

@@ -6,7 +6,7 @@ use Rattle.format.specs.Answers.{Outcome, refused}
 use Rattle.format.specs.Book as format
 use Rattle.format.specs.Items as items
 use Rattle.book.specs.declared.class.Class.{Class}
-use Rattle.book.specs.declared.class.Class.the-variants.{Channel, Histogram, HitCount, Sample, Bin, LastCell, TimeBin, DataFrame, MonitorFrame, CommandFrame, Text, StartEvent, EndEvent, FrameEnd, Unassigned}
+use Rattle.book.specs.declared.class.Class.the-variants.{Channel, Histogram, HitCount, Sample, Bin, LastCell, TimeBin, DataFrame, MonitorFrame, CommandFrame, Text, StartEvent, ContinueEvent, EndEvent, FrameEnd, Unassigned}
 use Rattle.book.specs.declared.items.Item.{Item}
 use Rattle.book.specs.declared.items.Item.the-variants as item
 use Rattle.book.specs.declared.refusal.Refusal.{Refusal}
@@ -24,6 +24,7 @@ view MonitorFrame = format.monitorFrame
 view CommandFrame = format.commandFrame
 view Text = format.text
 view StartEvent = format.startEvent
+view ContinueEvent = format.continueEvent
 view EndEvent = format.endEvent
 view FrameEnd = format.frameEnd
 view Unassigned = format.unassigned
@@ -39,6 +40,7 @@ viewItem (item.LastCell x) = items.LastCell (x .chip) (x .cell)
 viewItem (item.TimeBin x) = items.TimeBin (x .time)
 viewItem (item.Text x) = items.Text (x .length)
 viewItem (item.StartEvent x) = items.StartEvent (x .kind) (x .timestamp) (x .number)
+viewItem (item.ContinueEvent x) = items.ContinueEvent (x .number)
 viewItem (item.EndEvent x) = items.EndEvent (x .size)
 
 abbrev pub refusal : {A : Type 0} → Refusal → Outcome A

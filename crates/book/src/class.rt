@@ -5,7 +5,7 @@ ghost use Rattle.format.specs.Book.{classOf, after, textWords};
 ghost use Rattle.book.specs.Views.{view};
 ghost use Rattle.book.specs.Promises.{Classified, RowTold, TextLong, WordsAfter};
 
-// A class of document 01's word book, in its order, or none.
+// A class of document 01's word book, in its order, or none; behind them those of document 02.
 pub enum Class {
     Channel,
     Histogram,
@@ -22,6 +22,7 @@ pub enum Class {
     EndEvent,
     FrameEnd,
     Unassigned,
+    ContinueEvent,
 }
 
 impl Class {
@@ -44,7 +45,7 @@ impl Class {
     pub const CHANNEL: u16 = 0xC000;
 }
 
-// The row of each class in document 01's table, from 1 on, named here once.
+// The row of each class in document 01's table, from 1 on, and behind them those of document 02; named here once.
 impl Class {
     pub const ROW_NONE: u32 = 0; // of a word that no row has
 
@@ -76,6 +77,8 @@ impl Class {
 
     pub const ROW_FRAME_END: u32 = 14;
 
+    pub const ROW_CONTINUE_EVENT: u32 = 15;
+
     pub fn row(self) -> u32
         ensures { λ r. ⌜ RowTold self r ⌝ }
     {
@@ -95,6 +98,7 @@ impl Class {
             Class::EndEvent => Class::ROW_END_EVENT,
             Class::FrameEnd => Class::ROW_FRAME_END,
             Class::Unassigned => Class::ROW_NONE,
+            Class::ContinueEvent => Class::ROW_CONTINUE_EVENT,
         }
     }
 }
@@ -129,6 +133,9 @@ fn classify_long(w: u16) -> Class
     }
     if w == 15 {
         return Class::FrameEnd;
+    }
+    if seven == 5 {
+        return Class::ContinueEvent;
     }
     Class::Unassigned
 }
@@ -185,6 +192,7 @@ fn after_class(class: Class, w: u16, text: u16) -> u16
         Class::Text => text,
         Class::StartEvent => 5,
         Class::EndEvent => 2,
+        Class::ContinueEvent => 2,
         Class::Channel => 0,
         Class::Histogram => 0,
         Class::HitCount => 0,

@@ -1,9 +1,9 @@
-// The ten items: what each holds, its limits, its fields cut out of a word by shifts and masks and put in the same way. The fields are wide
+// The eleven items: what each holds, its limits, its fields cut out of a word by shifts and masks and put in the same way. The fields are wide
 // enough that a content too wide for the word can be handed to the writer, which refuses it. Each limit is named in its item, once; that of a
 // card, which a frame start has too, before them.
 ghost use mathlib.Core.Path.{_≡_};
 ghost use Rattle.book.specs.Fields.{headerBitsCut};
-ghost use Rattle.book.specs.Promises.{KeyTold, ChannelRead, ChannelWord, ChannelValid, HistogramRead, HistogramWord, HistogramValid, HitCountRead, HitCountWord, HitCountValid, SampleRead, SampleWord, SampleValid, BinRead, BinWord, BinValid, LastCellRead, LastCellWord, LastCellValid, TimeBinRead, TimeBinWord, TimeBinValid, TextRead, TextWord, StartEventRead, StartEventWord, StartEventValid, EndEventLow};
+ghost use Rattle.book.specs.Promises.{KeyTold, ChannelRead, ChannelWord, ChannelValid, HistogramRead, HistogramWord, HistogramValid, HitCountRead, HitCountWord, HitCountValid, SampleRead, SampleWord, SampleValid, BinRead, BinWord, BinValid, LastCellRead, LastCellWord, LastCellValid, TimeBinRead, TimeBinWord, TimeBinValid, TextRead, TextWord, StartEventRead, StartEventWord, StartEventValid, EndEventLow, ContinueEventLow};
 use crate::class::Class;
 
 // The last card: five bits of a word.
@@ -66,6 +66,11 @@ pub struct EndEvent {
     pub size: u32,
 }
 
+// The number of an event that began in another frame and goes on in this one.
+pub struct ContinueEvent {
+    pub number: u32,
+}
+
 pub enum Item {
     Channel(Channel),
     Histogram(Histogram),
@@ -77,6 +82,7 @@ pub enum Item {
     Text(Text),
     StartEvent(StartEvent),
     EndEvent(EndEvent),
+    ContinueEvent(ContinueEvent),
 }
 
 // The low 14 bits of a word that three items share: card 5, chip 2 and 7 bits more, each cut to its width. The items put their prefix right of the
@@ -364,5 +370,17 @@ impl EndEvent {
         ensures { λ r. ⌜ EndEventLow w r ⌝ }
     {
         w & 0xF
+    }
+}
+
+impl ContinueEvent {
+    // The first word of the item; its content is zero.
+    pub const WORD: u16 = 0x0A00;
+
+    // The content of a word.
+    pub fn low_bits(w: u16) -> u16
+        ensures { λ r. ⌜ ContinueEventLow w r ⌝ }
+    {
+        w & 0x1FF
     }
 }

@@ -36,6 +36,8 @@ impl Refusal {
 
     pub const NO_START: u32 = Followed::NO_START;
 
+    pub const LINK: u32 = 15;
+
     pub const HEADER: u32 = 20;
 
     pub const ENTRY: u32 = 21;

@@ -9,12 +9,12 @@ use mathlib.Core.Option.{none, some}
 use native.Mathlib.Omega.{arith}
 use lib.ListN.{length, take, drop}
 use Rattle.format.specs.Words.{Bytes, words, bytes, wordAt, longAt, timeAt}
-use Rattle.format.specs.Book.{Class, channel, histogram, hitCount, sample, bin, lastCell, timeBin, dataFrame, monitorFrame, commandFrame, text, startEvent, endEvent, frameEnd, unassigned, classOf, after, assigned, textWords}
-use Rattle.format.specs.Items.{Channel, Histogram, HitCount, Sample, Bin, LastCell, TimeBin, Text, StartEvent, EndEvent, closed, decode, Token, whole, broken, tokenFor}
+use Rattle.format.specs.Book.{Class, channel, histogram, hitCount, sample, bin, lastCell, timeBin, dataFrame, monitorFrame, commandFrame, text, startEvent, continueEvent, endEvent, frameEnd, unassigned, classOf, after, assigned, textWords}
+use Rattle.format.specs.Items.{Channel, Histogram, HitCount, Sample, Bin, LastCell, TimeBin, Text, StartEvent, ContinueEvent, EndEvent, closed, decode, Token, whole, broken, tokenFor}
 use Rattle.format.specs.Frames.{lastOf}
 use Rattle.format.specs.Questions.{shown}
 use Rattle.format.specs.Cursor.{standingBy, standingAt, shownBy}
-use Rattle.format.proofs.reader.TurnLaws.{Stands, alone, not-there, no-class, bin-there, start-there, end-there, end-broken, text-there, text-broken}
+use Rattle.format.proofs.reader.TurnLaws.{Stands, alone, not-there, no-class, bin-there, start-there, continue-there, continue-broken, end-there, end-broken, text-there, text-broken}
 use Rattle.format.proofs.reader.TextPlaced.{texted}
 use Rattle.format.proofs.items.PartLaws.{payload-bytes}
 use Rattle.format.proofs.reader.CursorLaws.{within-bytes, standing-in, standing-flawed}
@@ -105,6 +105,15 @@ module _ (s : List ℕ) (last at w : ℕ) (b : 3 ≤ at) (h : at < last) (q : la
   pub low-shown : (low : ℕ) → endEvent ≡ classOf w → at + 3 ≤ last → low ≡ w % 16 → (low ≡ 0 → ⊥) → none ≡ shownBy (standingAt s at)
   low-shown low k l f z =
       shows _ (at + 3) (end-broken s (lastOf s) at (within-bytes s) (k ∙ ap classOf e) (omega arith) (λ i. z (f ∙ ap (λ (v : ℕ). v % 16) e ∙ i)))
+
+  pub continue-shown : (low n : ℕ) → continueEvent ≡ classOf w → at + 3 ≤ last → low ≡ w % 512 → low ≡ 0 → n ≡ longAt s (at + 1)
+      → some (record { item = ContinueEvent n; next = at + 3 }) ≡ shownBy (standingAt s at)
+  continue-shown low n k l f z g =
+      shows _ (at + 3) (continue-there s (lastOf s) at (within-bytes s) n (k ∙ ap classOf e) (omega arith) (ap (λ (v : ℕ). v % 512) (sym e) ∙ sym f ∙ z) g)
+
+  pub content-shown : (low : ℕ) → continueEvent ≡ classOf w → at + 3 ≤ last → low ≡ w % 512 → (low ≡ 0 → ⊥) → none ≡ shownBy (standingAt s at)
+  content-shown low k l f z =
+      shows _ (at + 3) (continue-broken s (lastOf s) at (within-bytes s) (k ∙ ap classOf e) (omega arith) (λ i. z (f ∙ ap (λ (v : ℕ). v % 512) e ∙ i)))
 
   -- ---- a text: its word holds its n
   module _ (y : Bytes s) (n m : ℕ) (k : text ≡ classOf w) (f : n ≡ w % 256) (g : m ≡ textWords w) (l : at + 1 + m ≤ last)

@@ -16,6 +16,7 @@ use book::class::classify;
 use book::class::text_words;
 use book::items::Bin;
 use book::items::Channel;
+use book::items::ContinueEvent;
 use book::items::EndEvent;
 use book::items::Histogram;
 use book::items::HitCount;
@@ -100,6 +101,21 @@ fn end_standing(s: &[u8], last: usize, at: usize, w: u16) -> Standing
     found(Item::EndEvent(EndEvent { size }), at + 3)
 }
 
+// A Continue event whose content is 0 and whose two words end before the last word.
+fn continue_standing(s: &[u8], last: usize, at: usize, w: u16) -> Standing
+    requires { ⌜ (3 ≤ at) × (at < last) × (last ≡ lastOf (now s)) × (w ≡ wordAt (now s) at) × (book.continueEvent ≡ book.classOf w) ⌝ }
+    ensures { λ r. ⌜ viewStanding r ≡ shownBy (standingAt (now (s .entry)) at) ⌝ }
+{
+    if last < at + 3 {
+        return Standing::Nothing;
+    }
+    if ContinueEvent::low_bits(w) != 0 {
+        return Standing::Nothing;
+    }
+    let number = long(s, at + 1);
+    found(Item::ContinueEvent(ContinueEvent { number }), at + 3)
+}
+
 // A text whose bytes are closed and end before the last word.
 fn text_standing(s: &[u8], last: usize, at: usize, w: u16) -> Standing
     requires { ⌜ (3 ≤ at) × (at < last) × (last ≡ lastOf (now s)) × (w ≡ wordAt (now s) at) × (book.text ≡ book.classOf w) ⌝ }
@@ -141,6 +157,7 @@ fn any_standing(s: &[u8], last: usize, at: usize, w: u16) -> Standing
         Class::EndEvent => end_standing(s, last, at, w),
         Class::FrameEnd => Standing::Nothing,
         Class::Unassigned => Standing::Nothing,
+        Class::ContinueEvent => continue_standing(s, last, at, w),
     }
 }
 

@@ -9,7 +9,7 @@ use lib.ListN.{length, take, drop, length-append}
 use Rattle.format.specs.Words.{Bytes}
 use Rattle.format.specs.Answers.{Outcome, accepted, refused, andThen}
 use Rattle.format.specs.Book.{after}
-use Rattle.format.specs.Items.{ItemOf, Item, Channel, Histogram, HitCount, Sample, Bin, LastCell, TimeBin, Text, StartEvent, EndEvent, wordsOf, whole}
+use Rattle.format.specs.Items.{ItemOf, Item, Channel, Histogram, HitCount, Sample, Bin, LastCell, TimeBin, Text, StartEvent, ContinueEvent, EndEvent, wordsOf, whole}
 use Rattle.format.specs.Frames.{Frame, allWords, lastOf, verdict}
 use Rattle.format.specs.Stands as stands
 use Rattle.format.specs.Stands.{ItemIs}
@@ -92,6 +92,7 @@ module _ (s : List ℕ) (n : ℕ) where
         go h (TimeBin t) k f g = empty _ f refl refl
         go h (Text t) k f g = absurd (omega arith)
         go h (StartEvent i j l) k f g = empty _ f refl refl
+        go h (ContinueEvent i) k f g = empty _ f refl refl
         go h (EndEvent i) k f g = empty _ f refl refl
 
     -- a text of c bytes, the final zero included, that ends before word `next`
@@ -145,6 +146,7 @@ module _ (s : List ℕ) (n : ℕ) where
             let b = w .within in
             text-part-of p t h k at nk g f (omega arith) (w .token ∙ ap (λ (z : IndexedItem). whole (z .item)) r) (sym (ap (λ (z : IndexedItem). z .next) r))
         go h (StartEvent i j l) k f nk g = absurd (omega arith)
+        go h (ContinueEvent i) k f nk g = absurd (omega arith)
         go h (EndEvent i) k f nk g = absurd (omega arith)
 
 -- ---- T11, where the part begins: of an accepted frame's item n, a text, right after its word

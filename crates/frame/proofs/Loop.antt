@@ -11,7 +11,7 @@ use lib.Dec.{eqb, ltb}
 use borrow.Author.Tests.{ltb-true}
 use Rattle.format.specs.Words.{pick}
 use Rattle.format.specs.Answers.{Outcome, accepted, refused}
-use Rattle.format.specs.Rules.{Kind, dataKind, monitorKind, commandKind, ReaderMode, outside, unheaded, commands}
+use Rattle.format.specs.Rules.{Kind, dataKind, monitorKind, commandKind, ReaderMode, fresh, unheaded, commands}
 use Rattle.format.specs.Steps.{ReaderState, start, Stepped, moved, stopped, stepOf, Summary, summed}
 use Rattle.frame.specs.Repeats.{onward, turnsOf}
 use Rattle.format.proofs.reader.StepLaws.{Going, going-start, going-moved, going-stopped, going-end}
@@ -19,12 +19,12 @@ use Rattle.format.proofs.reader.StepLaws.{Going, going-start, going-moved, goin
 -- two kinds with one first state are one
 start-one : (j k : Kind) → start j ≡ start k → j ≡ k
 start-one dataKind dataKind e = refl
-start-one dataKind monitorKind e = absurd (let f : outside ≡ unheaded = ap (λ (s : ReaderState). s .mode) e in let z : _≡_ {A = ℕ} 0 1 = cc in omega arith)
-start-one dataKind commandKind e = absurd (let f : outside ≡ commands = ap (λ (s : ReaderState). s .mode) e in let z : _≡_ {A = ℕ} 0 1 = cc in omega arith)
-start-one monitorKind dataKind e = absurd (let f : unheaded ≡ outside = ap (λ (s : ReaderState). s .mode) e in let z : _≡_ {A = ℕ} 0 1 = cc in omega arith)
+start-one dataKind monitorKind e = absurd (let f : fresh ≡ unheaded = ap (λ (s : ReaderState). s .mode) e in let z : _≡_ {A = ℕ} 0 1 = cc in omega arith)
+start-one dataKind commandKind e = absurd (let f : fresh ≡ commands = ap (λ (s : ReaderState). s .mode) e in let z : _≡_ {A = ℕ} 0 1 = cc in omega arith)
+start-one monitorKind dataKind e = absurd (let f : unheaded ≡ fresh = ap (λ (s : ReaderState). s .mode) e in let z : _≡_ {A = ℕ} 0 1 = cc in omega arith)
 start-one monitorKind monitorKind e = refl
 start-one monitorKind commandKind e = absurd (let f : unheaded ≡ commands = ap (λ (s : ReaderState). s .mode) e in let z : _≡_ {A = ℕ} 0 1 = cc in omega arith)
-start-one commandKind dataKind e = absurd (let f : commands ≡ outside = ap (λ (s : ReaderState). s .mode) e in let z : _≡_ {A = ℕ} 0 1 = cc in omega arith)
+start-one commandKind dataKind e = absurd (let f : commands ≡ fresh = ap (λ (s : ReaderState). s .mode) e in let z : _≡_ {A = ℕ} 0 1 = cc in omega arith)
 start-one commandKind monitorKind e = absurd (let f : commands ≡ unheaded = ap (λ (s : ReaderState). s .mode) e in let z : _≡_ {A = ℕ} 0 1 = cc in omega arith)
 start-one commandKind commandKind e = refl
 

@@ -9,18 +9,18 @@ use lib.ListN.{length, take, drop, length-take}
 use lib.Dec.{leb, eqb}
 use borrow.Author.Tests.{eqb-true, eqb-false, le-leb, lt-ltb}
 use Rattle.format.proofs.book.PrefixLaws.{and-left, and-right, and-both}
-use Rattle.format.proofs.items.WordLaws.{below-drop, below-take}
+use Rattle.format.proofs.items.WordLaws.{below-drop, below-take, long-fits}
 use Rattle.format.proofs.items.TextLaws.{bytes-are}
 use Rattle.format.proofs.items.PartLaws.{payload-bytes}
 use Rattle.format.specs.Words.{Bytes, words, bytes, wordAt, longAt, timeAt, nonZero, allZero}
-use Rattle.format.specs.Book.{Class, channel, histogram, hitCount, sample, bin, lastCell, timeBin, dataFrame, monitorFrame, commandFrame, text, startEvent, endEvent, frameEnd, unassigned, classOf, after, assigned, textWords}
-use Rattle.format.specs.Items.{Item, Channel, Histogram, HitCount, Sample, Bin, LastCell, TimeBin, Text, StartEvent, EndEvent, inRange, closed, decode, Token, whole, broken, flawed, tokenFor}
-use Rattle.format.specs.Rules.{ReaderMode, outside, inside, afterChannel, afterTime, afterSample, unheaded, headed, commands, allowed, among, bad}
-use Rattle.format.specs.Steps.{ReaderState, placeBy, checkBy, Stepped, stopped, marked, stepOf}
-use Rattle.format.proofs.reader.TurnLaws.{Stands, step-at, stop-at, alone, no-class, not-there, bin-there, start-there, end-there, end-broken, text-there, text-broken}
+use Rattle.format.specs.Book.{Class, channel, histogram, hitCount, sample, bin, lastCell, timeBin, dataFrame, monitorFrame, commandFrame, text, startEvent, continueEvent, endEvent, frameEnd, unassigned, classOf, after, assigned, textWords}
+use Rattle.format.specs.Items.{Item, Channel, Histogram, HitCount, Sample, Bin, LastCell, TimeBin, Text, StartEvent, ContinueEvent, EndEvent, inRange, closed, decode, Token, whole, broken, flawed, tokenFor}
+use Rattle.format.specs.Rules.{ReaderMode, fresh, outside, inside, afterChannel, afterTime, afterSample, unheaded, headed, commands, allowed, among, bad}
+use Rattle.format.specs.Steps.{ReaderState, placeBy, marksEnd, checkBy, Stepped, stopped, marked, stepOf}
+use Rattle.format.proofs.reader.TurnLaws.{Stands, step-at, stop-at, alone, no-class, not-there, bin-there, start-there, continue-there, continue-broken, end-there, end-broken, text-there, text-broken}
 use Rattle.cursor.specs.Promises.{TextClosed}
 use Rattle.cursor.proofs.TextLoops.{closed-there}
-use Rattle.rules.specs.Views.{tested, endTested, textTested}
+use Rattle.rules.specs.Views.{tested, continueTested, endTested, textTested}
 use Rattle.book.specs.Fields.{channelOf, histogramOf, hitsOf, cellOf, channelItem, histogramItem, hitsItem, sampleItem, cellItem, timeItem}
 use Rattle.book.specs.declared.items.Channel as ch
 use Rattle.book.specs.declared.items.Histogram as hi
@@ -86,6 +86,7 @@ module _ (card : ℕ) (s : List ℕ) (last at w : ℕ) (st : ReaderState) (e : w
       no unheaded = refl
       no headed = refl
       no commands = refl
+      no fresh = refl
 
   pub monitor-step : monitorFrame ≡ classOf w → stopped 8 ≡ stepOf card s last at st
   unfolding decode
@@ -100,6 +101,7 @@ module _ (card : ℕ) (s : List ℕ) (last at w : ℕ) (st : ReaderState) (e : w
       no unheaded = refl
       no headed = refl
       no commands = refl
+      no fresh = refl
 
   pub command-step : commandFrame ≡ classOf w → stopped 8 ≡ stepOf card s last at st
   unfolding decode
@@ -114,6 +116,7 @@ module _ (card : ℕ) (s : List ℕ) (last at w : ℕ) (st : ReaderState) (e : w
       no unheaded = refl
       no headed = refl
       no commands = refl
+      no fresh = refl
 
   pub end-step : frameEnd ≡ classOf w → stopped 8 ≡ stepOf card s last at st
   unfolding decode
@@ -128,6 +131,7 @@ module _ (card : ℕ) (s : List ℕ) (last at w : ℕ) (st : ReaderState) (e : w
       no unheaded = refl
       no headed = refl
       no commands = refl
+      no fresh = refl
 
   pub unassigned-step : unassigned ≡ classOf w → stopped 6 ≡ stepOf card s last at st
   unfolding checkBy
@@ -157,14 +161,40 @@ module _ (card : ℕ) (s : List ℕ) (last at w : ℕ) (st : ReaderState) (e : w
         q ∙ ap (λ (t : ℕ). marked (at + 6) (checkBy card at st (whole (StartEvent t ts n)))) (f ∙ ap (λ (v : ℕ). v % 16) e)
         ∙ step-at card s last at st (whole (StartEvent (wordAt s at % 16) ts n)) (at + 6) (start-there s last at wide ts n (k ∙ ap classOf e) l g h)
 
+    continue-good : (n : ℕ) → n < 4294967296
+        → marked (at + 3) (tested (placeBy st continueEvent) true true (record { mode = inside; key = st .key; next = st .next; marks = st .marks }))
+        ≡ marked (at + 3) (checkBy card at st (whole (ContinueEvent n)))
+    unfolding checkBy
+    continue-good n b = rw (lt-ltb n 4294967296 b)
+
+    continue-bad : marked (at + 3) (tested (placeBy st continueEvent) false true (record { mode = inside; key = st .key; next = st .next; marks = st .marks }))
+        ≡ marked (at + 3) (checkBy card at st (broken continueEvent))
+    unfolding checkBy
+    continue-bad = refl
+
+    pub continue-event-step : (r : Stepped) (low : ℕ) → Bytes s → continueEvent ≡ classOf w → at + 3 ≤ last → low ≡ w % 512
+        → r ≡ marked (at + 3) (continueTested st low) → r ≡ stepOf card s last at st
+    unfolding continueTested
+    continue-event-step r low y k l f q = go (eqb low 0) refl
+      where
+        go : (t : Bool) → eqb low 0 ≡ t → r ≡ stepOf card s last at st
+        go true z =
+            q ∙ (rw z (continue-good (longAt s (at + 1)) (long-fits s y (at + 1))))
+            ∙ step-at card s last at st (whole (ContinueEvent (longAt s (at + 1)))) (at + 3)
+            (continue-there s last at wide (longAt s (at + 1)) (k ∙ ap classOf e) l (ap (λ (v : ℕ). v % 512) (sym e) ∙ sym f ∙ eqb-true low 0 z) refl)
+        go false z =
+            q ∙ (rw z continue-bad)
+            ∙ step-at card s last at st (broken continueEvent) (at + 3)
+            (continue-broken s last at wide (k ∙ ap classOf e) l (λ i. eqb-false low 0 z (f ∙ ap (λ (v : ℕ). v % 512) e ∙ i)))
+
     end-good : (size : ℕ) → size < 4294967296
-        → marked (at + 3) (tested (placeBy st endEvent) (true && eqb size (2 * (at - st .opener) + 6)) true (record { mode = outside; key = st .key; next = st .next; opener = st .opener }))
+        → marked (at + 3) (tested (placeBy st endEvent) (true && (eqb (st .marks .opener) 0 || eqb size (2 * (at - st .marks .opener) + 6))) true (record { mode = outside; key = st .key; next = st .next; marks = marksEnd at (st .marks) }))
         ≡ marked (at + 3) (checkBy card at st (whole (EndEvent size)))
     unfolding checkBy
     end-good size b = rw (lt-ltb size 4294967296 b)
 
     end-bad : (size : ℕ)
-        → marked (at + 3) (tested (placeBy st endEvent) (false && eqb size (2 * (at - st .opener) + 6)) true (record { mode = outside; key = st .key; next = st .next; opener = st .opener }))
+        → marked (at + 3) (tested (placeBy st endEvent) (false && (eqb (st .marks .opener) 0 || eqb size (2 * (at - st .marks .opener) + 6))) true (record { mode = outside; key = st .key; next = st .next; marks = marksEnd at (st .marks) }))
         ≡ marked (at + 3) (checkBy card at st (broken endEvent))
     unfolding checkBy
     end-bad size = refl
@@ -194,12 +224,12 @@ module _ (card : ℕ) (s : List ℕ) (last at w : ℕ) (st : ReaderState) (e : w
         (bytes-are (take (n - 1) b) (below-take (n - 1) b 256 (omega arith) y))) refl
 
     text-good : (next : ℕ) (x : List ℕ) → inRange card (Text x) && true ≡ true
-        → marked next (tested (placeBy st text) true true (record { mode = commands; key = 0; next = 0; opener = st .opener })) ≡ marked next (checkBy card at st (whole (Text x)))
+        → marked next (tested (placeBy st text) true true (record { mode = commands; key = 0; next = 0; marks = st .marks })) ≡ marked next (checkBy card at st (whole (Text x)))
     unfolding checkBy
     text-good next x i = rw i
 
     text-bad : (next : ℕ)
-        → marked next (tested (placeBy st text) false true (record { mode = commands; key = 0; next = 0; opener = st .opener })) ≡ marked next (checkBy card at st (broken text))
+        → marked next (tested (placeBy st text) false true (record { mode = commands; key = 0; next = 0; marks = st .marks })) ≡ marked next (checkBy card at st (broken text))
     unfolding checkBy
     text-bad next = refl
 

@@ -4,7 +4,7 @@ use Prim.Native.Nat.{ℕ, _+_, _*_, _-_}
 use mathlib.Core.List.{List}
 use lib.ListN.{length}
 use Rattle.format.specs.Answers.{Outcome, accepted, refused}
-use Rattle.format.specs.Items.{ItemOf, Item, Channel, Histogram, HitCount, Sample, Bin, LastCell, TimeBin, Text, StartEvent, EndEvent, wordsOf}
+use Rattle.format.specs.Items.{ItemOf, Item, Channel, Histogram, HitCount, Sample, Bin, LastCell, TimeBin, Text, StartEvent, ContinueEvent, EndEvent, wordsOf}
 use Rattle.format.specs.Questions.{IndexedItem, itemAt}
 
 -- the n of a text as it is answered, 0 for another class
@@ -18,6 +18,7 @@ textCount (LastCell a b) = 0
 textCount (TimeBin t) = 0
 textCount (Text n) = n
 textCount (StartEvent t ts n) = 0
+textCount (ContinueEvent n) = 0
 textCount (EndEvent n) = 0
 
 -- the byte at which the bytes of an item that ends before word `next` begin where it is a text; 0 for another class
@@ -31,6 +32,7 @@ fromIn (LastCell a b) next = 0
 fromIn (TimeBin t) next = 0
 fromIn (Text s) next = 2 * (next - length (wordsOf (Text s))) + 2
 fromIn (StartEvent t ts n) next = 0
+fromIn (ContinueEvent n) next = 0
 fromIn (EndEvent n) next = 0
 
 abbrev pub fromFound : Outcome IndexedItem → ℕ

@@ -6,7 +6,7 @@ use mathlib.Core.List.{List}
 use lib.Dec.{ltb}
 use Rattle.format.specs.Words.{pick}
 use Rattle.format.specs.Rules.{ReaderMode}
-use Rattle.format.specs.Steps.{ReaderState, Stepped, moved, stopped, stepOf}
+use Rattle.format.specs.Steps.{Marks, ReaderState, Stepped, moved, stopped, stepOf}
 
 -- one turn more, where the words are not at their end
 abbrev pub onward : ℕ → List ℕ → ℕ → Stepped → Stepped
@@ -19,13 +19,13 @@ turnsOf card s last zero at st = moved st at
 turnsOf card s last (suc k) at st = onward card s last (turnsOf card s last k at st)
 
 -- k turns lead from a word and a state to another word, and of the state change `next` alone
-abbrev pub Turns : ℕ → List ℕ → ℕ → ℕ → ReaderMode → ℕ → ℕ → ℕ → ℕ → ℕ → ℕ → Type 0
-Turns card s last k mode key next opener at next′ at′ =
-    turnsOf card s last k at (record { mode = mode; key = key; next = next; opener = opener })
-    ≡ moved (record { mode = mode; key = key; next = next′; opener = opener }) at′
+abbrev pub Turns : ℕ → List ℕ → ℕ → ℕ → ReaderMode → ℕ → ℕ → Marks → ℕ → ℕ → ℕ → Type 0
+Turns card s last k mode key next marks at next′ at′ =
+    turnsOf card s last k at (record { mode = mode; key = key; next = next; marks = marks })
+    ≡ moved (record { mode = mode; key = key; next = next′; marks = marks }) at′
 
 -- repeats, at most so many
-pub record Repeated (card : ℕ) (s : List ℕ) (last at : ℕ) (mode : ReaderMode) (key next opener most : ℕ) (at′ count next′ : ℕ) : Type 0 where
-  pub turns : Turns card s last count mode key next opener at next′ at′
+pub record Repeated (card : ℕ) (s : List ℕ) (last at : ℕ) (mode : ReaderMode) (key next : ℕ) (marks : Marks) (most : ℕ) (at′ count next′ : ℕ) : Type 0 where
+  pub turns : Turns card s last count mode key next marks at next′ at′
   pub few : count ≤ most
   pub onwards : at ≤ at′

@@ -65,6 +65,7 @@ fn text_count(item: Item) -> usize
         Item::Text(x) => x.length as usize,
         Item::StartEvent(_) => 0,
         Item::EndEvent(_) => 0,
+        Item::ContinueEvent(_) => 0,
     }
 }
 

@@ -7,6 +7,7 @@ ghost use lib.ListN.{length};
 ghost use lib.Dec.{eqb};
 ghost use mathlib.Core.Bool.{false, _&&_};
 ghost use Rattle.format.specs.Rules.{inside, afterSample, headed};
+ghost use Rattle.format.specs.Steps.{Marks};
 ghost use Rattle.rules.specs.Views.{viewState};
 ghost use Rattle.frame.specs.Repeats.{Turns, Repeated};
 use crate::head::MOST;
@@ -79,7 +80,7 @@ fn two_samples(x: u32) -> bool
 // by division, which the prover's arithmetic takes apart, and not by masks.
 fn past_pairs(s: &[u8], at: usize, stop: usize) -> usize
     requires { ⌜ (at ≤ stop) × (2 * stop ≤ length (now s)) ⌝ }
-    ensures { λ r. ⌜ (at ≤ r) × (r ≤ stop) × ((card last key next opener : ℕ) → stop ≤ last → (at < stop → next + (stop - at) ≤ 512) → Turns card (now (s .entry)) last (r - at) afterSample key next opener at (next + (r - at)) r) ⌝ }
+    ensures { λ r. ⌜ (at ≤ r) × (r ≤ stop) × ((card last key next : ℕ) (marks : Marks) → stop ≤ last → (at < stop → next + (stop - at) ≤ 512) → Turns card (now (s .entry)) last (r - at) afterSample key next marks at (next + (r - at)) r) ⌝ }
 {
     let mut i = at;
     while i + 1 < stop {
@@ -97,7 +98,7 @@ fn past_pairs(s: &[u8], at: usize, stop: usize) -> usize
 // Behind the Samples from here on: pairs, and one more.
 fn past_samples(s: &[u8], at: usize, stop: usize) -> usize
     requires { ⌜ (at ≤ stop) × (2 * stop ≤ length (now s)) ⌝ }
-    ensures { λ r. ⌜ (at ≤ r) × (r ≤ stop) × ((card last key next opener : ℕ) → stop ≤ last → (at < stop → next + (stop - at) ≤ 512) → Turns card (now (s .entry)) last (r - at) afterSample key next opener at (next + (r - at)) r) ⌝ }
+    ensures { λ r. ⌜ (at ≤ r) × (r ≤ stop) × ((card last key next : ℕ) (marks : Marks) → stop ≤ last → (at < stop → next + (stop - at) ≤ 512) → Turns card (now (s .entry)) last (r - at) afterSample key next marks at (next + (r - at)) r) ⌝ }
 {
     let end = past_pairs(s, at, stop);
     if stop <= end {
@@ -116,7 +117,7 @@ fn past_samples(s: &[u8], at: usize, stop: usize) -> usize
 // Behind the Hit counts from here on that are right in a frame of the card.
 fn past_hits(s: &[u8], at: usize, stop: usize, card: u16) -> usize
     requires { ⌜ (at ≤ stop) × (2 * stop ≤ length (now s)) ⌝ }
-    ensures { λ r. ⌜ (at ≤ r) × (r ≤ stop) × ((last key next opener : ℕ) → stop ≤ last → Turns card (now (s .entry)) last (r - at) inside key next opener at next r) ⌝ }
+    ensures { λ r. ⌜ (at ≤ r) × (r ≤ stop) × ((last key next : ℕ) (marks : Marks) → stop ≤ last → Turns card (now (s .entry)) last (r - at) inside key next marks at next r) ⌝ }
 {
     let mut i = at;
     while i < stop {
@@ -149,7 +150,7 @@ struct Binned {
 // whole Bins before `stop`.
 fn past_bins(s: &[u8], at: usize, stop: usize, past: u64) -> Binned
     requires { ⌜ (at ≤ stop) × ((stop - at) % 3 ≡ 0) × (2 * stop ≤ length (now s)) × (8191 ≤ past) ⌝ }
-    ensures { λ r. ⌜ (at ≤ r .at) × (r .at ≤ stop) × (8191 ≤ r .word) × (r .word ≤ max past 12287) × ((card last key opener : ℕ) → stop ≤ last → 2 * last ≤ length (now (s .entry)) → Turns card (now (s .entry)) last ((r .at - at) / 3) headed key (past - 8191) opener at (r .word - 8191) (r .at)) ⌝ }
+    ensures { λ r. ⌜ (at ≤ r .at) × (r .at ≤ stop) × (8191 ≤ r .word) × (r .word ≤ max past 12287) × ((card last key : ℕ) (marks : Marks) → stop ≤ last → 2 * last ≤ length (now (s .entry)) → Turns card (now (s .entry)) last ((r .at - at) / 3) headed key (past - 8191) marks at (r .word - 8191) (r .at)) ⌝ }
 {
     let mut i = at;
     let mut latest = past;
@@ -184,7 +185,7 @@ fn past_bins(s: &[u8], at: usize, stop: usize, past: u64) -> Binned
 
 fn repeated_samples(s: &[u8], last: usize, at: usize, next: u32, most: usize) -> Repeats
     requires { ⌜ (at ≤ last) × (2 * last ≤ length (now s)) ⌝ }
-    ensures { λ r. ⌜ ((card key opener : ℕ) → Repeated card (now (s .entry)) last at afterSample key next opener most (r .at) (r .count) (r .next)) ⌝ }
+    ensures { λ r. ⌜ ((card key : ℕ) (marks : Marks) → Repeated card (now (s .entry)) last at afterSample key next marks most (r .at) (r .count) (r .next)) ⌝ }
 {
     let room = least(last - at, least(times_left(next), most));
     let end = past_samples(s, at, at + room);
@@ -199,7 +200,7 @@ fn repeated_samples(s: &[u8], last: usize, at: usize, next: u32, most: usize) ->
 
 fn repeated_hits(s: &[u8], last: usize, card: u16, at: usize, next: u32, most: usize) -> Repeats
     requires { ⌜ (at ≤ last) × (2 * last ≤ length (now s)) ⌝ }
-    ensures { λ r. ⌜ ((key opener : ℕ) → Repeated card (now (s .entry)) last at inside key next opener most (r .at) (r .count) (r .next)) ⌝ }
+    ensures { λ r. ⌜ ((key : ℕ) (marks : Marks) → Repeated card (now (s .entry)) last at inside key next marks most (r .at) (r .count) (r .next)) ⌝ }
 {
     let room = least(last - at, most);
     let end = past_hits(s, at, at + room, card);
@@ -213,7 +214,7 @@ fn repeated_hits(s: &[u8], last: usize, card: u16, at: usize, next: u32, most: u
 
 fn repeated_bins(s: &[u8], last: usize, at: usize, next: u32, most: usize) -> Repeats
     requires { ⌜ (at ≤ last) × (2 * last ≤ length (now s)) ⌝ }
-    ensures { λ r. ⌜ ((card key opener : ℕ) → Repeated card (now (s .entry)) last at headed key next opener most (r .at) (r .count) (r .next)) ⌝ }
+    ensures { λ r. ⌜ ((card key : ℕ) (marks : Marks) → Repeated card (now (s .entry)) last at headed key next marks most (r .at) (r .count) (r .next)) ⌝ }
 {
     let room = least((last - at) / BIN_WORDS, most);
     let past = BEFORE_BINS + next as u64;
@@ -237,7 +238,7 @@ pub(crate) fn repeats_at(
     most: usize,
 ) -> Repeats
     requires { ⌜ (at ≤ last) × (2 * last ≤ length (now s)) ⌝ }
-    ensures { λ r. ⌜ Repeated card (now (s .entry)) last at (viewState st .mode) (st .key) (st .next) (st .opener) most (r .at) (r .count) (r .next) ⌝ }
+    ensures { λ r. ⌜ Repeated card (now (s .entry)) last at (viewState st .mode) (st .key) (st .next) (viewState st .marks) most (r .at) (r .count) (r .next) ⌝ }
 {
     let mode = st.mode;
     let none = Repeats {
@@ -254,5 +255,6 @@ pub(crate) fn repeats_at(
         Mode::Outside => none,
         Mode::Unheaded => none,
         Mode::Commands => none,
+        Mode::Fresh => none,
     }
 }

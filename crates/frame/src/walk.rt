@@ -18,6 +18,7 @@ use book::class::classify;
 use book::class::text_words;
 use book::items::Bin;
 use book::items::Channel;
+use book::items::ContinueEvent;
 use book::items::EndEvent;
 use book::items::Histogram;
 use book::items::HitCount;
@@ -32,6 +33,7 @@ use rules::state::State;
 use rules::steps::Step;
 use rules::steps::bin;
 use rules::steps::channel;
+use rules::steps::continue_event;
 use rules::steps::end_event;
 use rules::steps::histogram;
 use rules::steps::hit_count;
@@ -73,6 +75,17 @@ fn start_at(s: &[u8], last: usize, at: usize, w: u16, st: State) -> Step
         number,
     };
     start_event(at, st, x, at + 6)
+}
+
+// A Continue event's number in the two words after its word; no rule of the frame looks at it.
+fn continue_at(s: &[u8], last: usize, at: usize, w: u16, st: State) -> Step
+    requires { ⌜ (at < last) × (2 * last ≤ length (now s)) × (w ≡ wordAt (now s) at) × (book.continueEvent ≡ book.classOf w) ⌝ }
+    ensures { λ r. ⌜ ((card : ℕ) → viewStep r ≡ stepOf card (now (s .entry)) last at (viewState st)) ⌝ }
+{
+    if last < at + 3 {
+        return Step::Stopped(Refusal::CUT);
+    }
+    continue_event(st, ContinueEvent::low_bits(w), at + 3)
 }
 
 // An End event's size in the two words after its word.
@@ -126,6 +139,7 @@ fn step(s: &[u8], last: usize, at: usize, card: u16, st: State) -> Step
         Class::EndEvent => end_at(s, last, at, w, st),
         Class::FrameEnd => Step::Stopped(Refusal::PLACE),
         Class::Unassigned => Step::Stopped(Refusal::CLASS),
+        Class::ContinueEvent => continue_at(s, last, at, w, st),
     }
 }
 
@@ -169,11 +183,12 @@ pub(crate) fn walk(s: &[u8], last: usize, kind: Kind, card: u16, n: usize) -> Wa
                 count += 1;
                 let run = repeats_at(s, last, card, next, after, ahead(count, n));
                 let mode = after.mode;
+                let marks = after.marks;
                 st = State {
                     mode,
                     key: after.key,
                     next: run.next,
-                    opener: after.opener,
+                    marks,
                 };
                 at = run.at;
                 count += run.count;

@@ -4,7 +4,7 @@
 use Prim.Native.Nat.{ℕ}
 use mathlib.Core.Path.{_≡_}
 use mathlib.Core.Bool.{Bool}
-use Rattle.format.specs.Book.{channel, histogram, sample, bin, timeBin, text, startEvent}
+use Rattle.format.specs.Book.{channel, histogram, sample, bin, timeBin, text, startEvent, continueEvent}
 use Rattle.format.specs.Items.{whole}
 use Rattle.format.specs.Rules.{allowed, among}
 use Rattle.format.specs.Steps as steps
@@ -24,8 +24,8 @@ use Rattle.rules.specs.declared.state.Kind.{Kind}
 use Rattle.rules.specs.declared.state.Mode.{Mode}
 use Rattle.rules.specs.declared.state.State.{State}
 use Rattle.rules.specs.declared.steps.Step.{Step}
-use Rattle.rules.specs.Views.{viewKind, viewMode, viewState, viewStep, endTested, textTested}
-use Rattle.rules.specs.Promises.{Started, MayEnd, MayStart, MayStandInside, MayTime, MaySample, MayHistogram, MayBin, MayText, PausedFrom, ChannelStep, HistogramStep, HitCountStep, LastCellStep, TimeBinStep, SampleStep, BinStep, StartEventStep, EndEventStep, TextStep}
+use Rattle.rules.specs.Views.{viewKind, viewMode, viewState, viewStep, continueTested, endTested, textTested}
+use Rattle.rules.specs.Promises.{Started, MayEnd, MayStart, MayContinue, MayStandInside, MayTime, MaySample, MayHistogram, MayBin, MayText, PausedFrom, ChannelStep, HistogramStep, HitCountStep, LastCellStep, TimeBinStep, SampleStep, BinStep, StartEventStep, ContinueEventStep, EndEventStep, TextStep}
 use Rattle.rules.proofs.Unique.{same-state, same-step}
 
 -- ---- the state, and what may stand where
@@ -38,6 +38,9 @@ may-end-once mode = equal-once (endedBy (viewMode mode))
 
 pub may-start-once : (mode : Mode) (r q : Bool) → MayStart mode r → MayStart mode q → r ≡ q
 may-start-once mode = equal-once (among startEvent (allowed (viewMode mode)))
+
+pub may-continue-once : (mode : Mode) (r q : Bool) → MayContinue mode r → MayContinue mode q → r ≡ q
+may-continue-once mode = equal-once (among continueEvent (allowed (viewMode mode)))
 
 pub may-stand-inside-once : (mode : Mode) (r q : Bool) → MayStandInside mode r → MayStandInside mode q → r ≡ q
 may-stand-inside-once mode = equal-once (among channel (allowed (viewMode mode)))
@@ -85,6 +88,9 @@ bin-once st x next = one viewStep same-step (marked next (checkBy 0 0 (viewState
 
 pub start-event-once : (at : ℕ) (st : State) (x : StartEvent) (next : ℕ) (r q : Step) → StartEventStep at st x next r → StartEventStep at st x next q → r ≡ q
 start-event-once at st x next = one viewStep same-step (marked next (checkBy 0 at (viewState st) (whole (startItem x))))
+
+pub continue-event-once : (st : State) (low next : ℕ) (r q : Step) → ContinueEventStep st low next r → ContinueEventStep st low next q → r ≡ q
+continue-event-once st low next = one viewStep same-step (marked next (continueTested (viewState st) low))
 
 pub end-event-once : (at : ℕ) (st : State) (x : EndEvent) (low next : ℕ) (r q : Step) → EndEventStep at st x low next r → EndEventStep at st x low next q → r ≡ q
 end-event-once at st x low next = one viewStep same-step (marked next (endTested at (viewState st) (x .size) low))

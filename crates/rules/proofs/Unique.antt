@@ -2,12 +2,14 @@
 -- Assumes nothing.
 use mathlib.Core.Path.{_≡_, refl, ap}
 use Rattle.format.specs.Rules as rules
+use Rattle.format.specs.Steps as steps
 use Rattle.format.specs.Steps.{ReaderState, Stepped, moved, stopped}
 use Rattle.book.proofs.Unique.{undone}
 use Rattle.rules.specs.declared.state.Kind.{Kind}
 use Rattle.rules.specs.declared.state.Kind.the-variants as kind
 use Rattle.rules.specs.declared.state.Mode.{Mode}
 use Rattle.rules.specs.declared.state.Mode.the-variants as mode
+use Rattle.rules.specs.declared.state.Marks.{Marks}
 use Rattle.rules.specs.declared.state.State.{State}
 use Rattle.rules.specs.declared.steps.Step.{Step}
 use Rattle.rules.specs.declared.steps.Step.the-variants as step
@@ -35,6 +37,7 @@ modeBack rules.afterSample = mode.AfterSample
 modeBack rules.unheaded = mode.Unheaded
 modeBack rules.headed = mode.Headed
 modeBack rules.commands = mode.Commands
+modeBack rules.fresh = mode.Fresh
 
 mode-back : (r : Mode) → modeBack (viewMode r) ≡ r
 mode-back mode.Outside = refl
@@ -45,15 +48,19 @@ mode-back mode.AfterSample = refl
 mode-back mode.Unheaded = refl
 mode-back mode.Headed = refl
 mode-back mode.Commands = refl
+mode-back mode.Fresh = refl
 
 pub same-mode : (r q : Mode) → viewMode r ≡ viewMode q → r ≡ q
 same-mode = undone viewMode modeBack mode-back
 
+abbrev marksBack : steps.Marks → Marks
+marksBack m = record { opener = m .opener; first = m .first; lead = m .lead }
+
 abbrev pub stateBack : ReaderState → State
-stateBack st = record { mode = modeBack (st .mode); key = st .key; next = st .next; opener = st .opener }
+stateBack st = record { mode = modeBack (st .mode); key = st .key; next = st .next; marks = marksBack (st .marks) }
 
 pub state-back : (r : State) → stateBack (viewState r) ≡ r
-state-back r = λ i. record { mode = mode-back (r .mode) i; key = r .key; next = r .next; opener = r .opener }
+state-back r = λ i. record { mode = mode-back (r .mode) i; key = r .key; next = r .next; marks = r .marks }
 
 pub same-state : (r q : State) → viewState r ≡ viewState q → r ≡ q
 same-state = undone viewState stateBack state-back

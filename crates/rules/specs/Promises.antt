@@ -3,7 +3,7 @@
 use Prim.Native.Nat.{ℕ}
 use mathlib.Core.Path.{_≡_}
 use mathlib.Core.Bool.{Bool}
-use Rattle.format.specs.Book.{channel, histogram, sample, bin, timeBin, text, startEvent}
+use Rattle.format.specs.Book.{channel, histogram, sample, bin, timeBin, text, startEvent, continueEvent}
 use Rattle.format.specs.Items.{whole}
 use Rattle.format.specs.Rules.{allowed, among}
 use Rattle.format.specs.Steps as steps
@@ -22,7 +22,7 @@ use Rattle.rules.specs.declared.state.Kind.{Kind}
 use Rattle.rules.specs.declared.state.Mode.{Mode}
 use Rattle.rules.specs.declared.state.State.{State}
 use Rattle.rules.specs.declared.steps.Step.{Step}
-use Rattle.rules.specs.Views.{viewKind, viewMode, viewState, viewStep, endTested, textTested}
+use Rattle.rules.specs.Views.{viewKind, viewMode, viewState, viewStep, continueTested, endTested, textTested}
 
 -- ---- the state, and what may stand where
 
@@ -34,6 +34,9 @@ MayEnd mode r = r ≡ endedBy (viewMode mode)
 
 abbrev pub MayStart : Mode → Bool → Type 0
 MayStart mode r = r ≡ among startEvent (allowed (viewMode mode))
+
+abbrev pub MayContinue : Mode → Bool → Type 0
+MayContinue mode r = r ≡ among continueEvent (allowed (viewMode mode))
 
 abbrev pub MayStandInside : Mode → Bool → Type 0
 MayStandInside mode r = r ≡ among channel (allowed (viewMode mode))
@@ -82,6 +85,9 @@ BinStep st x next r = viewStep r ≡ marked next (checkBy 0 0 (viewState st) (wh
 
 abbrev pub StartEventStep : ℕ → State → StartEvent → ℕ → Step → Type 0
 StartEventStep at st x next r = viewStep r ≡ marked next (checkBy 0 at (viewState st) (whole (startItem x)))
+
+abbrev pub ContinueEventStep : State → ℕ → ℕ → Step → Type 0
+ContinueEventStep st low next r = viewStep r ≡ marked next (continueTested (viewState st) low)
 
 abbrev pub EndEventStep : ℕ → State → EndEvent → ℕ → ℕ → Step → Type 0
 EndEventStep at st x low next r = viewStep r ≡ marked next (endTested at (viewState st) (x .size) low)

@@ -1,5 +1,5 @@
 // What a reader has to remember of the items behind it; a state goes in by value and comes back.
-ghost use Rattle.rules.specs.Promises.{Started, MayEnd, MayStart, MayStandInside, MayTime, MaySample, MayHistogram, MayBin, MayText, PausedFrom};
+ghost use Rattle.rules.specs.Promises.{Started, MayEnd, MayStart, MayContinue, MayStandInside, MayTime, MaySample, MayHistogram, MayBin, MayText, PausedFrom};
 
 pub enum Kind {
     Data,
@@ -18,6 +18,17 @@ pub enum Mode {
     Unheaded,
     Headed,
     Commands,
+    Fresh,
+}
+
+// Where events begin and end. The leading part is that of an event that began in another frame: a Continue event opens it.
+pub struct Marks {
+    // The word index of the open event's Start event; 0 where no event that began in this frame is open.
+    pub opener: usize,
+    // One more than the key of the leading part's first Channel header; 0 where it has none.
+    pub first: u32,
+    // The word index of the leading part's End event; 0 where it has none.
+    pub lead: usize,
 }
 
 pub struct State {
@@ -26,8 +37,7 @@ pub struct State {
     pub key: u32,
     // The time that a sample would have, or the least number that a bin may have.
     pub next: u32,
-    // The word index of the latest Start event.
-    pub opener: usize,
+    pub marks: Marks,
 }
 
 impl State {
@@ -35,24 +45,29 @@ impl State {
     pub fn start(kind: Kind) -> State
         ensures { λ r. ⌜ Started kind r ⌝ }
     {
+        let marks = Marks {
+            opener: 0,
+            first: 0,
+            lead: 0,
+        };
         match kind {
             Kind::Data => State {
-                mode: Mode::Outside,
+                mode: Mode::Fresh,
                 key: 0,
                 next: 0,
-                opener: 3,
+                marks,
             },
             Kind::Monitor => State {
                 mode: Mode::Unheaded,
                 key: 0,
                 next: 0,
-                opener: 3,
+                marks,
             },
             Kind::Command => State {
                 mode: Mode::Commands,
                 key: 0,
                 next: 0,
-                opener: 3,
+                marks,
             },
         }
     }
@@ -60,19 +75,20 @@ impl State {
 
 // In the tests below every place has an arm of its own: an arm for several, or `_`, tells a proof only which tags are meant.
 
-// The items may end here: no event is open.
+// The items may end here: not after Channel or Time bin.
 pub fn may_end(mode: Mode) -> bool
     ensures { λ r. ⌜ MayEnd mode r ⌝ }
 {
     match mode {
         Mode::Outside => true,
-        Mode::Inside => false,
+        Mode::Inside => true,
         Mode::AfterChannel => false,
         Mode::AfterTime => false,
-        Mode::AfterSample => false,
+        Mode::AfterSample => true,
         Mode::Unheaded => true,
         Mode::Headed => true,
         Mode::Commands => true,
+        Mode::Fresh => true,
     }
 }
 
@@ -88,6 +104,24 @@ pub fn may_start(mode: Mode) -> bool
         Mode::Unheaded => false,
         Mode::Headed => false,
         Mode::Commands => false,
+        Mode::Fresh => true,
+    }
+}
+
+// A Continue event is the first item of a data frame.
+pub fn may_continue(mode: Mode) -> bool
+    ensures { λ r. ⌜ MayContinue mode r ⌝ }
+{
+    match mode {
+        Mode::Outside => false,
+        Mode::Inside => false,
+        Mode::AfterChannel => false,
+        Mode::AfterTime => false,
+        Mode::AfterSample => false,
+        Mode::Unheaded => false,
+        Mode::Headed => false,
+        Mode::Commands => false,
+        Mode::Fresh => true,
     }
 }
 
@@ -104,6 +138,7 @@ pub fn may_stand_inside(mode: Mode) -> bool
         Mode::Unheaded => false,
         Mode::Headed => false,
         Mode::Commands => false,
+        Mode::Fresh => false,
     }
 }
 
@@ -119,6 +154,7 @@ pub fn may_time(mode: Mode) -> bool
         Mode::Unheaded => false,
         Mode::Headed => false,
         Mode::Commands => false,
+        Mode::Fresh => false,
     }
 }
 
@@ -134,6 +170,7 @@ pub fn may_sample(mode: Mode) -> bool
         Mode::Unheaded => false,
         Mode::Headed => false,
         Mode::Commands => false,
+        Mode::Fresh => false,
     }
 }
 
@@ -149,6 +186,7 @@ pub fn may_histogram(mode: Mode) -> bool
         Mode::Unheaded => true,
         Mode::Headed => true,
         Mode::Commands => false,
+        Mode::Fresh => false,
     }
 }
 
@@ -164,6 +202,7 @@ pub fn may_bin(mode: Mode) -> bool
         Mode::Unheaded => false,
         Mode::Headed => true,
         Mode::Commands => false,
+        Mode::Fresh => false,
     }
 }
 
@@ -179,6 +218,7 @@ pub fn may_text(mode: Mode) -> bool
         Mode::Unheaded => false,
         Mode::Headed => false,
         Mode::Commands => true,
+        Mode::Fresh => false,
     }
 }
 
@@ -195,5 +235,6 @@ pub fn paused(mode: Mode, next: u32, time: u32) -> bool
         Mode::Unheaded => true,
         Mode::Headed => true,
         Mode::Commands => true,
+        Mode::Fresh => true,
     }
 }

@@ -32,8 +32,12 @@ returns-8 : tie.Need-returns-8
 returns-8 c = entry _ 13 (lit< tt) (omega (arith, c .if8 .taken))
 
 returns-9 : tie.Need-returns-9
-returns-9 c =
-    let c7 = c .before in
+returns-9 c = entry _ 14 (lit< tt) (c .if9 .taken)
+
+returns-10 : tie.Need-returns-10
+returns-10 c =
+    let c8 = c .before in
+    let c7 = c8 .before in
     let c6 = c7 .before in
     let c5 = c6 .before in
     let c4 = c5 .before in
@@ -41,7 +45,7 @@ returns-9 c =
     let c2 = c3 .before in
     let c1 = c2 .before in
     let low : c1 .before .args .w < 0x1800 = c1 .before .pre in
-    no-entry _ ((λ e. omega arith), ((λ e. omega arith), ((λ e. omega arith), ((λ e. omega arith), ((λ e. omega arith), ((λ e. omega arith), (c1 .if1 .left, (c2 .if2 .left, (c3 .if3 .left, (c4 .if4 .left, (c5 .if5 .left, (c6 .if6 .left, (c7 .if7 .left, ((λ e. c .if8 .left (omega arith)), tt))))))))))))))
+    no-entry _ ((λ e. omega arith), ((λ e. omega arith), ((λ e. omega arith), ((λ e. omega arith), ((λ e. omega arith), ((λ e. omega arith), (c1 .if1 .left, (c2 .if2 .left, (c3 .if3 .left, (c4 .if4 .left, (c5 .if5 .left, (c6 .if6 .left, (c7 .if7 .left, ((λ e. c8 .if8 .left (omega arith)), (c .if9 .left, tt)))))))))))))))
 
 pub classify-long-spec : {M : Type 1} → statement M
-classify-long-spec = tie.close (tie.spec returns returns-2 returns-3 returns-4 returns-5 returns-6 returns-7 returns-8 returns-9)
+classify-long-spec = tie.close (tie.spec returns returns-2 returns-3 returns-4 returns-5 returns-6 returns-7 returns-8 returns-9 returns-10)

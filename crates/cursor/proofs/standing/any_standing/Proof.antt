@@ -139,6 +139,15 @@ enum-told-14 c = search needs
 enum-told-15 : tie.Need-enum-told-15
 enum-told-15 c = search needs
 
+enum-told-16 : tie.Need-enum-told-16
+enum-told-16 c = search needs
+
+continue-standing-requires : tie.Need-continue-standing-requires
+continue-standing-requires c κs =
+    let k = c .before .before in
+    let p = k .before .before .pre in
+    (p .0, p .1, p .2, p .3, class-is k _ (c .enum-told16 .given .1))
+
 returns : tie.Need-returns
 returns c =
     let k = c .before .before .before .before in
@@ -217,6 +226,9 @@ returns-15 c =
     let p = k .before .before .pre in
     unassigned-shown _ _ _ _ (p .0) (p .1) (p .2) (p .3) (class-is k _ (c .enum-told15 .given .1))
 
+returns-16 : tie.Need-returns-16
+returns-16 c = search needs
+
 pub any-standing-spec : {M : Type 1} → statement M
 any-standing-spec =
     tie.close
@@ -259,6 +271,8 @@ any-standing-spec =
     end-standing-requires
     enum-told-14
     enum-told-15
+    enum-told-16
+    continue-standing-requires
     returns
     returns-2
     returns-3
@@ -273,4 +287,5 @@ any-standing-spec =
     returns-12
     returns-13
     returns-14
-    returns-15)
+    returns-15
+    returns-16)

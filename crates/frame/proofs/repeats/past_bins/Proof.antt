@@ -6,6 +6,7 @@ use native.Mathlib.Omega.{arith}
 use lib.ListN.{length}
 use borrow.Author.Needs.{needs}
 use Rattle.format.specs.Rules.{headed}
+use Rattle.format.specs.Steps.{Marks}
 use Rattle.frame.specs.Repeats.{Turns}
 use Rattle.frame.proofs.Repeating.{bin-past, bin-left, none-from, bin-more}
 use Rattle.frame.proofs.repeats.past_bins.Statement.{statement}
@@ -14,13 +15,13 @@ use Rattle.frame.proofs.repeats.past_bins.Tie as tie
 abbrev Inv-loop : tie.InvT-loop
 Inv-loop s at stop past i₀ latest₀ i latest =
     (at ≤ i) × (i ≤ stop) × ((i - at) % 3 ≡ 0) × ((stop - i) % 3 ≡ 0) × (2 * stop ≤ length s) × (8191 ≤ latest) × (latest ≤ max past 12287)
-    × ((card last key opener : ℕ) → stop ≤ last → 2 * last ≤ length s → Turns card s last ((i - at) / 3) headed key (past - 8191) opener at (latest - 8191) i)
+    × ((card last key : ℕ) (marks : Marks) → stop ≤ last → 2 * last ≤ length s → Turns card s last ((i - at) / 3) headed key (past - 8191) marks at (latest - 8191) i)
 
 abbrev μ-loop : tie.MeasureT-loop
 μ-loop s at stop past i₀ latest₀ i latest = stop - i
 
 loop-holds : tie.Need-loop-holds Inv-loop μ-loop
-loop-holds c = (omega arith, omega arith, omega arith, omega arith, omega arith, omega arith, omega arith, λ card last key opener h b. none-from card _ last _ headed key _ opener _ _ (omega arith) refl)
+loop-holds c = (omega arith, omega arith, omega arith, omega arith, omega arith, omega arith, omega arith, λ card last key marks h b. none-from card _ last _ headed key _ marks _ _ (omega arith) refl)
 
 word-requires : tie.Need-word-requires Inv-loop μ-loop
 word-requires c κs = omega arith
@@ -64,9 +65,9 @@ loop-again c =
       v .4,
       omega arith,
       omega arith,
-      λ card last key opener h b.
-          bin-more card _ last _ key opener b _ _ _ _ _ (v .0) (v .2) (omega (arith, l .0)) (w .word .ensures) (v .5) (c .before .before .before .if1 .left) (c .before .before .if2 .left) (c .before .long .ensures)
-          (c .if3 .left) (omega arith) (v .7 card last key opener h b),
+      λ card last key marks h b.
+          bin-more card _ last _ key marks b _ _ _ _ _ (v .0) (v .2) (omega (arith, l .0)) (w .word .ensures) (v .5) (c .before .before .before .if1 .left) (c .before .before .if2 .left) (c .before .long .ensures)
+          (c .if3 .left) (omega arith) (v .7 card last key marks h b),
     )
 
 returns-4 : tie.Need-returns-4 Inv-loop μ-loop

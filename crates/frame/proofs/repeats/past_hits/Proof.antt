@@ -6,6 +6,7 @@ use native.Mathlib.Omega.{arith}
 use lib.ListN.{length}
 use borrow.Author.Needs.{needs}
 use Rattle.format.specs.Rules.{inside}
+use Rattle.format.specs.Steps.{Marks}
 use Rattle.frame.specs.Repeats.{Turns}
 use Rattle.frame.proofs.Repeating.{none-from, hit-more}
 use Rattle.frame.proofs.repeats.past_hits.Statement.{statement}
@@ -13,13 +14,13 @@ use Rattle.frame.proofs.repeats.past_hits.Tie as tie
 
 abbrev Inv-loop : tie.InvT-loop
 Inv-loop s at stop card i₀ i =
-    (at ≤ i) × (i ≤ stop) × (2 * stop ≤ length s) × ((last key next opener : ℕ) → stop ≤ last → Turns card s last (i - at) inside key next opener at next i)
+    (at ≤ i) × (i ≤ stop) × (2 * stop ≤ length s) × ((last key next : ℕ) (marks : Marks) → stop ≤ last → Turns card s last (i - at) inside key next marks at next i)
 
 abbrev μ-loop : tie.MeasureT-loop
 μ-loop s at stop card i₀ i = stop - i
 
 loop-holds : tie.Need-loop-holds Inv-loop μ-loop
-loop-holds c = (omega arith, omega arith, omega arith, λ last key next opener h. none-from _ _ last _ inside key next opener _ _ (omega arith) refl)
+loop-holds c = (omega arith, omega arith, omega arith, λ last key next marks h. none-from _ _ last _ inside key next marks _ _ (omega arith) refl)
 
 word-requires : tie.Need-word-requires Inv-loop μ-loop
 word-requires c κs = omega arith
@@ -46,7 +47,7 @@ loop-again : tie.Need-loop-again Inv-loop μ-loop
 loop-again c =
     let w = c .before .before .before .before .before in
     let v = w .before .before .loop .inv in
-    (omega arith, omega arith, v .2, λ last key next opener h. hit-more _ _ last _ key opener next _ _ _ (v .0) (omega arith) (w .word .ensures) (c .before .before .before .before .if1 .left) (c .before .before .before .if2 .left) (c .before .before .of-word .ensures) (sym (c .if3 .taken) ∙ c .before .valid .ensures) (v .3 last key next opener h))
+    (omega arith, omega arith, v .2, λ last key next marks h. hit-more _ _ last _ key marks next _ _ _ (v .0) (omega arith) (w .word .ensures) (c .before .before .before .before .if1 .left) (c .before .before .before .if2 .left) (c .before .before .of-word .ensures) (sym (c .if3 .taken) ∙ c .before .valid .ensures) (v .3 last key next marks h))
 
 returns-3 : tie.Need-returns-3 Inv-loop μ-loop
 returns-3 c = let v = c .before .before .before .before .before .before .before .loop .inv in (v .0, v .1, v .3)

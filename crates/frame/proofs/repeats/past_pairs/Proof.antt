@@ -6,6 +6,7 @@ use native.Mathlib.Omega.{arith}
 use lib.ListN.{length}
 use borrow.Author.Needs.{needs}
 use Rattle.format.specs.Rules.{afterSample}
+use Rattle.format.specs.Steps.{Marks}
 use Rattle.frame.specs.Repeats.{Turns}
 use Rattle.frame.proofs.Repeating.{none-from, pair-more}
 use Rattle.frame.proofs.repeats.past_pairs.Statement.{statement}
@@ -14,13 +15,13 @@ use Rattle.frame.proofs.repeats.past_pairs.Tie as tie
 abbrev Inv-loop : tie.InvT-loop
 Inv-loop s at stop i₀ i =
     (at ≤ i) × (i ≤ stop) × (2 * stop ≤ length s)
-    × ((card last key next opener : ℕ) → stop ≤ last → (at < stop → next + (stop - at) ≤ 512) → Turns card s last (i - at) afterSample key next opener at (next + (i - at)) i)
+    × ((card last key next : ℕ) (marks : Marks) → stop ≤ last → (at < stop → next + (stop - at) ≤ 512) → Turns card s last (i - at) afterSample key next marks at (next + (i - at)) i)
 
 abbrev μ-loop : tie.MeasureT-loop
 μ-loop s at stop i₀ i = stop - i
 
 loop-holds : tie.Need-loop-holds Inv-loop μ-loop
-loop-holds c = (omega arith, omega arith, omega arith, λ card last key next opener h b. none-from card _ last _ afterSample key next opener _ _ (omega arith) (omega arith))
+loop-holds c = (omega arith, omega arith, omega arith, λ card last key next marks h b. none-from card _ last _ afterSample key next marks _ _ (omega arith) (omega arith))
 
 add-loop : tie.Need-add-loop Inv-loop μ-loop
 add-loop c = omega arith
@@ -62,10 +63,10 @@ loop-again c =
       omega arith,
       omega arith,
       v .2,
-      λ card last key next opener h b.
+      λ card last key next marks h b.
           let m = b (omega arith) in
-          pair-more card _ last _ key opener next _ _ _ (v .0) (omega arith) (w .before .word .ensures) (w .word2 .ensures) (omega arith) (omega arith)
-          (sym (c .before .two-samples .ensures) ∙ c .if1 .taken) (omega (arith, m)) (v .3 card last key next opener h b),
+          pair-more card _ last _ key marks next _ _ _ (v .0) (omega arith) (w .before .word .ensures) (w .word2 .ensures) (omega arith) (omega arith)
+          (sym (c .before .two-samples .ensures) ∙ c .if1 .taken) (omega (arith, m)) (v .3 card last key next marks h b),
     )
 
 returns : tie.Need-returns Inv-loop μ-loop

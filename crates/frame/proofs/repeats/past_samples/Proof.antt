@@ -31,9 +31,9 @@ returns-4 c =
     let e = w .before .before .past-pairs .ensures in (
       omega arith,
       omega arith,
-      λ card last key next opener h b.
+      λ card last key next marks h b.
           let m = b (omega arith) in
-          sample-more card _ last _ key opener next _ _ _ (e .0) (omega arith) (w .word .ensures) (c .before .if2 .left) (c .if3 .left) (omega (arith, m)) refl (e .2 card last key next opener h b),
+          sample-more card _ last _ key marks next _ _ _ (e .0) (omega arith) (w .word .ensures) (c .before .if2 .left) (c .if3 .left) (omega (arith, m)) refl (e .2 card last key next marks h b),
     )
 
 pub past-samples-spec : {M : Type 1} → statement M

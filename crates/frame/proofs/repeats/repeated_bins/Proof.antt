@@ -36,9 +36,9 @@ cast-number c = search needs
 returns : tie.Need-returns
 returns c =
     let e = c .before .before .past-bins .ensures in
-    λ card key opener.
+    λ card key marks.
     record {
-      turns = from-word card _ _ _ key opener _ _ _ _ (e .4 card _ key opener (omega arith) (c .before .before .before .before .before .pre .1));
+      turns = from-word card _ _ _ key marks _ _ _ _ (e .4 card _ key marks (omega arith) (c .before .before .before .before .before .pre .1));
       few = omega arith;
       onwards = e .0;
     }

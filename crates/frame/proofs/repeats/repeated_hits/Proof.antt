@@ -23,7 +23,7 @@ sub-count c = search needs
 returns : tie.Need-returns
 returns c =
     let e = c .past-hits .ensures in
-    λ key opener. record { turns = e .2 _ key _ opener (omega arith); few = omega arith; onwards = e .0 }
+    λ key marks. record { turns = e .2 _ key _ marks (omega arith); few = omega arith; onwards = e .0 }
 
 pub repeated-hits-spec : {M : Type 1} → statement M
 repeated-hits-spec = tie.close (tie.spec sub-least least-requires add-past-hits past-hits-requires sub-count returns)

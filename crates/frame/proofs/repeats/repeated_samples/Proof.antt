@@ -35,7 +35,7 @@ add-time c = search needs
 returns : tie.Need-returns
 returns c =
     let e = c .past-samples .ensures in
-    λ card key opener. record { turns = e .2 card _ key _ opener (omega arith) (λ h. omega arith); few = omega arith; onwards = e .0 }
+    λ card key marks. record { turns = e .2 card _ key _ marks (omega arith) (λ h. omega arith); few = omega arith; onwards = e .0 }
 
 pub repeated-samples-spec : {M : Type 1} → statement M
 repeated-samples-spec = tie.close (tie.spec sub-least times-left-requires least-requires least-requires-2 add-past-samples past-samples-requires sub-count cast-time add-time returns)

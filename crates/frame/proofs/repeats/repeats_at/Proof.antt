@@ -38,6 +38,9 @@ enum-told-7 c = search needs
 enum-told-8 : tie.Need-enum-told-8
 enum-told-8 c = search needs
 
+enum-told-9 : tie.Need-enum-told-9
+enum-told-9 c = search needs
+
 returns : tie.Need-returns
 returns c = rw (c .before .enum-told .given .1) (c .repeated-samples .ensures _ _ _)
 
@@ -62,6 +65,9 @@ returns-7 c = ran-none _ _ _ _ _ _ _ _ _
 returns-8 : tie.Need-returns-8
 returns-8 c = ran-none _ _ _ _ _ _ _ _ _
 
+returns-9 : tie.Need-returns-9
+returns-9 c = ran-none _ _ _ _ _ _ _ _ _
+
 pub repeats-at-spec : {M : Type 1} → statement M
 repeats-at-spec =
     tie.close
@@ -77,6 +83,7 @@ repeats-at-spec =
     enum-told-6
     enum-told-7
     enum-told-8
+    enum-told-9
     returns
     returns-2
     returns-3
@@ -84,4 +91,5 @@ repeats-at-spec =
     returns-5
     returns-6
     returns-7
-    returns-8)
+    returns-8
+    returns-9)

@@ -142,6 +142,15 @@ enum-told-14 c = search needs
 enum-told-15 : tie.Need-enum-told-15
 enum-told-15 c = search needs
 
+enum-told-16 : tie.Need-enum-told-16
+enum-told-16 c = search needs
+
+continue-at-requires : tie.Need-continue-at-requires
+continue-at-requires c κs =
+    let k = c .before .before in
+    let p = k .before .before .before .pre in
+    (p .0, p .1, k .before .word .ensures, class-is k _ (c .enum-told16 .given .1))
+
 returns : tie.Need-returns
 returns c =
     let k = c .before .before .before .before in
@@ -213,6 +222,10 @@ returns-15 c =
     let k = c .before .before in
     unassigned-step _ _ _ _ _ _ (k .before .word .ensures) (class-is k _ (c .enum-told15 .given .1))
 
+returns-16 : tie.Need-returns-16
+returns-16 c =
+    c .continue-at .ensures _
+
 pub step-spec : {M : Type 1} → statement M
 step-spec =
     tie.close
@@ -256,6 +269,8 @@ step-spec =
     end-at-requires
     enum-told-14
     enum-told-15
+    enum-told-16
+    continue-at-requires
     returns
     returns-2
     returns-3
@@ -270,4 +285,5 @@ step-spec =
     returns-12
     returns-13
     returns-14
-    returns-15)
+    returns-15
+    returns-16)

@@ -47,7 +47,7 @@ repeats-at-requires c κs =
 
 add-count-2 : tie.Need-add-count-2 Inv-loop μ-loop
 add-count-2 c =
-    let q = c .before in
+    let q = c .before .before in
     let d = q .before .before in
     let m = live-moved _ _ _ _ _ _ _ _ _ (d .before .before .before .before .before .before .loop .inv .1) (d .before .before .before .before .before .loop-test .taken) _ (d .before .before .before .step .ensures) _ _ _ (ap viewStep (d .before .turn .given .1)) (d .before .before .before .before .noted .ensures) in
     let e = q .repeats-at .ensures in
@@ -56,14 +56,14 @@ add-count-2 c =
 
 loop-less : tie.Need-loop-less Inv-loop μ-loop
 loop-less c =
-    let q = c .before in
+    let q = c .before .before in
     let d = q .before .before in
     let m = live-moved _ _ _ _ _ _ _ _ _ (d .before .before .before .before .before .before .loop .inv .1) (d .before .before .before .before .before .loop-test .taken) _ (d .before .before .before .step .ensures) _ _ _ (ap viewStep (d .before .turn .given .1)) (d .before .before .before .before .noted .ensures) in
     omega (arith, m .0, q .repeats-at .ensures .onwards)
 
 loop-again : tie.Need-loop-again Inv-loop μ-loop
 loop-again c =
-    let q = c .before in
+    let q = c .before .before in
     let d = q .before .before in
     let m = live-moved _ _ _ _ _ _ _ _ _ (d .before .before .before .before .before .before .loop .inv .1) (d .before .before .before .before .before .loop-test .taken) _ (d .before .before .before .step .ensures) _ _ _ (ap viewStep (d .before .turn .given .1)) (d .before .before .before .before .noted .ensures) in
     let e = q .repeats-at .ensures in

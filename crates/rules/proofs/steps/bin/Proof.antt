@@ -8,8 +8,8 @@ use Rattle.rules.proofs.steps.bin.Tie as tie
 cast-number : tie.Need-cast-number
 cast-number c = search needs
 
-add-t8 : tie.Need-add-t8
-add-t8 c = search needs
+add-t9 : tie.Need-add-t9
+add-t9 c = search needs
 
 may-bin-requires : tie.Need-may-bin-requires
 may-bin-requires c κs = search needs
@@ -25,4 +25,4 @@ returns c = bin-turn _ _ _ _ _ (c .judged .ensures) (c .before .before .before .
 
 pub bin-spec : {M : Type 1} → statement M
 bin-spec =
-    tie.close (tie.spec cast-number add-t8 may-bin-requires valid-requires judged-requires returns)
+    tie.close (tie.spec cast-number add-t9 may-bin-requires valid-requires judged-requires returns)

@@ -8,8 +8,8 @@ use Rattle.rules.proofs.steps.histogram.Tie as tie
 key-requires : tie.Need-key-requires
 key-requires c κs = search needs
 
-add-t9 : tie.Need-add-t9
-add-t9 c = search needs
+add-above : tie.Need-add-above
+add-above c = search needs
 
 may-histogram-requires : tie.Need-may-histogram-requires
 may-histogram-requires c κs = search needs
@@ -21,9 +21,9 @@ judged-requires : tie.Need-judged-requires
 judged-requires c κs = search needs
 
 returns : tie.Need-returns
-returns c = histogram-turn _ _ _ _ _ _ _ _ (c .before .before .before .before .key .ensures) (c .judged .ensures) (c .before .before .before .may-histogram .ensures) (c .before .before .valid .ensures)
+returns c = histogram-turn _ _ _ _ _ _ _ _ (c .before .before .before .before .before .key .ensures) (c .judged .ensures) (c .before .before .before .may-histogram .ensures) (c .before .before .valid .ensures)
 
 pub histogram-spec : {M : Type 1} → statement M
 histogram-spec =
     tie.close
-    (tie.spec key-requires add-t9 may-histogram-requires valid-requires judged-requires returns)
+    (tie.spec key-requires add-above may-histogram-requires valid-requires judged-requires returns)
