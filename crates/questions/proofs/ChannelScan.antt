@@ -10,7 +10,7 @@ use lib.Dec.{leb, ltb, eqb, lit<}
 use borrow.Author.Tests.{leb-true, ltb-true}
 use Rattle.format.specs.Words.{wordAt}
 use Rattle.format.specs.Book.{channel, histogram, endEvent}
-use Rattle.format.specs.Items.{ItemOf, Item, Channel, Histogram, HitCount, Sample, Bin, LastCell, TimeBin, Text, StartEvent, EndEvent, classFor}
+use Rattle.format.specs.Items.{ItemOf, Item, Channel, Histogram, HitCount, Sample, Bin, LastCell, TimeBin, Text, StartEvent, ContinueEvent, EndEvent, classFor}
 use Rattle.format.specs.Rules.{dataKind, same, place}
 use Rattle.format.specs.Frames.{earlierThen, lastOf}
 use Rattle.format.specs.Cursor.{standingAt, shownBy, itemsFrom, On}
@@ -44,6 +44,7 @@ module _ (chip c : ℕ) where
   other-class (TimeBin t) f = refl
   other-class (Text s) f = refl
   other-class (StartEvent t ts n) f = refl
+  other-class (ContinueEvent n) f = refl
   other-class (EndEvent n) f = refl
 
   pub record Header (x : Item) : Type 0 where
@@ -62,6 +63,7 @@ module _ (chip c : ℕ) where
   header-of (TimeBin t) e = absurd (true≢false (sym e))
   header-of (Text s) e = absurd (true≢false (sym e))
   header-of (StartEvent t ts n) e = absurd (true≢false (sym e))
+  header-of (ContinueEvent n) e = absurd (true≢false (sym e))
   header-of (EndEvent n) e = absurd (true≢false (sym e))
 
   -- and the answer tells whether it does: it shows no Histogram
@@ -75,6 +77,7 @@ module _ (chip c : ℕ) where
   as-shown (TimeBin t) f = refl
   as-shown (Text s) f = refl
   as-shown (StartEvent t ts n) f = refl
+  as-shown (ContinueEvent n) f = refl
   as-shown (EndEvent n) f = refl
 
 module _ (s : List ℕ) (from chip c at : ℕ) (k : Seeking s from chip c at) where
@@ -109,7 +112,7 @@ module _ (s : List ℕ) (from chip c at : ℕ) (k : Seeking s from chip c at) wh
 
   none-in-data : (x : Item) (n : ℕ) → Turn s at g x n → histogram ≡ classFor x → ⊥
   none-in-data x n t e =
-      never-in-data histogram refl refl refl refl refl (earlierThen [] (g .before))
+      never-in-data histogram refl refl refl refl refl refl (earlierThen [] (g .before))
       (ap (place dataKind (earlierThen [] (g .before))) e ∙ placed s dataKind at (k .amid) x n t)
 
   -- ---- a word that tells it
@@ -128,10 +131,10 @@ module _ (s : List ℕ) (from chip c at : ℕ) (k : Seeking s from chip c at) wh
       pub seeking-hit : eqb (y .chip) chip && eqb (y .channel) c ≡ true → ChannelAt s from chip c (at + 1)
       seeking-hit e = hit-item _ (at + 1) header-turn refl (fields true e)
 
-    pub seeking-one : leb 0x0100 w && ltb w 0xC000 ≡ true → Seeking s from chip c (at + 1)
+    pub seeking-one : leb 0x0E00 w && ltb w 0xC000 ≡ true → Seeking s from chip c (at + 1)
     seeking-one e =
-        let a = leb-true 0x0100 w (and-left (leb 0x0100 w) (ltb w 0xC000) e) in
-        let b = ltb-true w 0xC000 (and-right (leb 0x0100 w) (ltb w 0xC000) e) in
+        let a = leb-true 0x0E00 w (and-left (leb 0x0E00 w) (ltb w 0xC000) e) in
+        let b = ltb-true w 0xC000 (and-right (leb 0x0E00 w) (ltb w 0xC000) e) in
         let o = one-turn s at (k .amid) h w i a in
         past-item (o .x) (at + 1) (o .turn) (o .plain .no-end)
         (other-class chip c (o .x) (λ f. let (u, v) = ranged (wordAt s at) channel (sym (f ∙ o .turn .class)) refl in omega arith))

@@ -8,7 +8,7 @@ use lib.Dec.{lit<}
 use lib.ListN.{length, set, length-set}
 use Rattle.format.specs.Words.{wordAt, longAt}
 use Rattle.format.specs.Book.{bin}
-use Rattle.format.specs.Items.{Item, Channel, Histogram, HitCount, Sample, Bin, LastCell, TimeBin, Text, StartEvent, EndEvent}
+use Rattle.format.specs.Items.{Item, Channel, Histogram, HitCount, Sample, Bin, LastCell, TimeBin, Text, StartEvent, ContinueEvent, EndEvent}
 use Rattle.format.specs.Frames.{lastOf}
 use Rattle.format.specs.Cursor.{itemsFrom, On}
 use Rattle.format.specs.Questions.{fillCounts}
@@ -60,6 +60,7 @@ module _ (s : List ℕ) (from : ℕ) (l₀ : List ℕ) (at : ℕ) (l : List ℕ)
         go (TimeBin u) n y = refl
         go (Text d) n y = refl
         go (StartEvent d e f) n y = refl
+        go (ContinueEvent d) n y = refl
         go (EndEvent d) n y = refl
 
   pub counting-end : lastOf s ≤ at → l ≡ fillCounts (itemsFrom s from) l₀

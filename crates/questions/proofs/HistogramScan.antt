@@ -9,7 +9,7 @@ use lib.Dec.{leb, ltb, eqb}
 use borrow.Author.Tests.{ltb-true}
 use Rattle.format.specs.Words.{wordAt}
 use Rattle.format.specs.Book.{channel}
-use Rattle.format.specs.Items.{ItemOf, Item, Channel, Histogram, HitCount, Sample, Bin, LastCell, TimeBin, Text, StartEvent, EndEvent, classFor}
+use Rattle.format.specs.Items.{ItemOf, Item, Channel, Histogram, HitCount, Sample, Bin, LastCell, TimeBin, Text, StartEvent, ContinueEvent, EndEvent, classFor}
 use Rattle.format.specs.Rules.{monitorKind, place}
 use Rattle.format.specs.Frames.{earlierThen, lastOf}
 use Rattle.format.specs.Cursor.{standingAt, shownBy, itemsFrom, On}
@@ -41,6 +41,7 @@ as-shown chip c (LastCell a b) f = refl
 as-shown chip c (TimeBin t) f = refl
 as-shown chip c (Text s) f = refl
 as-shown chip c (StartEvent t ts n) f = refl
+as-shown chip c (ContinueEvent n) f = refl
 as-shown chip c (EndEvent n) f = refl
 
 module _ (s : List ℕ) (chip c at : ℕ) (k : Seeking s chip c at) where

@@ -7,7 +7,7 @@ use mathlib.Core.Bool.{Bool, true, false, true≢false}
 use mathlib.Core.Option.{none, some}
 use lib.ListN.{length}
 use Rattle.format.specs.Book.{histogram, endEvent}
-use Rattle.format.specs.Items.{Item, Channel, Histogram, HitCount, Sample, Bin, LastCell, TimeBin, Text, StartEvent, EndEvent, classFor, wordsOf}
+use Rattle.format.specs.Items.{Item, Channel, Histogram, HitCount, Sample, Bin, LastCell, TimeBin, Text, StartEvent, ContinueEvent, EndEvent, classFor, wordsOf}
 use Rattle.format.specs.Rules.{Kind, dataKind, monitorKind, commandKind, same, place}
 use Rattle.format.specs.Frames.{Allowed, Sound}
 use Rattle.format.specs.Questions.{until, pastAt, isHistogram}
@@ -46,7 +46,7 @@ module _ (f : Item → Bool) (kind : Kind) (card : ℕ) (never : (p : List Item)
 
 -- only a monitor frame has histograms
 histogram-place : (kind : Kind) (p : List Item) → (kind ≡ monitorKind → ⊥) → place kind p histogram ≡ true → ⊥
-histogram-place dataKind p n e = never-in-data histogram refl refl refl refl refl p e
+histogram-place dataKind p n e = never-in-data histogram refl refl refl refl refl refl p e
 histogram-place monitorKind p n e = n refl
 histogram-place commandKind p n e = true≢false (sym e)
 
@@ -60,4 +60,5 @@ no-histogram kind n card chip c p (LastCell a b) h = refl
 no-histogram kind n card chip c p (TimeBin t) h = refl
 no-histogram kind n card chip c p (Text t) h = refl
 no-histogram kind n card chip c p (StartEvent t ts m) h = refl
+no-histogram kind n card chip c p (ContinueEvent m) h = refl
 no-histogram kind n card chip c p (EndEvent m) h = refl

@@ -9,7 +9,7 @@ use lib.Dec.{lit<}
 use lib.ListN.{length, set, length-set}
 use Rattle.format.specs.Words.{wordAt}
 use Rattle.format.specs.Book.{sample, timeBin}
-use Rattle.format.specs.Items.{Item, Channel, Histogram, HitCount, Sample, Bin, LastCell, TimeBin, Text, StartEvent, EndEvent}
+use Rattle.format.specs.Items.{Item, Channel, Histogram, HitCount, Sample, Bin, LastCell, TimeBin, Text, StartEvent, ContinueEvent, EndEvent}
 use Rattle.format.specs.Frames.{Sound, lastOf}
 use Rattle.format.specs.Cursor.{itemsFrom, On}
 use Rattle.format.specs.Questions.{fillSamples}
@@ -112,6 +112,7 @@ module _ (s : List ℕ) (from : ℕ) (l₀ : List ℕ) (at t : ℕ) (l : List �
         go (TimeBin u) n y = let (p, q) = ranged (wordAt s at) timeBin (sym (y .class)) refl in absurd (b (omega arith))
         go (Text d) n y = refl
         go (StartEvent d e f) n y = refl
+        go (ContinueEvent d) n y = refl
         go (EndEvent d) n y = refl
 
   pub sampling-end : lastOf s ≤ at → l ≡ fillSamples 0 (itemsFrom s from) l₀

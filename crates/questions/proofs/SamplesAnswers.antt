@@ -3,19 +3,20 @@
 use Prim.Native.Nat.{ℕ, suc, _+_, _<_, _≤_}
 use mathlib.Core.Path.{_≡_, refl, sym, ap, _∙_}
 use mathlib.Core.List.{List, [], _∷_}
+use mathlib.Core.Bool.{Bool, true, false}
 use mathlib.Core.Option.{Option, none}
 use lib.ListN.{length, set}
-use Rattle.format.specs.Words.{Bytes}
+use Rattle.format.specs.Words.{Bytes, pick, wordAt}
 use Rattle.format.specs.Answers.{Outcome, accepted, refused, andThen, Done}
-use Rattle.format.specs.Book.{endEvent}
-use Rattle.format.specs.Items.{Item, Channel, Histogram, HitCount, Sample, Bin, LastCell, TimeBin, Text, StartEvent, EndEvent}
-use Rattle.format.specs.Rules.{Kind}
+use Rattle.format.specs.Book.{classOf, continueEvent, endEvent}
+use Rattle.format.specs.Items.{Item, Channel, Histogram, HitCount, Sample, Bin, LastCell, TimeBin, Text, StartEvent, ContinueEvent, EndEvent}
+use Rattle.format.specs.Rules.{Kind, same}
 use Rattle.format.specs.Frames.{verdict}
-use Rattle.format.specs.Questions.{Behind, Opened, events, pickNth, present, until, pastAt, firstInside, isChannel, channelAt, done, cleared, fillSamples, channelIn, samplesAt, samplesLeft, Sampled}
+use Rattle.format.specs.Questions.{Behind, Opened, events, pickNth, present, until, pastAt, isChannel, channelAt, done, cleared, fillSamples, channelIn, samplesAt, samplesLeft, Sampled}
 use Rattle.format.proofs.questions.FillQuestions.{samples-of, samples-room, samples-refused}
 use Rattle.format.proofs.questions.WordFinds.{channel-items}
 use Rattle.format.specs.Cursor.{itemsFrom}
-use Rattle.questions.specs.Sought.{EventAt, ChannelFound, ChannelSought, SamplesSought, Filling}
+use Rattle.questions.specs.Sought.{startedAt, continuedAt, openedAt, insideAt, EventAt, ChannelFound, ChannelSought, SamplesSought, Filling}
 use Rattle.questions.specs.declared.answers.Place.{Place}
 use Rattle.questions.specs.declared.answers.Place.the-variants as place
 use Rattle.questions.proofs.Reading.{Accepted, items-first}
@@ -23,18 +24,26 @@ use Rattle.questions.proofs.Reading.{Accepted, items-first}
 -- ---- no such channel
 
 abbrev behind-header : (chip c : ℕ) → Option Opened → Outcome Behind
-behind-header chip c o = andThen (present o) (λ o. present (pastAt (isChannel chip c) (firstInside o) (until endEvent (o .items))))
+behind-header chip c o = andThen (present o) (λ o. present (pastAt (isChannel chip c) (o .inside) (until endEvent (o .items))))
 
 pub no-event : (s : List ℕ) (e chip c : ℕ) → pickNth e (events 3 (itemsFrom s 3)) ≡ none → channelAt e chip c (itemsFrom s 3) ≡ refused 13 0
 unfolding channelAt
 no-event s e chip c h = ap (behind-header chip c) h
 
-in-event : (s : List ℕ) (e chip c q : ℕ) → EventAt s e q → channelAt e chip c (itemsFrom s 3) ≡ present (pastAt (isChannel chip c) (q + 6) (until endEvent (itemsFrom s (q + 6))))
-unfolding channelAt firstInside
-in-event s e chip c q h = ap (behind-header chip c) (h .picked)
+-- the items behind the one that opens an event
+opened-items : (s : List ℕ) (q : ℕ) → openedAt s q .items ≡ itemsFrom s (insideAt s q)
+opened-items s q = go (same (classOf (wordAt s q)) continueEvent)
+  where
+    go : (b : Bool) → pick b (continuedAt s q) (startedAt s q) .items ≡ itemsFrom s (pick b (continuedAt s q) (startedAt s q) .inside)
+    go true = refl
+    go false = refl
+
+in-event : (s : List ℕ) (e chip c q : ℕ) → EventAt s e q → channelAt e chip c (itemsFrom s 3) ≡ present (pastAt (isChannel chip c) (insideAt s q) (until endEvent (itemsFrom s (insideAt s q))))
+unfolding channelAt
+in-event s e chip c q h = ap (behind-header chip c) (h .picked) ∙ ap (λ (xs : List Item). present (pastAt (isChannel chip c) (insideAt s q) (until endEvent xs))) (opened-items s q)
 
 -- what the search in the event finds
-pub sought : (s : List ℕ) (e chip c q : ℕ) → EventAt s e q → (r : Place) → ChannelSought s (q + 6) chip c r → SamplesSought s e chip c r
+pub sought : (s : List ℕ) (e chip c q : ℕ) → EventAt s e q → (r : Place) → ChannelSought s (insideAt s q) chip c r → SamplesSought s e chip c r
 sought s e chip c q h (place.At p) f = record { found = in-event s e chip c q h ∙ ap present (f .passed); headed = f .headed }
 sought s e chip c q h place.Nothing f = in-event s e chip c q h ∙ ap present f
 
@@ -57,6 +66,7 @@ fill-until t (LastCell a b ∷ xs) l = refl
 fill-until t (TimeBin u ∷ xs) l = fill-until u xs l
 fill-until t (Text s ∷ xs) l = refl
 fill-until t (StartEvent k ts n ∷ xs) l = refl
+fill-until t (ContinueEvent n ∷ xs) l = refl
 fill-until t (EndEvent n ∷ xs) l = refl
 
 pub samples-missing : (s : List ℕ) (e chip c : ℕ) (l : List ℕ) → channelAt e chip c (itemsFrom s 3) ≡ refused 13 0

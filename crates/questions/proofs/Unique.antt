@@ -2,13 +2,18 @@
 -- list of lent words.
 -- Assumes nothing.
 use Prim.Native.Nat.{ℕ}
-use mathlib.Core.Path.{_≡_, refl, sym, ap, _∙_}
+use mathlib.Core.Path.{_≡_, refl, sym, ap, ap₂, _∙_}
 use mathlib.Core.List.{List}
+use mathlib.Core.Option.{Option, none, some}
 use native.Mathlib.Omega.{arith}
 use Rattle.format.specs.Answers.{accepted}
 use Rattle.format.specs.Questions as questions
 use Rattle.format.specs.Questions.{eventAt, sampleWordAt, binWordAt}
 use Rattle.book.proofs.Unique.{one, same-refusal}
+use Rattle.questions.specs.declared.answers.Began.{Began}
+use Rattle.questions.specs.declared.answers.Began.the-variants as began
+use Rattle.questions.specs.declared.answers.Ended.{Ended}
+use Rattle.questions.specs.declared.answers.Ended.the-variants as ended
 use Rattle.questions.specs.declared.answers.Event.{Event}
 use Rattle.questions.specs.declared.answers.EventFound.{EventFound}
 use Rattle.questions.specs.declared.answers.EventFound.the-variants as found
@@ -16,7 +21,7 @@ use Rattle.questions.specs.declared.answers.Filled.{Filled}
 use Rattle.questions.specs.declared.answers.Filled.the-variants as filled
 use Rattle.questions.specs.declared.answers.WordFound.{WordFound}
 use Rattle.questions.specs.declared.answers.WordFound.the-variants as word
-use Rattle.questions.specs.Views.{eventOf, viewEvent, viewFilled, viewWord}
+use Rattle.questions.specs.Views.{viewBegan, viewEnded, eventOf, viewEvent, viewFilled, viewWord}
 use Rattle.questions.specs.Promises.{EventAnswered, SamplesAnswered, CountsAnswered, SampleWordAnswered, BinWordAnswered}
 
 -- ---- T40
@@ -24,8 +29,31 @@ use Rattle.questions.specs.Promises.{EventAnswered, SamplesAnswered, Cou
 event-is : (a b : questions.Event) → accepted a ≡ accepted b → a ≡ b
 event-is a b e = cc
 
+some-is : {A : Type 0} (a b : A) → some a ≡ some b → a ≡ b
+some-is a b e = cc
+
+no-some : {A B : Type 0} (a : A) → _≡_ {A = Option A} none (some a) → B
+no-some a e = let z : _≡_ {A = ℕ} 0 1 = cc in absurd (omega arith)
+
+same-began : (v w : Began) → viewBegan v ≡ viewBegan w → v ≡ w
+same-began (began.Here k ts) (began.Here k′ ts′) e =
+    let f : _≡_ {A = questions.Began} (record { kind = k; timestamp = ts }) (record { kind = k′; timestamp = ts′ }) = some-is _ _ e in
+    ap₂ began.Here (λ i. f i .kind) (λ i. f i .timestamp)
+same-began (began.Here k ts) began.Elsewhere e = no-some _ (sym e)
+same-began began.Elsewhere (began.Here k ts) e = no-some _ e
+same-began began.Elsewhere began.Elsewhere e = refl
+
+same-ended : (v w : Ended) → viewEnded v ≡ viewEnded w → v ≡ w
+same-ended (ended.Here z) (ended.Here z′) e = ap ended.Here (some-is z z′ e)
+same-ended (ended.Here z) ended.Elsewhere e = no-some z (sym e)
+same-ended ended.Elsewhere (ended.Here z) e = no-some z e
+same-ended ended.Elsewhere ended.Elsewhere e = refl
+
 same-event : (v w : Event) → eventOf v ≡ eventOf w → v ≡ w
-same-event v w e = λ i. record { kind = e i .kind; timestamp = e i .timestamp; number = e i .number; size = e i .size; index = e i .index }
+same-event v w e =
+    let f = same-began (v .began) (w .began) (λ i. e i .began) in
+    let g = same-ended (v .ended) (w .ended) (λ i. e i .size) in
+    λ i. record { began = f i; number = e i .number; ended = g i; index = e i .index }
 
 pub same-found : (r q : EventFound) → viewEvent r ≡ viewEvent q → r ≡ q
 same-found (found.Event v) (found.Event w) e = ap found.Event (same-event v w (event-is (eventOf v) (eventOf w) e))

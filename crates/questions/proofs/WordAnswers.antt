@@ -8,7 +8,7 @@ use lib.Dec.{eqb}
 use Rattle.format.specs.Words.{pick, Bytes}
 use Rattle.format.specs.Answers.{Outcome, accepted, refused, andThen}
 use Rattle.format.specs.Book.{endEvent}
-use Rattle.format.specs.Items.{Item, Channel, Histogram, HitCount, Sample, Bin, LastCell, TimeBin, Text, StartEvent, EndEvent}
+use Rattle.format.specs.Items.{Item, Channel, Histogram, HitCount, Sample, Bin, LastCell, TimeBin, Text, StartEvent, ContinueEvent, EndEvent}
 use Rattle.format.specs.Rules.{Kind}
 use Rattle.format.specs.Frames.{verdict}
 use Rattle.format.specs.Cursor.{itemsFrom}
@@ -32,6 +32,7 @@ word-until t u at (LastCell a b ∷ xs) = refl
 word-until t u at (TimeBin w ∷ xs) = word-until t w (at + 1) xs
 word-until t u at (Text s ∷ xs) = refl
 word-until t u at (StartEvent k ts n ∷ xs) = refl
+word-until t u at (ContinueEvent n ∷ xs) = refl
 word-until t u at (EndEvent n ∷ xs) = refl
 
 pub sample-behind : (s : List ℕ) (e chip c t q : ℕ) → ChannelFound s e chip c q → (o : Option ℕ) → o ≡ sampleWord t 0 q (itemsFrom s q)

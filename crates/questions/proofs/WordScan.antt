@@ -10,7 +10,7 @@ use lib.Dec.{eqb, lit<}
 use borrow.Author.Tests.{eq-eqb, ne-eqb}
 use Rattle.format.specs.Words.{wordAt, longAt}
 use Rattle.format.specs.Book.{sample, timeBin, bin}
-use Rattle.format.specs.Items.{Item, Channel, Histogram, HitCount, Sample, Bin, LastCell, TimeBin, Text, StartEvent, EndEvent}
+use Rattle.format.specs.Items.{Item, Channel, Histogram, HitCount, Sample, Bin, LastCell, TimeBin, Text, StartEvent, ContinueEvent, EndEvent}
 use Rattle.format.specs.Frames.{lastOf}
 use Rattle.format.specs.Cursor.{itemsFrom, On}
 use Rattle.format.specs.Questions.{sampleWord, binWord}
@@ -97,6 +97,7 @@ module _ (s : List ℕ) (from t at u : ℕ) (k : SampleSeeking s from t at u) wh
         go (TimeBin v) n y = let (p, q) = ranged (wordAt s at) timeBin (sym (y .class)) refl in absurd (b (omega arith))
         go (Text d) n y = refl
         go (StartEvent d e f) n y = refl
+        go (ContinueEvent d) n y = refl
         go (EndEvent d) n y = refl
 
   pub sample-end : lastOf s ≤ at → none ≡ sampleWord t 0 from (itemsFrom s from)
@@ -149,6 +150,7 @@ module _ (s : List ℕ) (from b at : ℕ) (k : BinSeeking s from b at) where
         go (TimeBin v) n y = refl
         go (Text d) n y = refl
         go (StartEvent d e f) n y = refl
+        go (ContinueEvent d) n y = refl
         go (EndEvent d) n y = refl
 
   pub bin-end : lastOf s ≤ at → none ≡ binWord b from (itemsFrom s from)

@@ -7,14 +7,14 @@ use mathlib.Core.Bool.{Bool, true, false, _&&_}
 use mathlib.Core.Option.{Option, none, some}
 use lib.Dec.{eqb}
 use lib.ListN.{length}
-use Rattle.format.specs.Words.{wordAt, timeAt, longAt}
+use Rattle.format.specs.Words.{pick, wordAt, timeAt, longAt}
 use Rattle.format.specs.Answers.{Outcome, accepted, refused, andThen, Done}
-use Rattle.format.specs.Book.{endEvent}
-use Rattle.format.specs.Items.{ItemOf, Item, Channel, Histogram, HitCount, Sample, Bin, LastCell, TimeBin, Text, StartEvent, EndEvent}
-use Rattle.format.specs.Rules.{Kind, dataKind, gather, headOrZero}
+use Rattle.format.specs.Book.{classOf, continueEvent, endEvent}
+use Rattle.format.specs.Items.{ItemOf, Item, Channel, Histogram, HitCount, Sample, Bin, LastCell, TimeBin, Text, StartEvent, ContinueEvent, EndEvent}
+use Rattle.format.specs.Rules.{Kind, dataKind, same, gather}
 use Rattle.format.specs.Frames.{earlierThen}
 use Rattle.format.specs.Cursor.{itemsFrom, On}
-use Rattle.format.specs.Questions.{Event, Opened, endSize, events, pickNth, present, done, until, pastAt, isChannel, isHistogram, channelAt, sampleWord, binWord}
+use Rattle.format.specs.Questions.{Event, Opened, endSize, headOf, events, pickNth, present, done, until, pastAt, isChannel, isHistogram, channelAt, sampleWord, binWord}
 use Rattle.questions.specs.declared.answers.Place.{Place}
 use Rattle.questions.specs.declared.answers.Place.the-variants as place
 
@@ -23,18 +23,19 @@ pub record Amid (s : List ℕ) (kind : Kind) (at : ℕ) : Type 0 where
   pub on : On s at
   pub kind-is : on .frame .kind ≡ kind
 
--- an item, as it is answered, that starts an event, and one that ends it
-abbrev pub startsEvent : ItemOf ℕ → Bool
-startsEvent (Channel a b c) = false
-startsEvent (Histogram a b c) = false
-startsEvent (HitCount a b c) = false
-startsEvent (Sample v) = false
-startsEvent (Bin b n) = false
-startsEvent (LastCell a b) = false
-startsEvent (TimeBin t) = false
-startsEvent (Text n) = false
-startsEvent (StartEvent t ts n) = true
-startsEvent (EndEvent n) = false
+-- an item, as it is answered, that opens an event or goes on with one, and one that ends it
+abbrev pub opensEvent : ItemOf ℕ → Bool
+opensEvent (Channel a b c) = false
+opensEvent (Histogram a b c) = false
+opensEvent (HitCount a b c) = false
+opensEvent (Sample v) = false
+opensEvent (Bin b n) = false
+opensEvent (LastCell a b) = false
+opensEvent (TimeBin t) = false
+opensEvent (Text n) = false
+opensEvent (StartEvent t ts n) = true
+opensEvent (ContinueEvent n) = true
+opensEvent (EndEvent n) = false
 
 abbrev pub endsEvent : ItemOf ℕ → Bool
 endsEvent (Channel a b c) = false
@@ -46,6 +47,7 @@ endsEvent (LastCell a b) = false
 endsEvent (TimeBin t) = false
 endsEvent (Text n) = false
 endsEvent (StartEvent t ts n) = false
+endsEvent (ContinueEvent n) = false
 endsEvent (EndEvent n) = true
 
 -- one that is a header of a chip and a channel
@@ -59,26 +61,47 @@ isHeader chip c (LastCell a b) = false
 isHeader chip c (TimeBin t) = false
 isHeader chip c (Text n) = false
 isHeader chip c (StartEvent t ts n) = false
+isHeader chip c (ContinueEvent n) = false
 isHeader chip c (EndEvent n) = false
 
 -- the event whose Start event stands at word q
-abbrev pub openedAt : List ℕ → ℕ → Opened
-openedAt s q = record {
+abbrev pub startedAt : List ℕ → ℕ → Opened
+startedAt s q = record {
   event = record {
-    kind = wordAt s q % 16;
-    timestamp = timeAt s (q + 1);
+    began = some (record { kind = wordAt s q % 16; timestamp = timeAt s (q + 1) });
     number = longAt s (q + 4);
-    size = headOrZero (gather endSize (itemsFrom s (q + 6)));
+    size = headOf (gather endSize (itemsFrom s (q + 6)));
     index = q;
   };
   items = itemsFrom s (q + 6);
+  inside = q + 6;
 }
+
+-- the event that goes on with the Continue event at word q
+abbrev pub continuedAt : List ℕ → ℕ → Opened
+continuedAt s q = record {
+  event = record {
+    began = none;
+    number = longAt s (q + 1);
+    size = headOf (gather endSize (itemsFrom s (q + 3)));
+    index = q;
+  };
+  items = itemsFrom s (q + 3);
+  inside = q + 3;
+}
+
+-- the event that the item at word q opens, and the word behind that item
+abbrev pub openedAt : List ℕ → ℕ → Opened
+openedAt s q = pick (same (classOf (wordAt s q)) continueEvent) (continuedAt s q) (startedAt s q)
+
+abbrev pub insideAt : List ℕ → ℕ → ℕ
+insideAt s q = openedAt s q .inside
 
 -- event e begins at word q
 pub record EventAt (s : List ℕ) (e q : ℕ) : Type 0 where
   pub within : q < length s
   pub picked : pickNth e (events 3 (itemsFrom s 3)) ≡ some (openedAt s q)
-  pub amid : Amid s dataKind (q + 6)
+  pub amid : Amid s dataKind (insideAt s q)
 
 abbrev pub EventSought : List ℕ → ℕ → Place → Type 0
 EventSought s e (place.At q) = EventAt s e q

@@ -1,12 +1,23 @@
 // What the questions answer.
 use book::refusal::Refusal;
 
-// An event: its type (`type` is a word of the language), timestamp, number, size in bytes, and the index of its Start event word.
+// Where an event began: its type (`type` is a word of the language) and timestamp stand in its Start event, which may be in another frame.
+pub enum Began {
+    Here { kind: u16, timestamp: u64 },
+    Elsewhere,
+}
+
+// Where it ends: its size in bytes stands in its End event, which may be in another frame.
+pub enum Ended {
+    Here { size: u32 },
+    Elsewhere,
+}
+
+// An event, or the part of one that stands in this frame; the index is that of its Start or Continue event word.
 pub struct Event {
-    pub kind: u16,
-    pub timestamp: u64,
+    pub began: Began,
     pub number: u32,
-    pub size: u32,
+    pub ended: Ended,
     pub index: usize,
 }
 

@@ -10,6 +10,7 @@ ghost use Rattle.questions.specs.Promises.{SamplesAnswered};
 use crate::answers::Filled;
 use crate::answers::Place;
 use crate::event::find_event;
+use crate::event::inside_at;
 use crate::fill::SAMPLES;
 use crate::fill::clear_samples;
 use crate::fill::fill_samples;
@@ -26,7 +27,7 @@ pub(crate) fn find_channel(s: &[u8], kind: Kind, e: usize, chip: u16, channel: u
 {
     let place = find_event(s, kind, e);
     match place {
-        Place::At(at) => seek_channel(s, at + 6, chip, channel),
+        Place::At(at) => seek_channel(s, inside_at(s, at), chip, channel),
         Place::Nothing => Place::Nothing,
     }
 }

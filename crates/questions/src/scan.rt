@@ -4,11 +4,13 @@ ghost use mathlib.Core.Path.{_≡_};
 ghost use Prim.Native.Nat.{_+_, _*_, _<_};
 ghost use lib.ListN.{length};
 ghost use Rattle.format.specs.Words.{wordAt, longAt};
-ghost use Rattle.format.specs.Rules.{dataKind, monitorKind, headOrZero, gather};
+ghost use Rattle.format.specs.Rules.{dataKind, monitorKind, gather};
 ghost use Rattle.format.specs.Cursor.{itemsFrom};
-ghost use Rattle.format.specs.Questions.{endSize};
+ghost use Rattle.format.specs.Questions.{endSize, headOf};
 ghost use Rattle.book.specs.Views.{viewItem};
-ghost use Rattle.questions.specs.Sought.{Amid, startsEvent, endsEvent, isHeader, EventSought, ChannelSought, HistogramSought};
+ghost use Rattle.questions.specs.Views.{viewEnded};
+ghost use Rattle.questions.specs.Sought.{Amid, opensEvent, endsEvent, isHeader, EventSought, ChannelSought, HistogramSought};
+use crate::answers::Ended;
 use crate::answers::Place;
 use book::class::Class;
 use book::items::Channel;
@@ -47,8 +49,9 @@ pub(crate) fn long_in(s: &[u8], i: usize) -> u32
     low + 65536 * high
 }
 
-fn is_start(item: Item) -> bool
-    ensures { λ r. ⌜ r ≡ startsEvent (viewItem item) ⌝ }
+// It opens an event, or goes on with one.
+fn is_opener(item: Item) -> bool
+    ensures { λ r. ⌜ r ≡ opensEvent (viewItem item) ⌝ }
 {
     match item {
         Item::Channel(_) => false,
@@ -61,6 +64,7 @@ fn is_start(item: Item) -> bool
         Item::Text(_) => false,
         Item::StartEvent(_) => true,
         Item::EndEvent(_) => false,
+        Item::ContinueEvent(_) => true,
     }
 }
 
@@ -78,6 +82,7 @@ fn is_end(item: Item) -> bool
         Item::Text(_) => false,
         Item::StartEvent(_) => false,
         Item::EndEvent(_) => true,
+        Item::ContinueEvent(_) => false,
     }
 }
 
@@ -96,10 +101,11 @@ fn is_header(item: Item, chip: u16, channel: u16) -> bool
         Item::Text(_) => false,
         Item::StartEvent(_) => false,
         Item::EndEvent(_) => false,
+        Item::ContinueEvent(_) => false,
     }
 }
 
-// Where event e of a data frame begins. From a Text's first word on, which no data frame has, its items are of one word and begin or end no event.
+// Where event e of a data frame begins. From a Time bin's first word on, its items are of one word and begin or end no event.
 pub(crate) fn seek_event(s: &[u8], e: usize) -> Place
     requires { ⌜ Amid (now s) dataKind 3 ⌝ }
     ensures { λ r. ⌜ EventSought (now (s .entry)) e r ⌝ }
@@ -109,7 +115,7 @@ pub(crate) fn seek_event(s: &[u8], e: usize) -> Place
     let mut left = e;
     while at < last {
         let w = word_in(s, at);
-        if Class::TEXT <= w {
+        if Class::TIME_BIN <= w {
             at += 1;
             continue;
         }
@@ -117,7 +123,7 @@ pub(crate) fn seek_event(s: &[u8], e: usize) -> Place
         match standing {
             Standing::Item(x) => {
                 let item = x.item;
-                if is_start(item) {
+                if is_opener(item) {
                     if left == 0 {
                         return Place::At(at);
                     }
@@ -135,16 +141,16 @@ pub(crate) fn seek_event(s: &[u8], e: usize) -> Place
     Place::Nothing
 }
 
-// The size that the first End event from here on gives, or 0.
-pub(crate) fn end_size(s: &[u8], from: usize) -> u32
+// The size that the first End event from here on gives, if there is one.
+pub(crate) fn end_size(s: &[u8], from: usize) -> Ended
     requires { ⌜ Amid (now s) dataKind from ⌝ }
-    ensures { λ r. ⌜ r ≡ headOrZero (gather endSize (itemsFrom (now (s .entry)) from)) ⌝ }
+    ensures { λ r. ⌜ viewEnded r ≡ headOf (gather endSize (itemsFrom (now (s .entry)) from)) ⌝ }
 {
     let last = s.len() / 2 - 1;
     let mut at = from;
     while at < last {
         let w = word_in(s, at);
-        if Class::TEXT <= w {
+        if Class::TIME_BIN <= w {
             at += 1;
             continue;
         }
@@ -153,16 +159,17 @@ pub(crate) fn end_size(s: &[u8], from: usize) -> u32
             Standing::Item(x) => {
                 let item = x.item;
                 if is_end(item) {
-                    return long(s, at + 1);
+                    let size = long(s, at + 1);
+                    return Ended::Here { size };
                 }
                 at = x.next;
             }
             Standing::Nothing => {
-                return 0;
+                return Ended::Elsewhere;
             }
         }
     }
-    0
+    Ended::Elsewhere
 }
 
 // Where the items behind a Channel header begin, of those before the first End event from here on.
@@ -174,7 +181,7 @@ pub(crate) fn seek_channel(s: &[u8], from: usize, chip: u16, channel: u16) -> Pl
     let mut at = from;
     while at < last {
         let w = word_in(s, at);
-        if (Class::TEXT <= w) & (w < Class::CHANNEL) {
+        if (Class::TIME_BIN <= w) & (w < Class::CHANNEL) {
             at += 1;
             continue;
         }

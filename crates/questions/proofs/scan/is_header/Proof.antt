@@ -38,6 +38,9 @@ enum-told-7 c = search needs
 enum-told-8 : tie.Need-enum-told-8
 enum-told-8 c = search needs
 
+enum-told-9 : tie.Need-enum-told-9
+enum-told-9 c = search needs
+
 returns : tie.Need-returns
 returns c = let a = c .before .before .before .before .before .args in ap (λ (x : Item). isHeader (a .chip) (a .channel) (viewItem x)) (sym (c .before .before .before .item .given .1))
 
@@ -68,6 +71,9 @@ returns-9 c = search needs
 returns-10 : tie.Need-returns-10
 returns-10 c = search needs
 
+returns-11 : tie.Need-returns-11
+returns-11 c = search needs
+
 pub is-header-spec : {M : Type 1} → statement M
 is-header-spec =
     tie.close
@@ -82,6 +88,7 @@ is-header-spec =
     enum-told-6
     enum-told-7
     enum-told-8
+    enum-told-9
     returns
     returns-2
     returns-3
@@ -91,4 +98,5 @@ is-header-spec =
     returns-7
     returns-8
     returns-9
-    returns-10)
+    returns-10
+    returns-11)

@@ -41,11 +41,11 @@ item-at-requires c κs = search needs
 enum-known-standing : tie.Need-enum-known-standing Inv-loop μ-loop
 enum-known-standing c = search needs
 
-is-start-requires : tie.Need-is-start-requires Inv-loop μ-loop
-is-start-requires c κs = search needs
+is-opener-requires : tie.Need-is-opener-requires Inv-loop μ-loop
+is-opener-requires c κs = search needs
 
 returns : tie.Need-returns Inv-loop μ-loop
-returns c = let m = c .before .before .before .before in let v = m .before .before .before .before .before .before .loop .inv in seeking-found _ _ _ _ (v .1) _ _ (sym (ap viewStanding (m .standing .given .1)) ∙ m .before .before .item-at .ensures) (sym (c .before .before .is-start .ensures) ∙ c .before .if2 .taken) (c .if3 .taken)
+returns c = let m = c .before .before .before .before in let v = m .before .before .before .before .before .before .loop .inv in seeking-found _ _ _ _ (v .1) _ _ (sym (ap viewStanding (m .standing .given .1)) ∙ m .before .before .item-at .ensures) (sym (c .before .before .is-opener .ensures) ∙ c .before .if2 .taken) (c .if3 .taken)
 
 sub-left : tie.Need-sub-left Inv-loop μ-loop
 sub-left c = omega arith
@@ -54,13 +54,13 @@ loop-less-2 : tie.Need-loop-less-2 Inv-loop μ-loop
 loop-less-2 c = let m = c .before .before .before .before in let v = m .before .before .before .before .before .before .loop .inv in let f = next-further _ _ _ (v .1 .amid) _ _ (sym (ap viewStanding (m .standing .given .1)) ∙ m .before .before .item-at .ensures) in omega arith
 
 loop-again-2 : tie.Need-loop-again-2 Inv-loop μ-loop
-loop-again-2 c = let m = c .before .before .before .before in let v = m .before .before .before .before .before .before .loop .inv in (v .0, seeking-further _ _ _ _ (v .1) _ _ (sym (ap viewStanding (m .standing .given .1)) ∙ m .before .before .item-at .ensures) (sym (c .before .before .is-start .ensures) ∙ c .before .if2 .taken) (c .if3 .left))
+loop-again-2 c = let m = c .before .before .before .before in let v = m .before .before .before .before .before .before .loop .inv in (v .0, seeking-further _ _ _ _ (v .1) _ _ (sym (ap viewStanding (m .standing .given .1)) ∙ m .before .before .item-at .ensures) (sym (c .before .before .is-opener .ensures) ∙ c .before .if2 .taken) (c .if3 .left))
 
 loop-less-3 : tie.Need-loop-less-3 Inv-loop μ-loop
 loop-less-3 c = let m = c .before .before .before in let v = m .before .before .before .before .before .before .loop .inv in let f = next-further _ _ _ (v .1 .amid) _ _ (sym (ap viewStanding (m .standing .given .1)) ∙ m .before .before .item-at .ensures) in omega arith
 
 loop-again-3 : tie.Need-loop-again-3 Inv-loop μ-loop
-loop-again-3 c = let m = c .before .before .before in let v = m .before .before .before .before .before .before .loop .inv in (v .0, seeking-next _ _ _ _ (v .1) _ _ (sym (ap viewStanding (m .standing .given .1)) ∙ m .before .before .item-at .ensures) (sym (c .before .is-start .ensures) ∙ c .if2 .left))
+loop-again-3 c = let m = c .before .before .before in let v = m .before .before .before .before .before .before .loop .inv in (v .0, seeking-next _ _ _ _ (v .1) _ _ (sym (ap viewStanding (m .standing .given .1)) ∙ m .before .before .item-at .ensures) (sym (c .before .is-opener .ensures) ∙ c .if2 .left))
 
 enum-told : tie.Need-enum-told Inv-loop μ-loop
 enum-told c = search needs
@@ -85,7 +85,7 @@ seek-event-spec =
     loop-again
     item-at-requires
     enum-known-standing
-    is-start-requires
+    is-opener-requires
     returns
     sub-left
     loop-less-2
