@@ -15,8 +15,8 @@ use lib.Seq.{getD-set-same, getD-set-other}
 use borrow.Author.Tests.{eqb-true, eqb-false, leb-true, leb-false, ltb-true, ltb-false, lt-ltb}
 use Rattle.format.specs.Words.{pick, wordAt, longAt}
 use Rattle.format.specs.Answers.{Outcome, accepted, refused}
-use Rattle.format.specs.Items.{ItemOf, Item, Channel, Histogram, HitCount, Sample, Bin, LastCell, TimeBin, Text, StartEvent, EndEvent, wordsOf}
-use Rattle.format.specs.Book.{Class, after, channel, histogram, hitCount, sample, bin, text, startEvent, endEvent, classOf}
+use Rattle.format.specs.Items.{ItemOf, Item, Channel, Histogram, HitCount, Sample, Bin, LastCell, TimeBin, Text, StartEvent, ContinueEvent, EndEvent, wordsOf}
+use Rattle.format.specs.Book.{Class, after, channel, histogram, hitCount, sample, bin, text, startEvent, continueEvent, endEvent, classOf}
 use Rattle.format.specs.Steps.{nextAt}
 use Rattle.format.specs.Frames.{Frame, lastOf, headFault, judged, verdict}
 use Rattle.format.specs.Questions.{done, shown}
@@ -42,22 +42,23 @@ use Rattle.records.specs.Undoing.{Heads}
 -- ---- an item answer taken apart
 
 -- anything but a Sample or Bin is no spot
-pub other-spot : (z : declared.Item) → OneOf (0 ∷ 1 ∷ 2 ∷ 5 ∷ 6 ∷ 7 ∷ 8 ∷ 9 ∷ []) (tagOf the-type z) → (k : Header) → none ≡ spotOf k (viewItem z)
+pub other-spot : (z : declared.Item) → OneOf (0 ∷ 1 ∷ 2 ∷ 5 ∷ 6 ∷ 7 ∷ 8 ∷ 9 ∷ 10 ∷ []) (tagOf the-type z) → (k : Header) → none ≡ spotOf k (viewItem z)
 other-spot (item.Channel x) o k = refl
 other-spot (item.Histogram x) o k = refl
 other-spot (item.HitCount x) o k = refl
-other-spot (item.Sample x) o k = absurd (miss (0 ∷ 1 ∷ 2 ∷ 5 ∷ 6 ∷ 7 ∷ 8 ∷ 9 ∷ []) 3 tt o)
-other-spot (item.Bin x) o k = absurd (miss (0 ∷ 1 ∷ 2 ∷ 5 ∷ 6 ∷ 7 ∷ 8 ∷ 9 ∷ []) 4 tt o)
+other-spot (item.Sample x) o k = absurd (miss (0 ∷ 1 ∷ 2 ∷ 5 ∷ 6 ∷ 7 ∷ 8 ∷ 9 ∷ 10 ∷ []) 3 tt o)
+other-spot (item.Bin x) o k = absurd (miss (0 ∷ 1 ∷ 2 ∷ 5 ∷ 6 ∷ 7 ∷ 8 ∷ 9 ∷ 10 ∷ []) 4 tt o)
 other-spot (item.LastCell x) o k = refl
 other-spot (item.TimeBin x) o k = refl
 other-spot (item.Text x) o k = refl
 other-spot (item.StartEvent x) o k = refl
+other-spot (item.ContinueEvent x) o k = refl
 other-spot (item.EndEvent x) o k = refl
 
 -- anything but a Channel or Histogram is no header
-pub other-header : (z : declared.Item) → OneOf (2 ∷ 3 ∷ 4 ∷ 5 ∷ 6 ∷ 7 ∷ 8 ∷ 9 ∷ []) (tagOf the-type z) → noHeader ≡ under noHeader (viewItem z)
-other-header (item.Channel x) o = absurd (miss (2 ∷ 3 ∷ 4 ∷ 5 ∷ 6 ∷ 7 ∷ 8 ∷ 9 ∷ []) 0 tt o)
-other-header (item.Histogram x) o = absurd (miss (2 ∷ 3 ∷ 4 ∷ 5 ∷ 6 ∷ 7 ∷ 8 ∷ 9 ∷ []) 1 tt o)
+pub other-header : (z : declared.Item) → OneOf (2 ∷ 3 ∷ 4 ∷ 5 ∷ 6 ∷ 7 ∷ 8 ∷ 9 ∷ 10 ∷ []) (tagOf the-type z) → noHeader ≡ under noHeader (viewItem z)
+other-header (item.Channel x) o = absurd (miss (2 ∷ 3 ∷ 4 ∷ 5 ∷ 6 ∷ 7 ∷ 8 ∷ 9 ∷ 10 ∷ []) 0 tt o)
+other-header (item.Histogram x) o = absurd (miss (2 ∷ 3 ∷ 4 ∷ 5 ∷ 6 ∷ 7 ∷ 8 ∷ 9 ∷ 10 ∷ []) 1 tt o)
 other-header (item.HitCount x) o = refl
 other-header (item.Sample x) o = refl
 other-header (item.Bin x) o = refl
@@ -65,11 +66,12 @@ other-header (item.LastCell x) o = refl
 other-header (item.TimeBin x) o = refl
 other-header (item.Text x) o = refl
 other-header (item.StartEvent x) o = refl
+other-header (item.ContinueEvent x) o = refl
 other-header (item.EndEvent x) o = refl
 
-pub other-head : (z : declared.Item) → OneOf (2 ∷ 3 ∷ 4 ∷ 5 ∷ 6 ∷ 7 ∷ 8 ∷ 9 ∷ []) (tagOf the-type z) → (at h : ℕ) → h ≡ headBy h at (viewItem z)
-other-head (item.Channel x) o at h = absurd (miss (2 ∷ 3 ∷ 4 ∷ 5 ∷ 6 ∷ 7 ∷ 8 ∷ 9 ∷ []) 0 tt o)
-other-head (item.Histogram x) o at h = absurd (miss (2 ∷ 3 ∷ 4 ∷ 5 ∷ 6 ∷ 7 ∷ 8 ∷ 9 ∷ []) 1 tt o)
+pub other-head : (z : declared.Item) → OneOf (2 ∷ 3 ∷ 4 ∷ 5 ∷ 6 ∷ 7 ∷ 8 ∷ 9 ∷ 10 ∷ []) (tagOf the-type z) → (at h : ℕ) → h ≡ headBy h at (viewItem z)
+other-head (item.Channel x) o at h = absurd (miss (2 ∷ 3 ∷ 4 ∷ 5 ∷ 6 ∷ 7 ∷ 8 ∷ 9 ∷ 10 ∷ []) 0 tt o)
+other-head (item.Histogram x) o at h = absurd (miss (2 ∷ 3 ∷ 4 ∷ 5 ∷ 6 ∷ 7 ∷ 8 ∷ 9 ∷ 10 ∷ []) 1 tt o)
 other-head (item.HitCount x) o at h = refl
 other-head (item.Sample x) o at h = refl
 other-head (item.Bin x) o at h = refl
@@ -77,6 +79,7 @@ other-head (item.LastCell x) o at h = refl
 other-head (item.TimeBin x) o at h = refl
 other-head (item.Text x) o at h = refl
 other-head (item.StartEvent x) o at h = refl
+other-head (item.ContinueEvent x) o at h = refl
 other-head (item.EndEvent x) o at h = refl
 
 -- ---- a test of a range
@@ -299,6 +302,7 @@ module _ (s map : List ℕ) (at h : ℕ) (g : Noting s map at h) where
       go b (TimeBin i) t = one (TimeBin i) refl refl t
       go b (Text i) t = let (p, q) = ranged (wordAt s at) text (sym (t .class)) refl in absurd (omega arith)
       go b (StartEvent i j c) t = let (p, q) = ranged (wordAt s at) startEvent (sym (t .class)) refl in absurd (omega arith)
+      go b (ContinueEvent i) t = let (p, q) = ranged (wordAt s at) continueEvent (sym (t .class)) refl in absurd (omega arith)
       go b (EndEvent i) t = let (p, q) = ranged (wordAt s at) endEvent (sym (t .class)) refl in absurd (omega arith)
 
   -- a Bin, told by the range of its first word

@@ -13,7 +13,7 @@ use lib.Seq.{sets, length-take-le}
 use borrow.Author.Tests.{eqb-true, ne-eqb}
 use Rattle.format.specs.Words.{Bytes, bytes}
 use Rattle.format.specs.Answers.{Done}
-use Rattle.format.specs.Items.{ItemOf, Item, Channel, Histogram, HitCount, Sample, Bin, LastCell, TimeBin, Text, StartEvent, EndEvent, wordsOf}
+use Rattle.format.specs.Items.{ItemOf, Item, Channel, Histogram, HitCount, Sample, Bin, LastCell, TimeBin, Text, StartEvent, ContinueEvent, EndEvent, wordsOf}
 use Rattle.format.specs.Frames.{lastOf}
 use Rattle.format.specs.Cursor.{standingAt, shownBy}
 use Rattle.format.specs.Spots.{Header, noHeader, Spot, spotOf, underAll, spot, put, legalValue}
@@ -66,6 +66,7 @@ item-inside s y w p e =
     by-item (TimeBin i) k q b = no-some p q
     by-item (Text i) k q b = no-some p q
     by-item (StartEvent i j c) k q b = no-some p q
+    by-item (ContinueEvent i) k q b = no-some p q
     by-item (EndEvent i) k q b = no-some p q
 
 -- an entry with nothing after the reason

@@ -174,7 +174,7 @@ pub(crate) fn item_noted(f: &[u8], at: usize) -> Standing
 
 // Notes in a map of zeros, for each word of an accepted frame where an item begins, the word of the header that it stands under. Most items are
 // told by the range of their word, the commonest first; the end word is below all of these ranges, so that they need not ask whether it is
-// reached; the cursor tells it.
+// reached; the cursor tells it, and the others below them: texts, and what begins an event, goes on with one or ends it.
 pub(crate) fn note_heads(f: &[u8], map: &mut [u16])
     requires { ⌜ Accepted planeFrames (now f) × (4096 ≤ length (now map)) × ((i : ℕ) → getD (now map) i 0 ≡ 0) ⌝ }
     ensures { λ _. ⌜ Heads (now (f .entry)) (now (map .exit)) ⌝ }

@@ -92,6 +92,7 @@ its-call (items.LastCell a b) = refl
 its-call (items.TimeBin t) = refl
 its-call (items.Text s) = refl
 its-call (items.StartEvent t ts n) = refl
+its-call (items.ContinueEvent n) = refl
 its-call (items.EndEvent n) = refl
 
 pub all-arguments : (xs : List items.Item) → map callIn (map argumentFor xs) ≡ map handOver xs
@@ -250,6 +251,7 @@ fits-typed (items.StartEvent t ts n) e =
     (and-both _ _ (below t 15 65536 (and-left (leb t 15) (leb ts 281474976710655) f) (omega arith))
     (below ts 281474976710655 18446744073709551616 (and-right (leb t 15) (leb ts 281474976710655) f) (omega arith)))
     (and-right (leb t 15 && leb ts 281474976710655) (ltb n 4294967296) e)
+fits-typed (items.ContinueEvent n) e = e
 fits-typed (items.EndEvent n) e = e
 
 pub sound-typed : (kind : rules.Kind) (card : ℕ) (p xs : List items.Item) → Sound kind card p xs → allTyped (map argumentFor xs) ≡ true

@@ -11,8 +11,8 @@ use lib.Seq.{sets}
 use borrow.Author.Tests.{leb-true, le-leb, lt-leb, lt-ltb}
 use Rattle.format.specs.Words.{pick, Bytes, bytes, longWords, nonZero}
 use Rattle.format.specs.Answers.{Outcome, accepted, refused, leaves}
-use Rattle.format.specs.Book.{text, endEvent}
-use Rattle.format.specs.Items.{Item, Text, StartEvent, EndEvent, classFor, wordsOf, fits, inRange, Token, whole, broken}
+use Rattle.format.specs.Book.{text, continueEvent, endEvent}
+use Rattle.format.specs.Items.{Item, Text, StartEvent, ContinueEvent, EndEvent, classFor, wordsOf, fits, inRange, Token, whole, broken}
 use Rattle.format.specs.Rules.{Checked, good, bad}
 use Rattle.format.specs.Steps.{ReaderState, Stepped, moved, stopped, marked, placeBy, valueBy, sizedBy, orderBy, stateAfter, checkBy}
 use Rattle.format.specs.Writing.{given, tokenBytes}
@@ -21,12 +21,12 @@ use Rattle.format.proofs.book.PrefixLaws.{and-left, and-right}
 use Rattle.format.proofs.items.TextLaws.{bytes-are}
 use Rattle.format.proofs.front.Book.{item-in-range}
 use Rattle.book.specs.Views.{viewItem}
-use Rattle.book.specs.Fields.{startWord, channelItem, histogramItem, hitsItem, sampleItem, binItem, cellItem, timeItem, startItem, endItem}
+use Rattle.book.specs.Fields.{startWord, channelItem, histogramItem, hitsItem, sampleItem, binItem, cellItem, timeItem, startItem, continueItem, endItem}
 use Rattle.book.specs.declared.items.Item as handed
 use Rattle.book.specs.declared.items.Item.the-variants as item
 use Rattle.book.specs.declared.items.StartEvent as start
-use Rattle.book.proofs.FieldLaws.{channel-words, histogram-words, hits-words, sample-words, bin-words, cell-words, time-words, start-words, end-words}
-use Rattle.rules.specs.Views.{tested, endTested, textTested}
+use Rattle.book.proofs.FieldLaws.{channel-words, histogram-words, hits-words, sample-words, bin-words, cell-words, time-words, start-words, continue-words, end-words}
+use Rattle.rules.specs.Views.{tested, continueTested, endTested, textTested}
 use Rattle.writer.specs.Views.{timeCut, itemBytes, textBytes, lettered, roomIn, answeredBy, placed, placedLeft}
 use Rattle.writer.proofs.StoreTurns.{zero-behind}
 
@@ -146,6 +146,7 @@ module _ (buf : List ℕ) (n card : ℕ) (st : ReaderState) (o : Stepped) (answe
   item-put (item.TimeBin x) = arm (timeItem x) _ (time-words x)
   item-put (item.Text x) = turned (broken text) [] (λ r q. refl)
   item-put (item.StartEvent x) = arm (startItem x) _ (start-cut x)
+  item-put (item.ContinueEvent x) = arm (continueItem x) _ (λ h. continue-words x)
   item-put (item.EndEvent x) = arm (endItem x) _ (λ h. end-words x)
 
   -- a text that is too long
@@ -177,3 +178,9 @@ pub end-handed : (at next : ℕ) (st : ReaderState) (size : ℕ) (r : Stepped) �
     → r ≡ marked next (checkBy 0 at st (whole (EndEvent size)))
 unfolding endTested checkBy
 end-handed at next st size r h e = rw (lt-ltb size 4294967296 h) e
+
+-- the rules at a Continue event, with its content zero
+pub continue-handed : (next : ℕ) (st : ReaderState) (number : ℕ) (r : Stepped) → number < 4294967296 → r ≡ marked next (continueTested st 0)
+    → r ≡ marked next (checkBy 0 0 st (whole (ContinueEvent number)))
+unfolding continueTested checkBy
+continue-handed next st number r h e = rw (lt-ltb number 4294967296 h) e

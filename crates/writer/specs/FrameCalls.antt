@@ -83,6 +83,7 @@ argumentFor (items.LastCell a b) = anItem (item.LastCell (record { chip = a; cel
 argumentFor (items.TimeBin t) = anItem (item.TimeBin (record { time = t }))
 argumentFor (items.Text s) = aText s
 argumentFor (items.StartEvent t ts n) = anItem (item.StartEvent (record { kind = t; timestamp = ts; number = n }))
+argumentFor (items.ContinueEvent n) = anItem (item.ContinueEvent (record { number = n }))
 argumentFor (items.EndEvent n) = anItem (item.EndEvent (record { size = n }))
 
 -- the values of the code's types u16, u32 and u64
@@ -106,6 +107,7 @@ typed (anItem (item.LastCell x)) = is16 (x .chip) && is16 (x .cell)
 typed (anItem (item.TimeBin x)) = is16 (x .time)
 typed (anItem (item.Text x)) = is16 (x .length)
 typed (anItem (item.StartEvent x)) = is16 (x .kind) && is64 (x .timestamp) && is32 (x .number)
+typed (anItem (item.ContinueEvent x)) = is32 (x .number)
 typed (anItem (item.EndEvent x)) = is32 (x .size)
 typed (aText s) = areBytes s
 

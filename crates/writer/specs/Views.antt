@@ -58,6 +58,7 @@ itemBytes (item.LastCell x) = bytes (cellWord x ∷ [])
 itemBytes (item.TimeBin x) = bytes (timeBinWord x ∷ [])
 itemBytes (item.Text x) = []
 itemBytes (item.StartEvent x) = bytes (startWord x ∷ (timeCut (x .timestamp) ++ longWords (x .number)))
+itemBytes (item.ContinueEvent x) = bytes (0x0A00 ∷ longWords (x .number))
 itemBytes (item.EndEvent x) = bytes (0x00E0 ∷ longWords (x .size))
 
 -- what stands behind the letters of a text, n of them: the final zero, and a padding byte to fill its word

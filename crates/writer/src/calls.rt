@@ -134,7 +134,8 @@ fn may_close(buf: &[u8], length: usize) -> Written
 }
 
 // Closes the partial frame in the first `length` bytes: writes the size and end words and answers the frame's length. It refuses by what is
-// wrong with the partial frame, then by 11 at the word where the end word would stand, then by 12 at place 0 where the end word doesn't fit.
+// wrong with the partial frame, then after Channel or Time bin by 11 at the word where the end word would stand, then by 12 at place 0 where the
+// end word doesn't fit. An event may be open.
 pub fn close(buf: &mut [u8], length: usize) -> Written
     ensures { λ r. ⌜ Closed (now (buf .entry)) length r (now (buf .exit)) ⌝ }
 {

@@ -5,7 +5,7 @@ ghost use Rattle.format.specs.Items.{whole};
 ghost use Rattle.format.specs.Steps.{marked, checkBy};
 ghost use Rattle.format.specs.Writing.{given};
 ghost use Rattle.format.specs.PartialSteps.{PutWrote};
-ghost use Rattle.book.specs.Fields.{endItem};
+ghost use Rattle.book.specs.Fields.{continueItem, endItem};
 ghost use Rattle.book.specs.Views.{viewItem};
 ghost use Rattle.rules.specs.Views.{viewState, viewStep};
 ghost use Rattle.writer.specs.Views.{viewPut, roomIn, answeredBy, pieceBytes, itemBytes, placed, placedLeft, lettered, Short};
@@ -15,6 +15,7 @@ use crate::stores::Piece;
 use crate::stores::piece_size;
 use crate::stores::put_letters;
 use crate::stores::put_piece;
+use book::items::ContinueEvent;
 use book::items::EndEvent;
 use book::items::Item;
 use book::items::Text;
@@ -25,6 +26,7 @@ use rules::state::State;
 use rules::steps::Step;
 use rules::steps::bin;
 use rules::steps::channel;
+use rules::steps::continue_event;
 use rules::steps::end_event;
 use rules::steps::histogram;
 use rules::steps::hit_count;
@@ -98,6 +100,7 @@ fn piece_of(item: Item) -> Piece
         Item::Text(_) => Piece::Nothing,
         Item::StartEvent(x) => Piece::Event(x.word(), x.timestamp, x.number),
         Item::EndEvent(x) => Piece::Long(EndEvent::WORD, x.size),
+        Item::ContinueEvent(x) => Piece::Long(ContinueEvent::WORD, x.number),
     }
 }
 
@@ -106,6 +109,13 @@ fn end_turn(at: usize, st: State, x: EndEvent) -> Step
     ensures { λ r. ⌜ viewStep r ≡ marked 0 (checkBy 0 at (viewState st) (whole (endItem x))) ⌝ }
 {
     end_event(at, st, x, 0, 0)
+}
+
+// The rules at a Continue event that is handed over: its content is zero, and no rule looks at its number.
+fn continue_turn(st: State, x: ContinueEvent) -> Step
+    ensures { λ r. ⌜ viewStep r ≡ marked 0 (checkBy 0 0 (viewState st) (whole (continueItem x))) ⌝ }
+{
+    continue_event(st, 0, 0)
 }
 
 // The turn that the rules take at an item; a text without its bytes breaks its rule.
@@ -123,6 +133,7 @@ fn turn_of(at: usize, card: u16, st: State, item: Item) -> Step
         Item::Text(_) => text(st, false, 0),
         Item::StartEvent(x) => start_event(at, st, x, 0),
         Item::EndEvent(x) => end_turn(at, st, x),
+        Item::ContinueEvent(x) => continue_turn(st, x),
     }
 }
 

@@ -1,5 +1,5 @@
 -- Demand 2 at the code, in the client's words: of whatever `read`, `item` and `text` answer and of any run of `begin`, `add`, `add_text` and
--- `close`, each call by its contract's promise alone (specs/Runs.antt). Each theorem is one law; what the meaning says is on the page of the crate
+-- `close`, each call by its contract's promise alone (specs/FrameCalls.antt). Each theorem is one law; what the meaning says is on the page of the crate
 -- `format`, proofs/front/Demand2.antt.
 -- Assumes nothing.
 use Prim.Native.Nat.{ℕ, suc, _<_, _≤_}

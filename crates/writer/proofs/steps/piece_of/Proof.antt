@@ -58,6 +58,9 @@ word-requires-8 c κs = search needs
 enum-known-item-9 : tie.Need-enum-known-item-9
 enum-known-item-9 c = search needs
 
+enum-known-item-10 : tie.Need-enum-known-item-10
+enum-known-item-10 c = search needs
+
 returns : tie.Need-returns
 returns c = rw (c .word .ensures, c .before .before .item .given .1)
 
@@ -88,6 +91,9 @@ returns-9 c = rw (c .word8 .ensures, c .before .before .item8 .given .1)
 returns-10 : tie.Need-returns-10
 returns-10 c = rw (c .before .item9 .given .1)
 
+returns-11 : tie.Need-returns-11
+returns-11 c = rw (c .before .item10 .given .1)
+
 pub piece-of-spec : {M : Type 1} → statement M
 piece-of-spec =
     tie.close
@@ -110,6 +116,7 @@ piece-of-spec =
     enum-known-item-8
     word-requires-8
     enum-known-item-9
+    enum-known-item-10
     returns
     returns-2
     returns-3
@@ -119,4 +126,5 @@ piece-of-spec =
     returns-7
     returns-8
     returns-9
-    returns-10)
+    returns-10
+    returns-11)

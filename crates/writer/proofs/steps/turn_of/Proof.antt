@@ -66,6 +66,12 @@ enum-known-item-9 c = search needs
 end-turn-requires : tie.Need-end-turn-requires
 end-turn-requires c κs = search needs
 
+enum-known-item-10 : tie.Need-enum-known-item-10
+enum-known-item-10 c = search needs
+
+continue-turn-requires : tie.Need-continue-turn-requires
+continue-turn-requires c κs = search needs
+
 returns : tie.Need-returns
 unfolding checkBy
 returns c = rw (c .before .before .item .given .1) (c .channel .ensures)
@@ -106,6 +112,10 @@ returns-10 : tie.Need-returns-10
 unfolding checkBy
 returns-10 c = rw (c .before .before .item9 .given .1) (c .end-turn .ensures)
 
+returns-11 : tie.Need-returns-11
+unfolding checkBy
+returns-11 c = rw (c .before .before .item10 .given .1) (c .continue-turn .ensures)
+
 pub turn-of-spec : {M : Type 1} → statement M
 turn-of-spec =
     tie.close
@@ -130,6 +140,8 @@ turn-of-spec =
     start-event-requires
     enum-known-item-9
     end-turn-requires
+    enum-known-item-10
+    continue-turn-requires
     returns
     returns-2
     returns-3
@@ -139,4 +151,5 @@ turn-of-spec =
     returns-7
     returns-8
     returns-9
-    returns-10)
+    returns-10
+    returns-11)
