@@ -2,13 +2,13 @@
  * Link libexports.a. docs/FORMAT.md has frames and records byte by byte, and an example of each refusal; documents 01 (the rules) and 02 are the
  * client's papers.
  *
- * Every call is proved to answer, and to leave in the memory lent to it, exactly what document 01 says, for all bytes and all arguments. It ends,
- * reads and writes nothing but what it is lent, and keeps nothing: no heap, no globals, so threads may call it at once, each on memory of its own.
- * Judging a record takes two arrays of 12 KByte together on the stack.
+ * Every call is proved to answer, and to leave in the memory lent to it, exactly what document 01 and the first request of document 02 (events over
+ * several frames) say, for all bytes and all arguments. It ends, reads and writes nothing but what it is lent, and keeps nothing: no heap, no
+ * globals, so threads may call it at once, each on memory of its own. Judging a record takes two arrays of 12 KByte together on the stack.
  *
  * Answers. `refused` is PLANE_ACCEPTED, 0, or the number of a refusal, with its `place`; any field that an answer does not use is 0, on a refusal all
- * but these two (a follower alone is given back). A refused call has left all lent memory as it was. A place is a word index (from 0) for 6 to 11,
- * an entry's number (from 1) for 21, else 0; the 9 of plane_begin, which has no item yet, is at 0 too.
+ * but these two (a follower or an assembler alone is given back). A refused call has left all lent memory as it was. A place is a word index (from 0)
+ * for 6 to 11, an entry's number (from 1) for 21, else 0; the 9 of plane_begin, which has no item yet, is at 0 too.
  *
  * What the caller owes. Memory is lent by a pointer and a length, in elements. Where the length is 0 the pointer may be null. Else it is
  * aligned for its elements, and all of them can be read, and written where it is not const; they take at most PTRDIFF_MAX bytes. Until the call
@@ -21,7 +21,7 @@
 #include <stdint.h>
 
 /* Raised by one where a program written for the version before has to be changed or compiled again. Header and archive are of one version. */
-#define PLANE_RECORD_VERSION 2
+#define PLANE_RECORD_VERSION 3
 
 #ifdef __cplusplus
 extern "C" {
@@ -40,10 +40,11 @@ enum plane_refusal {
     PLANE_REFUSED_PLACE = 8,      /* this class is not allowed after the item before it */
     PLANE_REFUSED_VALUE = 9,      /* a value is out of its range */
     PLANE_REFUSED_ORDER = 10,     /* times, channels, histograms or bins do not rise */
-    PLANE_REFUSED_OPEN = 11,      /* the last event has no End event */
+    PLANE_REFUSED_OPEN = 11,      /* the items end after a Channel or a Time bin */
     PLANE_REFUSED_ROOM = 12,      /* the output buffer is too short, or a frame that is written would pass 8,192 bytes */
     PLANE_REFUSED_ABSENT = 13,    /* no such item, event, channel, histogram, sample or bin */
     PLANE_REFUSED_NO_START = 14,  /* a sequence number 1 to 255 before the first 0x0100 */
+    PLANE_REFUSED_LINK = 15,      /* the frame is not one that can come next in the run: plane_take says when */
     PLANE_REFUSED_HEADER = 20,    /* buffer under 16 bytes, a header word wrong, or buffer under the total length */
     PLANE_REFUSED_ENTRY = 21,     /* a history entry doesn't fit the frame */
     PLANE_REFUSED_TARGET = 22,    /* the word index is not a Sample's or Bin's first word */
@@ -57,12 +58,13 @@ enum plane_refusal {
 static inline const char *plane_refusal_name(uint32_t number) {
     static const char *const names[] = {
         "ACCEPTED", "LENGTH", "KIND", "SIZE", "SEQUENCE", "END", "CLASS", "CUT", "PLACE", "VALUE", "ORDER", "OPEN", "ROOM", "ABSENT", "NO START",
-        "UNKNOWN", "UNKNOWN", "UNKNOWN", "UNKNOWN", "UNKNOWN", "HEADER", "ENTRY", "TARGET", "NEW VALUE", "SIGNER", "FULL", "NO ENTRY"
+        "LINK", "UNKNOWN", "UNKNOWN", "UNKNOWN", "UNKNOWN", "HEADER", "ENTRY", "TARGET", "NEW VALUE", "SIGNER", "FULL", "NO ENTRY"
     };
     return number < sizeof names / sizeof names[0] ? names[number] : "UNKNOWN";
 }
 
-/* The classes, by their rows in the word book. Frame starts and Frame end are never items. */
+/* The classes, by their numbers in the word book: 1 to 14 are document 01's rows, 15 came with document 02. Frame starts and Frame end are never
+ * items. */
 enum plane_class {
     PLANE_UNASSIGNED = 0,
     PLANE_CHANNEL = 1,
@@ -78,7 +80,8 @@ enum plane_class {
     PLANE_TEXT = 11,
     PLANE_START_EVENT = 12,
     PLANE_END_EVENT = 13,
-    PLANE_FRAME_END = 14
+    PLANE_FRAME_END = 14,
+    PLANE_CONTINUE_EVENT = 15
 };
 
 /* The kinds of frames, and of the items that an entry corrects. */
@@ -131,8 +134,8 @@ struct plane_item_fields {
     uint16_t length;     /* Text: its bytes, the final zero included */
     uint16_t kind;       /* Start event: its type */
     uint32_t count;      /* Bin */
-    uint32_t number;     /* Start event */
-    uint32_t size;       /* End event: the event's bytes */
+    uint32_t number;     /* Start event, Continue event */
+    uint32_t size;       /* End event: the event's bytes, in all frames that it stands in */
     uint64_t timestamp;  /* Start event */
 };
 
@@ -157,17 +160,20 @@ struct plane_text_part {
  * it is empty on any refusal or another class, and plane_item tells this from an empty text. */
 struct plane_text_part plane_text(const uint8_t *frame, size_t length, size_t ordinal);
 
+/* An event, or the part of one that stands in this frame. */
 struct plane_event_found {
     uint32_t refused;
     size_t place;
-    uint16_t kind; /* its type */
+    uint8_t began;      /* 1 where its Start event is in this frame; 0 where it began in another one, which has `kind` and `timestamp`, 0 here */
+    uint8_t ended;      /* 1 where its End event is in this frame; 0 where it does not end in this one, and another has `size`, 0 here */
+    uint16_t kind;      /* its type */
+    uint32_t number;    /* always there */
     uint64_t timestamp;
-    uint32_t number;
-    uint32_t size;
-    size_t index; /* the word index of its Start event */
+    uint32_t size;      /* its bytes, in all frames that it stands in */
+    size_t index;       /* the word index of its Start event, or of its Continue event where `began` is 0 */
 };
 
-/* Event `ordinal`, from 0. Refused as plane_read refuses, then by 13. */
+/* Event `ordinal`, from 0; a part that begins with a Continue event is event 0. Refused as plane_read refuses, then by 13. */
 struct plane_event_found plane_event(const uint8_t *frame, size_t length, size_t ordinal);
 
 struct plane_done {
@@ -176,7 +182,8 @@ struct plane_done {
 };
 
 /* The samples of event `ordinal`, a chip and a channel: into the first 512 words of `out`, each at its time, PLANE_NO_SAMPLE where no sample
- * stands; words beyond are untouched. Refused as plane_read refuses, then by 12 where `room` is under 512, then by 13. */
+ * stands; words beyond are untouched. Refused as plane_read refuses, then by 12 where `room` is under 512, then by 13, also for a channel of the
+ * event that stands in another frame; in a run no channel of an event stands in two. */
 struct plane_done plane_samples(const uint8_t *frame, size_t length, size_t ordinal, uint16_t chip, uint16_t channel, uint16_t *out, size_t room);
 
 /* The counts of a chip's and a channel's histogram: into the first 4,096 words of `out`, each at its bin, 0 where no bin stands; words beyond are
@@ -211,14 +218,16 @@ struct plane_written plane_begin(uint8_t *buffer, size_t room, uint16_t kind, ui
 
 /* Adds an item to the partial frame in the first `length` bytes. Refused by what is wrong with the partial frame; then, at the word where the item
  * would start, by 6 for a class that is none, and by 8, 9 or 10 by the rules (8 for a frame start or Frame end; a text is added by plane_add_text,
- * here it is 8 or 9); then by 12. Fields that the class does not have are not looked at. Each call judges the whole partial frame, so that building
- * one takes the square of its length. */
+ * here it is 8 or 9); then by 12. Fields that the class does not have are not looked at. The caller gives an End event its size: a wrong one is 9
+ * where the event's Start event is in this frame; where it began in another, any size is taken here, and plane_take judges it. Each call judges the
+ * whole partial frame, so that building one takes the square of its length. */
 struct plane_written plane_add(uint8_t *buffer, size_t room, size_t length, struct plane_item_fields item);
 
 /* Adds a text, which comes without its final zero: as plane_add. A text over 254 bytes or holding a zero is 9. */
 struct plane_written plane_add_text(uint8_t *buffer, size_t room, size_t length, const uint8_t *text, size_t text_length);
 
-/* Closes the partial frame: writes its size and its end word. Refused by what is wrong with the partial frame, then by 11, then by 12. */
+/* Closes the partial frame: writes its size and its end word. Refused by what is wrong with the partial frame, then by 11 where its last item is a
+ * Channel or a Time bin, then by 12. An event may be open: it goes on in the card's next frame. */
 struct plane_written plane_close(uint8_t *buffer, size_t room, size_t length);
 
 /* ---- sequence numbers */
@@ -238,6 +247,44 @@ struct plane_followed {
 
 /* Feeds a follower the sequence word of a frame. Refused by 4 for a word over 0x0100, by 14 for a number before a start. */
 struct plane_followed plane_follow(struct plane_follower follower, uint16_t word);
+
+/* ---- runs: the data frames of one card, one behind the other, with events that go on from frame to frame */
+
+/* What is known of a run behind the frames that were taken, one assembler for each card. All of it stands here: the caller keeps it, and may copy it
+ * or make one of any numbers. They are taken and answered by the rules below: an `open` that is not 0 is read as 1, and where it is 0 the last three
+ * are not looked at. */
+struct plane_assembler {
+    uint16_t card;                  /* the frames' card; one over 31 is no frame's, so that no frame is taken */
+    uint8_t open;                   /* 1 where an event is open, else 0, and then the last three are 0 */
+    struct plane_follower follower; /* of the run's sequence words */
+    uint32_t number;                /* the open event's number */
+    uint32_t size;                  /* its bytes so far, in all its parts, their Continue events included */
+    uint32_t key;                   /* the least key that its next Channel may have, or 0 for any: 2048 * card + 128 * chip + channel */
+};
+
+struct plane_taken {
+    uint32_t refused;
+    size_t place;
+    uint8_t lost;                /* the frames lost before this one, modulo 256; 0 where an event was open */
+    struct plane_assembler next; /* from here on; on a refusal the assembler that was given */
+};
+
+/* An assembler that has seen nothing: its follower is idle, and no event is open. */
+struct plane_assembler plane_new_assembler(uint16_t card);
+
+/* Takes the next frame of the run. Refused as plane_read refuses, then by 14 as plane_follow refuses, then by 15, at 0, for a frame that
+ * - is no data frame, or of another card;
+ * - where no event is open, begins with a Continue event;
+ * - where one is open, does not begin with a Continue event of its number; has frames lost before it; has a Channel of the event whose key is under
+ *   `key`; ends the event by another size than `size` and the bytes of its own part together; or brings these to 2^32 or more.
+ * Where no event is open a loss is only reported. A refused frame counts as one that did not come: `next` is what was given, its follower too. So the
+ * right frame can still be taken; where it does not come, plane_give_up goes on without the event. Whether the run ends inside an event is told by
+ * `next.open`. */
+struct plane_taken plane_take(struct plane_assembler assembler, const uint8_t *frame, size_t length);
+
+/* Gives up the open event, if there is one: card and follower stay, and no event is open. A frame that goes on with it is then refused by 15. Refuses
+ * nothing. */
+struct plane_assembler plane_give_up(struct plane_assembler assembler);
 
 /* ---- records: a frame and the history of its edits */
 

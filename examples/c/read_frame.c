@@ -42,7 +42,7 @@ int main(void) {
     list(frame, sizeof frame);
 
     const struct plane_event_found event = plane_event(frame, sizeof frame, 0);
-    printf("event 0: number %u size %u at word %zu\n", event.number, event.size, event.index);
+    if (event.ended) printf("event 0: number %u size %u at word %zu\n", event.number, event.size, event.index);
     uint16_t samples[PLANE_SAMPLES];
     if (!plane_samples(frame, sizeof frame, 0, 2, 10, samples, PLANE_SAMPLES).refused)
         for (size_t time = 0; time < PLANE_SAMPLES; time++)

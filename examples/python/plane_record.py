@@ -1,17 +1,19 @@
-"""Reads a frame and lists a record from Python, by ctypes and the standard library alone.
+"""Reads a frame and lists a record from Python, by ctypes and the standard library alone; frames named behind them are taken as a run.
 
     gcc -shared -o libplane_record.so -Wl,--whole-archive target/staticlib/libexports.a -Wl,--no-whole-archive
-    python3 examples/python/plane_record.py ./libplane_record.so samples/data.frame samples/plane-14.record
+    python3 examples/python/plane_record.py ./libplane_record.so samples/data.frame samples/plane-14.record samples/run-*.frame
 
 The structs are those of include/plane_record.h, field by field; a further call is declared as the ones below are. Bytes that are only read are lent
 as they are; for a call that writes, lend ctypes.create_string_buffer(n).
 """
 import ctypes
+import os
 import sys
-from ctypes import c_char_p, c_size_t, c_uint16, c_uint32, c_uint64
+from ctypes import c_char_p, c_size_t, c_uint8, c_uint16, c_uint32, c_uint64
 
 KINDS = ["?", "data", "monitor", "command"]
 CLASSES = ["?", "channel", "histogram", "hit count", "sample", "bin", "last cell", "time bin", "?", "?", "?", "text", "start event", "end event"]
+CLASSES += ["?", "continue event"]
 
 
 class Frame(ctypes.Structure):
@@ -30,6 +32,13 @@ class Found(ctypes.Structure):
     _fields_ = [("refused", c_uint32), ("place", c_size_t), ("index", c_size_t), ("next", c_size_t), ("item", Item)]
 
 
+class Event(ctypes.Structure):
+    _fields_ = (
+        [("refused", c_uint32), ("place", c_size_t), ("began", c_uint8), ("ended", c_uint8), ("kind", c_uint16), ("number", c_uint32)]
+        + [("timestamp", c_uint64), ("size", c_uint32), ("index", c_size_t)]
+    )
+
+
 class Word(ctypes.Structure):
     _fields_ = [("refused", c_uint32), ("place", c_size_t), ("word", c_size_t)]
 
@@ -45,6 +54,21 @@ class Entry(ctypes.Structure):
     )
 
 
+class Follower(ctypes.Structure):
+    _fields_ = [("expecting", c_uint8), ("number", c_uint8)]
+
+
+class Assembler(ctypes.Structure):
+    _fields_ = (
+        [("card", c_uint16), ("open", c_uint8), ("follower", Follower)]
+        + [("number", c_uint32), ("size", c_uint32), ("key", c_uint32)]
+    )
+
+
+class Taken(ctypes.Structure):
+    _fields_ = [("refused", c_uint32), ("place", c_size_t), ("lost", c_uint8), ("next", Assembler)]
+
+
 class Refused(Exception):
     """A refusal's number, and its place."""
 
@@ -53,12 +77,12 @@ class Library:
     def __init__(self, path):
         self.shared = ctypes.CDLL(path)
 
-    def call(self, name, answer, data, *numbers):
-        """Calls a function that reads `data`; its answer, or Refused."""
+    def call(self, name, answer, data, *numbers, state=()):
+        """Calls a function that reads `data`, behind a state if it takes one; its answer, or Refused."""
         function = self.shared[name]
         function.restype = answer
-        function.argtypes = [c_char_p, c_size_t] + [c_size_t] * len(numbers)
-        got = function(data, len(data), *numbers)
+        function.argtypes = [type(x) for x in state] + [c_char_p, c_size_t] + [c_size_t] * len(numbers)
+        got = function(*state, data, len(data), *numbers)
         if got.refused:
             raise Refused("refused %d at %d" % (got.refused, got.place))
         return got
@@ -69,11 +93,19 @@ class Library:
     def item(self, frame, ordinal):
         return self.call("plane_item", Found, frame, ordinal)
 
+    def event(self, frame, ordinal):
+        return self.call("plane_event", Event, frame, ordinal)
+
     def sample_word(self, frame, ordinal, chip, channel, time):
         return self.call("plane_sample_word", Word, frame, ordinal, chip, channel, time).word
 
     def bin_word(self, frame, chip, channel, number):
         return self.call("plane_bin_word", Word, frame, chip, channel, number).word
+
+    def take(self, assembler, frame):
+        """Takes the next frame of a run: how many were lost before it, and the assembler from here on. Assembler(card=5) has seen nothing."""
+        taken = self.call("plane_take", Taken, frame, state=[assembler])
+        return taken.lost, taken.next
 
     def record(self, data):
         return self.call("plane_record", Record, data)
@@ -88,13 +120,45 @@ def shown(item):
     return " ".join([CLASSES[item.item_class]] + values)
 
 
-def main(library, frame_file, record_file):
+def told(event):
+    """An event, or the part of one that stands in a frame."""
+    began = "type %d, timestamp %d" % (event.kind, event.timestamp) if event.began else "began in another frame"
+    ended = "%d bytes" % event.size if event.ended else "does not end in this frame"
+    return "event %d at word %d: %s; %s" % (event.number, event.index, began, ended)
+
+
+def events(plane, frame):
+    """The events of a frame that was accepted."""
+    for n in range(plane.read(frame).items):
+        try:
+            yield plane.event(frame, n)
+        except Refused:
+            return
+
+
+def take_all(plane, names):
+    """Takes files as the frames of one card, in their order."""
+    frames = [open(name, "rb").read() for name in names]
+    assembler = Assembler(card=plane.read(frames[0]).card)
+    for name, frame in zip(names, frames):
+        lost, assembler = plane.take(assembler, frame)
+        print("%s: lost %d" % (os.path.basename(name), lost))
+        for n in range(plane.read(frame).items)[:1]:
+            print("item 0: %s" % shown(plane.item(frame, n).item))
+        for event in events(plane, frame):
+            print(told(event))
+    print("event %d is open" % assembler.number if assembler.open else "no event is open")
+
+
+def main(library, frame_file, record_file, *run_files):
     plane = Library(library)
     frame = open(frame_file, "rb").read()
     f = plane.read(frame)
     print("%s frame of card %d, sequence word %04X, %d items" % (KINDS[f.kind], f.card, f.sequence, f.items))
     for n in range(f.items):
         print("item %d: %s" % (n, shown(plane.item(frame, n).item)))
+    for event in events(plane, frame):
+        print(told(event))
     print("the sample at time 502 of event 1, chip 0, channel 78: word %d" % plane.sample_word(frame, 1, 0, 78, 502))
     record = open(record_file, "rb").read()
     r = plane.record(record)
@@ -106,6 +170,8 @@ def main(library, frame_file, record_file):
         plane.record(record[:15])
     except Refused as refused:
         print("its first 15 bytes: %s" % refused)
+    if run_files:
+        take_all(plane, run_files)
 
 
 if __name__ == "__main__":

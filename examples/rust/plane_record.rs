@@ -10,7 +10,7 @@
 use std::fmt;
 
 /// That of the header whose layouts these are.
-pub const VERSION: u32 = 2;
+pub const VERSION: u32 = 3;
 
 /// No frame has more bytes.
 pub const MOST_FRAME: usize = 8192;
@@ -29,7 +29,7 @@ pub const MOST_ENTRIES: usize = 512;
 /// No record has more bytes, and in a buffer of so many no edit is refused by ROOM.
 pub const MOST_RECORD: usize = 16400;
 
-/// The classes of words, by their rows in the word book: what `classify` answers, and `Item::item_class`.
+/// The classes of words, by their numbers in the word book: what `classify` answers, and `Item::item_class`.
 pub mod class {
     pub const UNASSIGNED: u32 = 0;
     pub const CHANNEL: u32 = 1;
@@ -46,6 +46,7 @@ pub mod class {
     pub const START_EVENT: u32 = 12;
     pub const END_EVENT: u32 = 13;
     pub const FRAME_END: u32 = 14;
+    pub const CONTINUE_EVENT: u32 = 15;
 }
 
 /// The kinds of frames: `Frame::kind`, and what `begin` takes.
@@ -85,7 +86,7 @@ pub enum Refusal {
     Value = 9,
     /// Times, channels, histograms or bins do not rise.
     Order = 10,
-    /// The last event has no End event.
+    /// The items end after a Channel or a Time bin.
     Open = 11,
     /// The output buffer is too short, or a frame that is written would pass 8,192 bytes.
     Room = 12,
@@ -93,6 +94,8 @@ pub enum Refusal {
     Absent = 13,
     /// A sequence number 1 to 255 before the first 0x0100.
     NoStart = 14,
+    /// The frame is not one that can come next in the run: `Assembler::take` says when.
+    Link = 15,
     /// The buffer is too short for the record, or a header word is wrong.
     Header = 20,
     /// A history entry does not fit the frame.
@@ -109,7 +112,7 @@ pub enum Refusal {
     NoEntry = 26,
 }
 
-const REFUSALS: [(Refusal, &str); 21] = [
+const REFUSALS: [(Refusal, &str); 22] = [
     (Refusal::Length, "LENGTH"),
     (Refusal::Kind, "KIND"),
     (Refusal::Size, "SIZE"),
@@ -124,6 +127,7 @@ const REFUSALS: [(Refusal, &str); 21] = [
     (Refusal::Room, "ROOM"),
     (Refusal::Absent, "ABSENT"),
     (Refusal::NoStart, "NO START"),
+    (Refusal::Link, "LINK"),
     (Refusal::Header, "HEADER"),
     (Refusal::Entry, "ENTRY"),
     (Refusal::Target, "TARGET"),
@@ -212,9 +216,9 @@ pub struct Item {
     pub kind: u16,
     /// Bin.
     pub count: u32,
-    /// Start event.
+    /// Start event, Continue event.
     pub number: u32,
-    /// End event: the event's bytes.
+    /// End event: the event's bytes, in all frames that it stands in.
     pub size: u32,
     /// Start event.
     pub timestamp: u64,
@@ -228,15 +232,23 @@ pub struct Found {
     pub item: Item,
 }
 
+/// What an event's Start event tells beside its number.
 #[derive(Clone, Copy, Debug, PartialEq, Eq)]
-pub struct Event {
+pub struct Began {
     /// Its type.
     pub kind: u16,
     pub timestamp: u64,
+}
+
+/// An event, or the part of one that stands in this frame.
+#[derive(Clone, Copy, Debug, PartialEq, Eq)]
+pub struct Event {
+    /// `None` where it began in another frame, which has its type and timestamp.
+    pub began: Option<Began>,
     pub number: u32,
-    /// Its bytes.
-    pub size: u32,
-    /// The word index of its Start event.
+    /// Its bytes, in all frames that it stands in; `None` where it does not end in this one, and another has its size.
+    pub size: Option<u32>,
+    /// The word index of its Start event, or of its Continue event where it began in another frame.
     pub index: usize,
 }
 
@@ -254,6 +266,34 @@ pub struct Followed {
     pub lost: u8,
     /// The follower from here on.
     pub next: Follower,
+}
+
+/// What is known of a run, the data frames of one card one behind the other, after those that were taken. `new` makes one that has seen nothing. The
+/// fields are yours to read, to store and to set: any numbers are taken, and answered by the same rules; an `open` that is not 0 is read as 1, and
+/// where it is 0 the last three are not looked at.
+#[repr(C)]
+#[derive(Clone, Copy, Debug, PartialEq, Eq)]
+pub struct Assembler {
+    /// The frames' card. One over 31 is no frame's, so that no frame is taken.
+    pub card: u16,
+    /// 1 where an event is open, else 0, and then the last three are 0: `open_event` has number and size as an `Option`.
+    pub open: u8,
+    /// That of the run's sequence words.
+    pub follower: Follower,
+    /// The open event's number.
+    pub number: u32,
+    /// Its bytes so far, in all its parts, their Continue events included.
+    pub size: u32,
+    /// The least key that its next Channel may have, or 0 for any: 2048 * card + 128 * chip + channel.
+    pub key: u32,
+}
+
+/// An event that is open behind the frames that were taken.
+#[derive(Clone, Copy, Debug, PartialEq, Eq)]
+pub struct OpenEvent {
+    pub number: u32,
+    /// Its bytes so far, in all its parts, their Continue events included.
+    pub size: u32,
 }
 
 /// A record that was accepted.
@@ -293,7 +333,7 @@ pub struct Correction {
 
 /// The calls and answers as C has them: include/plane_record.h, field by field in the same order (tests/header/run holds them to it).
 pub mod ffi {
-    pub use super::{Correction, Follower, Item as ItemFields};
+    pub use super::{Assembler, Correction, Follower, Item as ItemFields};
 
     #[repr(C)]
     pub struct Done {
@@ -330,9 +370,11 @@ pub mod ffi {
     pub struct EventFound {
         pub refused: u32,
         pub place: usize,
+        pub began: u8,
+        pub ended: u8,
         pub kind: u16,
-        pub timestamp: u64,
         pub number: u32,
+        pub timestamp: u64,
         pub size: u32,
         pub index: usize,
     }
@@ -357,6 +399,14 @@ pub mod ffi {
         pub place: usize,
         pub lost: u8,
         pub next: Follower,
+    }
+
+    #[repr(C)]
+    pub struct Taken {
+        pub refused: u32,
+        pub place: usize,
+        pub lost: u8,
+        pub next: Assembler,
     }
 
     #[repr(C)]
@@ -435,6 +485,9 @@ pub mod ffi {
         ) -> Written;
         pub fn plane_close(buffer: *mut u8, room: usize, length: usize) -> Written;
         pub fn plane_follow(follower: Follower, word: u16) -> Followed;
+        pub fn plane_new_assembler(card: u16) -> Assembler;
+        pub fn plane_take(assembler: Assembler, frame: *const u8, length: usize) -> Taken;
+        pub fn plane_give_up(assembler: Assembler) -> Assembler;
         pub fn plane_record(buffer: *const u8, room: usize) -> RecordFound;
         pub fn plane_entry(buffer: *const u8, room: usize, number: usize) -> EntryFound;
         pub fn plane_open(buffer: *mut u8, room: usize, frame: *const u8, length: usize) -> Done;
@@ -464,7 +517,7 @@ pub fn classify(word: u16) -> u32 {
 }
 
 /// Whether the bytes are a frame: its first words and how many items it has. Refused by 1 to 5 for the whole, by 6 to 10 at the first faulty item,
-/// by 11 where the last event has no End event.
+/// by 11 where the last item is a Channel or a Time bin.
 pub fn read(frame: &[u8]) -> Answer<Frame> {
     let r = unsafe { ffi::plane_read(frame.as_ptr(), frame.len()) };
     let ffi::Frame { kind, card, sequence, items, .. } = r;
@@ -484,15 +537,17 @@ pub fn text(frame: &[u8], ordinal: usize) -> &[u8] {
     &frame[part.offset..part.offset + part.length]
 }
 
-/// Event `ordinal`, from 0. Refused as `read` refuses, then by 13.
+/// Event `ordinal`, from 0; a part that begins with a Continue event is event 0. Refused as `read` refuses, then by 13.
 pub fn event(frame: &[u8], ordinal: usize) -> Answer<Event> {
     let r = unsafe { ffi::plane_event(frame.as_ptr(), frame.len(), ordinal) };
-    let ffi::EventFound { kind, timestamp, number, size, index, .. } = r;
-    answer(r.refused, r.place, Event { kind, timestamp, number, size, index })
+    let began = (r.began != 0).then_some(Began { kind: r.kind, timestamp: r.timestamp });
+    let size = (r.ended != 0).then_some(r.size);
+    answer(r.refused, r.place, Event { began, number: r.number, size, index: r.index })
 }
 
 /// The samples of event `ordinal`, a chip and a channel: into the first 512 words of `out`, each at its time, `NO_SAMPLE` where none stands; words
-/// beyond are untouched. Refused as `read` refuses, then by 12 where `out` has under 512 words, then by 13.
+/// beyond are untouched. Refused as `read` refuses, then by 12 where `out` has under 512 words, then by 13, also for a channel of the event that
+/// stands in another frame; in a run no channel of an event stands in two.
 pub fn samples(
     frame: &[u8],
     ordinal: usize,
@@ -550,7 +605,8 @@ pub fn begin(buffer: &mut [u8], kind: u16, card: u16, sequence: u16) -> Answer<u
 
 /// Adds an item to the partial frame in the first `length` bytes; the new length. Refused by what is wrong with the partial frame; then, at the word
 /// where the item would start, by 6 for a class that is none, and by 8, 9 or 10 by the rules (8 for a frame start or Frame end; a text is added by
-/// `add_text`, here it is 8 or 9); then by 12. Each call judges the whole partial frame.
+/// `add_text`, here it is 8 or 9); then by 12. The caller gives an End event its size: a wrong one is 9 where the event's Start event is in this
+/// frame; where it began in another, any size is taken here, and `Assembler::take` judges it. Each call judges the whole partial frame.
 pub fn add(buffer: &mut [u8], length: usize, item: Item) -> Answer<usize> {
     written(unsafe { ffi::plane_add(buffer.as_mut_ptr(), buffer.len(), length, item) })
 }
@@ -563,8 +619,8 @@ pub fn add_text(buffer: &mut [u8], length: usize, text: &[u8]) -> Answer<usize> 
     })
 }
 
-/// Closes the partial frame: writes its size and its end word; the frame's length. Refused by what is wrong with the partial frame, then by 11, then
-/// by 12 where the end word does not fit.
+/// Closes the partial frame: writes its size and its end word; the frame's length. Refused by what is wrong with the partial frame, then by 11 where
+/// its last item is a Channel or a Time bin, then by 12 where the end word does not fit. An event may be open: it goes on in the card's next frame.
 pub fn close(buffer: &mut [u8], length: usize) -> Answer<usize> {
     written(unsafe { ffi::plane_close(buffer.as_mut_ptr(), buffer.len(), length) })
 }
@@ -574,6 +630,40 @@ pub fn close(buffer: &mut [u8], length: usize) -> Answer<usize> {
 pub fn follow(follower: Follower, word: u16) -> Answer<Followed> {
     let r = unsafe { ffi::plane_follow(follower, word) };
     answer(r.refused, r.place, Followed { lost: r.lost, next: r.next })
+}
+
+impl Assembler {
+    /// An assembler that has seen nothing: its follower is idle, and no event is open. Refuses nothing.
+    pub fn new(card: u16) -> Assembler {
+        unsafe { ffi::plane_new_assembler(card) }
+    }
+
+    /// Takes the next frame of the run; how many were lost before it, modulo 256. Refused as `read` refuses, then by 14 as `follow` refuses, then by
+    /// 15, at 0, for a frame that
+    /// - is no data frame, or of another card;
+    /// - where no event is open, begins with a Continue event;
+    /// - where one is open, does not begin with a Continue event of its number; has frames lost before it; has a Channel of the event whose key is
+    ///   under `key`; ends the event by another size than `size` and the bytes of its own part together; or brings these to 2^32 or more.
+    ///
+    /// Where no event is open a loss is only reported. A refused frame counts as one that did not come, and leaves the assembler as it was. So the
+    /// right frame can still be taken; where it does not come, `give_up` goes on without the event.
+    pub fn take(&mut self, frame: &[u8]) -> Answer<u8> {
+        let r = unsafe { ffi::plane_take(*self, frame.as_ptr(), frame.len()) };
+        let lost = answer(r.refused, r.place, r.lost)?;
+        *self = r.next;
+        Ok(lost)
+    }
+
+    /// Gives up the open event, if there is one: card and follower stay, and no event is open. A frame that goes on with it is then refused by 15.
+    /// Refuses nothing.
+    pub fn give_up(&mut self) {
+        *self = unsafe { ffi::plane_give_up(*self) };
+    }
+
+    /// The event that is open.
+    pub fn open_event(&self) -> Option<OpenEvent> {
+        (self.open != 0).then_some(OpenEvent { number: self.number, size: self.size })
+    }
 }
 
 /// Whether a buffer begins with a record. Refused by 20, then as `read` refuses its frame, then by 21 at the newest entry that does not fit.

@@ -43,7 +43,9 @@ fn main() -> Answer<()> {
     list(&frame)?;
 
     let e = event(&frame, 0)?;
-    println!("event 0: number {} size {} at word {}", e.number, e.size, e.index);
+    if let Some(size) = e.size {
+        println!("event 0: number {} size {size} at word {}", e.number, e.index);
+    }
     let mut out = [0; SAMPLES];
     samples(&frame, 0, 2, 10, &mut out)?;
     for (time, value) in out.iter().enumerate().filter(|(_, value)| **value != NO_SAMPLE) {

@@ -32,6 +32,7 @@ int main(void) {
     wants("add behind 6 bytes", plane_add(NULL, 0, 6, sample).refused, PLANE_REFUSED_LENGTH);
     wants("add text", plane_add_text(NULL, 0, 6, NULL, 0).refused, PLANE_REFUSED_LENGTH);
     wants("close", plane_close(NULL, 0, 6).refused, PLANE_REFUSED_LENGTH);
+    wants("take", plane_take(plane_new_assembler(5), NULL, 0).refused, PLANE_REFUSED_LENGTH);
     wants("record", plane_record(NULL, 0).refused, PLANE_REFUSED_HEADER);
     wants("entry", plane_entry(NULL, 0, 1).refused, PLANE_REFUSED_HEADER);
     wants("open", plane_open(NULL, 0, NULL, 0).refused, PLANE_REFUSED_LENGTH);

@@ -2,7 +2,7 @@
 #include "plane_record.h"
 #include "plane_record.h"
 
-#if PLANE_RECORD_VERSION != 2
+#if PLANE_RECORD_VERSION != 3
 #error "the version is not the one that this test was written for"
 #endif
 
@@ -33,7 +33,8 @@ int use_reading(const uint8_t *frame, size_t length, uint16_t *samples, uint32_t
     const ENUM plane_sizes first = PLANE_FIRST_ITEM;
     return accepted(f.refused, f.place) && f.kind == kind && accepted(found.refused, found.place) && item.item_class == item_class &&
            found.index == (size_t)first && found.next > found.index && accepted(sample.refused, sample.place) && accepted(bin.refused, bin.place) &&
-           sample.word < bin.word && text.offset + text.length <= length && accepted(event.refused, event.place) &&
+           sample.word < bin.word && text.offset + text.length <= length && accepted(event.refused, event.place) && event.began && event.ended &&
+           event.kind < 16 && event.timestamp >> 48 == 0 && event.number == item.number && event.size <= length && event.index == found.index &&
            accepted(sampled.refused, sampled.place) && samples[0] != PLANE_NO_SAMPLE && accepted(counted.refused, counted.place) &&
            plane_classify(0x0100) == PLANE_TEXT;
 }
@@ -48,6 +49,21 @@ int use_writing(uint8_t *buffer, size_t room, const uint8_t *text, size_t text_l
     const STRUCT plane_followed followed = plane_follow(follower, 0x0100);
     follower = followed.next;
     return accepted(closed.refused, closed.place) && follower.expecting && follower.number == 1 && followed.lost == 0;
+}
+
+int use_runs(const uint8_t *frame, size_t length);
+int use_runs(const uint8_t *frame, size_t length) {
+    const STRUCT plane_assembler idle = { 5, 0, { 0, 0 }, 0, 0, 0 };
+    STRUCT plane_assembler assembler = plane_new_assembler(5);
+    const STRUCT plane_taken taken = plane_take(assembler, frame, length);
+    const STRUCT plane_found found = plane_item(frame, length, 0);
+    const ENUM plane_class continues = PLANE_CONTINUE_EVENT;
+    const ENUM plane_refusal refusal = PLANE_REFUSED_LINK;
+    if (taken.refused == (uint32_t)refusal && found.item.item_class == (uint32_t)continues) return 0;
+    assembler = plane_give_up(taken.next);
+    return accepted(taken.refused, taken.place) && taken.lost == 0 && taken.next.open && taken.next.number == found.item.number &&
+           taken.next.size <= length && taken.next.key >= 2048 * 5 && taken.next.follower.number == 1 && assembler.card == idle.card &&
+           !assembler.open && assembler.follower.expecting && assembler.number == idle.number && assembler.size == 0 && assembler.key == 0;
 }
 
 int use_records(uint8_t *buffer, const uint8_t *frame, size_t length, uint8_t *out);

@@ -10,7 +10,7 @@ use native.Mathlib.Omega.{arith}
 use lib.Dec.{leb}
 use Rattle.format.specs.Words.{Bytes, pick}
 use Rattle.format.specs.Answers.{Outcome, accepted, refused, andThen}
-use Rattle.format.specs.Book.{Class, channel, histogram, hitCount, sample, bin, lastCell, timeBin, dataFrame, monitorFrame, commandFrame, text, startEvent, endEvent, frameEnd, unassigned, classAt}
+use Rattle.format.specs.Book.{Class, channel, histogram, hitCount, sample, bin, lastCell, timeBin, dataFrame, monitorFrame, commandFrame, text, startEvent, continueEvent, endEvent, frameEnd, unassigned, classAt}
 use Rattle.format.specs.Items.{Item, Text, Token, whole, flawed}
 use Rattle.format.specs.Rules.{Kind, check}
 use Rattle.format.specs.Frames.{verdict}
@@ -20,6 +20,8 @@ use Rattle.format.specs.Writing.{partialVerdict, addAnswer, closeAnswer}
 use Rattle.format.specs.WriterCases.{oneOf, handed}
 use Rattle.format.proofs.front.Refusals.{places}
 use Rattle.format.proofs.front.Writing.{partial-list, begin-list, add-list, close-list}
+use Rattle.runs.specs.Assembly.{Assembler, take}
+use Rattle.runs.proofs.front.Runs.{take-list}
 use Rattle.ledger.specs.Calls.{recordAnswer, entryAnswer, openAnswer, editAnswer, restoreAnswer}
 use Rattle.ledger.specs.VersionOne.{versionOne}
 use Rattle.ledger.specs.PlaneFrames.{planeFrames, plane-frames-judge}
@@ -70,6 +72,9 @@ module _ (s : List ℕ) (bs : Bytes s) where
   pub read-numbered : Numbered (readOf s)
   unfolding readOf
   read-numbered = numbered-then (verdict s) _ verdict-numbered (λ f. granted _)
+
+  pub take-numbered : (a : Assembler) → Numbered (take a s)
+  take-numbered a = record { least = λ n p e. ⊎-elim (λ h. h .least) (λ h. ⊎-elim (λ i. omega arith) (λ i. omega arith) (h .0)) (take-list a s bs n p e) }
 
   nth-numbered : (n at : ℕ) (xs : List Item) → Numbered (nth n at xs)
   unfolding nth
@@ -136,6 +141,7 @@ sayable x text = inl refl
 sayable x startEvent = inl refl
 sayable x endEvent = inl refl
 sayable x frameEnd = inr (8, refl, omega arith)
+sayable x continueEvent = inl refl
 sayable x unassigned = inr (6, refl, omega arith)
 
 module _ (buf : List ℕ) (bs : Bytes buf) (n : ℕ) where

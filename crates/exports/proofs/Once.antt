@@ -8,6 +8,7 @@ use Rattle.format.specs.Book.{classOf, rowOf}
 use Rattle.format.specs.Steps.{readOf}
 use Rattle.format.specs.Questions.{shownAt, eventAt, sampleWordAt, binWordAt}
 use Rattle.follower.specs.Follow.{follow}
+use Rattle.runs.specs.Assembly.{new, take, giveUp}
 use Rattle.ledger.specs.Formats.{Correction}
 use Rattle.ledger.specs.Calls.{recordAnswer, entryAnswer}
 use Rattle.ledger.specs.VersionOne.{versionOne}
@@ -22,12 +23,14 @@ use Rattle.exports.specs.declared.answers.PlaneWord.{PlaneWord}
 use Rattle.exports.specs.declared.answers.PlaneText.{PlaneText}
 use Rattle.exports.specs.declared.answers.PlaneFollower.{PlaneFollower}
 use Rattle.exports.specs.declared.answers.PlaneFollowed.{PlaneFollowed}
+use Rattle.exports.specs.declared.answers.PlaneAssembler.{PlaneAssembler}
+use Rattle.exports.specs.declared.answers.PlaneTaken.{PlaneTaken}
 use Rattle.exports.specs.declared.answers.PlaneRecord.{PlaneRecord}
 use Rattle.exports.specs.declared.answers.PlaneEntry.{PlaneEntry}
 use Rattle.exports.specs.declared.answers.PlaneWritten.{PlaneWritten}
-use Rattle.exports.specs.Flat.{flatFrame, flatFound, flatEvent, flatWord, flatFollowed, flatRecord, flatEntry}
-use Rattle.exports.specs.Given.{followerOf}
-use Rattle.exports.specs.Promises.{ClassNumbered, FrameTold, ItemTold, TextPart, EventTold, SampleWordTold, BinWordTold, FollowTold, RecordTold, EntryTold, Leaves, Sampled, Counted, Begun, Added, AddedText, Closed, Opened, Edited, Restored}
+use Rattle.exports.specs.Flat.{flatFrame, flatFound, flatEvent, flatWord, flatFollowed, flatAssembler, flatTaken, flatRecord, flatEntry}
+use Rattle.exports.specs.Given.{followerOf, assemblerOf}
+use Rattle.exports.specs.Promises.{ClassNumbered, FrameTold, ItemTold, TextPart, EventTold, SampleWordTold, BinWordTold, FollowTold, AssemblerMade, TakeTold, GivenUpTold, RecordTold, EntryTold, Leaves, Sampled, Counted, Begun, Added, AddedText, Closed, Opened, Edited, Restored}
 
 -- ---- an answer alone
 
@@ -57,6 +60,15 @@ bin-word-once s chip c b = equal-once (flatWord (binWordAt s chip c b))
 
 pub follow-once : (x : PlaneFollower) (word : ℕ) (r q : PlaneFollowed) → FollowTold x word r → FollowTold x word q → r ≡ q
 follow-once x word = equal-once (flatFollowed x (follow (followerOf x) word))
+
+pub new-assembler-once : (card : ℕ) (r q : PlaneAssembler) → AssemblerMade card r → AssemblerMade card q → r ≡ q
+new-assembler-once card = equal-once (flatAssembler (new card))
+
+pub take-once : (x : PlaneAssembler) (s : List ℕ) (r q : PlaneTaken) → TakeTold x s r → TakeTold x s q → r ≡ q
+take-once x s = equal-once (flatTaken x (take (assemblerOf x) s))
+
+pub give-up-once : (x r q : PlaneAssembler) → GivenUpTold x r → GivenUpTold x q → r ≡ q
+give-up-once x = equal-once (flatAssembler (giveUp (assemblerOf x)))
 
 pub record-once : (b : List ℕ) (r q : PlaneRecord) → RecordTold b r → RecordTold b q → r ≡ q
 record-once b = equal-once (flatRecord (recordAnswer planeFrames versionOne b))

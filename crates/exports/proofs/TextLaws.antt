@@ -7,7 +7,7 @@ use native.Mathlib.Omega.{arith}
 use lib.ListN.{length, take, drop, length-take, length-drop}
 use Rattle.format.specs.Words.{Bytes}
 use Rattle.format.specs.Answers.{Outcome, accepted, refused}
-use Rattle.format.specs.Items.{ItemOf, Channel, Histogram, HitCount, Sample, Bin, LastCell, TimeBin, Text, StartEvent, EndEvent}
+use Rattle.format.specs.Items.{ItemOf, Channel, Histogram, HitCount, Sample, Bin, LastCell, TimeBin, Text, StartEvent, ContinueEvent, EndEvent}
 use Rattle.format.specs.Questions.{IndexedShown, shownAt, textAt}
 use Rattle.frame.specs.Parts.{textCount, textFrom}
 use Rattle.frame.proofs.Finding.{Empty, text-refused, text-none, text-part}
@@ -26,6 +26,7 @@ length-is (LastCell a b) = refl
 length-is (TimeBin t) = refl
 length-is (Text n) = refl
 length-is (StartEvent t ts n) = refl
+length-is (ContinueEvent n) = refl
 length-is (EndEvent n) = refl
 
 module _ (s : List ℕ) (n : ℕ) where

@@ -4,7 +4,7 @@ use Prim.Native.Nat.{ℕ, _≤_}
 use mathlib.Core.Path.{_≡_, refl, sym, ap, ap₂, _∙_}
 use mathlib.Core.Logic.{_↔_}
 use mathlib.Core.List.{[], _∷_}
-use mathlib.Core.Option.{some}
+use mathlib.Core.Option.{Option, none, some}
 use native.Mathlib.Omega.{arith}
 use lib.Dec.{eqb}
 use lib.ListN.{getD}
@@ -12,20 +12,23 @@ use Rattle.format.specs.Words.{pick}
 use Rattle.format.specs.Answers.{Outcome, accepted, refused, andThen}
 use Rattle.format.specs.Book.{Class, rowOf, classAt}
 use Rattle.format.proofs.front.Book.{book-row-stands}
-use Rattle.format.specs.Items.{ItemOf, Channel, Histogram, HitCount, Sample, Bin, LastCell, TimeBin, Text, StartEvent, EndEvent}
+use Rattle.format.specs.Items.{ItemOf, Channel, Histogram, HitCount, Sample, Bin, LastCell, TimeBin, Text, StartEvent, ContinueEvent, EndEvent}
 use Rattle.format.specs.Rules.{Kind, dataKind, monitorKind, commandKind}
-use Rattle.format.specs.Questions.{IndexedShown}
+use Rattle.format.specs.Questions.{IndexedShown, Began, Event}
 use Rattle.format.specs.Writing.{given}
 use Rattle.follower.specs.Follow as follow
+use Rattle.runs.specs.Assembly.{Open, Assembler, Taken, after}
 use Rattle.ledger.specs.Formats.{Correction}
 use Rattle.book.proofs.Unique.{undone}
 use Rattle.exports.specs.declared.answers.PlaneFrame.{PlaneFrame}
 use Rattle.exports.specs.declared.answers.PlaneItem.{PlaneItem}
 use Rattle.exports.specs.declared.answers.PlaneFound.{PlaneFound}
+use Rattle.exports.specs.declared.answers.PlaneEvent.{PlaneEvent}
 use Rattle.exports.specs.declared.answers.PlaneFollower.{PlaneFollower}
+use Rattle.exports.specs.declared.answers.PlaneAssembler.{PlaneAssembler}
 use Rattle.exports.specs.declared.answers.PlaneCorrection.{PlaneCorrection}
-use Rattle.exports.specs.Flat.{kindNumber, flatDone, flatFrame, flatItem, flatFound, flatEvent, flatWord, flatWritten, flatFollower, flatFollowed, flatRecord, flatEntry}
-use Rattle.exports.specs.Given.{asked, followerOf, kindOf, tokenOf}
+use Rattle.exports.specs.Flat.{kindNumber, flatDone, flatFrame, flatItem, flatFound, isThere, kindTold, timestampTold, sizeTold, flatEvent, flatWord, flatWritten, flatFollower, flatFollowed, flatAssemblerBy, flatAssembler, flatTaken, flatRecord, flatEntry}
+use Rattle.exports.specs.Given.{asked, followerOf, currentOf, assemblerOf, kindOf, tokenOf}
 use Rattle.exports.specs.FlatTells.{Numbered, Tells, FrameSeen, seenFrame, seenEntry}
 
 -- ---- numbers of classes and kinds
@@ -69,6 +72,8 @@ itemBack x =
     ∷ Text (x .length)
     ∷ StartEvent (x .kind) (x .timestamp) (x .number)
     ∷ EndEvent (x .size)
+    ∷ Sample 0
+    ∷ ContinueEvent (x .number)
     ∷ [])
     (x .«item_class»)
     (Sample 0)
@@ -84,6 +89,7 @@ item-back (LastCell a b) = refl
 item-back (TimeBin t) = refl
 item-back (Text n) = refl
 item-back (StartEvent t ts n) = refl
+item-back (ContinueEvent n) = refl
 item-back (EndEvent n) = refl
 
 pub same-item : (x y : ItemOf ℕ) → flatItem x ≡ flatItem y → x ≡ y
@@ -101,6 +107,7 @@ handed-back (LastCell a b) = refl
 handed-back (TimeBin t) = refl
 handed-back (Text n) = refl
 handed-back (StartEvent t ts n) = refl
+handed-back (ContinueEvent n) = refl
 handed-back (EndEvent n) = refl
 
 -- ---- answers: any flat form that tells its answer
@@ -163,9 +170,34 @@ found-tells = record {
   places = λ n p. refl;
 }
 
-pub event-tells : Tells (λ x. x) flatEvent (λ r. r .refused) (λ r. r .place) (λ r. record { kind = r .kind; timestamp = r .timestamp; number = r .number; size = r .size; index = r .index })
+-- what is there, by its flag
+abbrev thereBy : {A : Type 0} → ℕ → A → Option A
+thereBy n a = pick (eqb n 0) none (some a)
+
+began-back : (o : Option Began) → thereBy (isThere o) (record { kind = kindTold o; timestamp = timestampTold o }) ≡ o
+began-back none = refl
+began-back (some b) = refl
+
+size-back : (o : Option ℕ) → thereBy (isThere o) (sizeTold o) ≡ o
+size-back none = refl
+size-back (some z) = refl
+
+abbrev eventContent : PlaneEvent → Event
+eventContent r = record {
+  began = thereBy (r .began) (record { kind = r .kind; timestamp = r .timestamp });
+  number = r .number;
+  size = thereBy (r .ended) (r .size);
+  index = r .index;
+}
+
+pub event-tells : Tells (λ x. x) flatEvent (λ r. r .refused) (λ r. r .place) eventContent
 unfolding flatEvent
-event-tells = record { accepts = λ a. refl; contains = λ a. refl; numbers = λ n p. refl; places = λ n p. refl }
+event-tells = record {
+  accepts = λ a. refl;
+  contains = λ a. (λ i. record { began = began-back (a .began) i; number = a .number; size = size-back (a .size) i; index = a .index });
+  numbers = λ n p. refl;
+  places = λ n p. refl;
+}
 
 pub word-tells : Tells (λ x. x) flatWord (λ r. r .refused) (λ r. r .place) (λ r. r .word)
 unfolding flatWord
@@ -200,3 +232,33 @@ pub follows-on : (x : PlaneFollower) (a : follow.Answer) → followerOf (flatFol
 unfolding flatFollowed
 follows-on x (follow.accepted lost next) = follower-back next
 follows-on x (follow.refused n p) = refl
+
+-- ---- the assembler: the one answered goes on where the one given left off, and on a refusal stays as it was
+
+current-back : (card : ℕ) (f : PlaneFollower) (o : Option Open) → currentOf (flatAssemblerBy card f o) ≡ o
+current-back card f none = refl
+current-back card f (some o) = refl
+
+fields-kept : (card : ℕ) (f : PlaneFollower) (o : Option Open) → (flatAssemblerBy card f o .card ≡ card) × (flatAssemblerBy card f o .follower ≡ f)
+fields-kept card f none = (refl, refl)
+fields-kept card f (some o) = (refl, refl)
+
+assembler-back : (a : Assembler) → assemblerOf (flatAssembler a) ≡ a
+unfolding flatAssembler
+assembler-back a =
+    let (c, f) = fields-kept (a .card) (flatFollower (a .follower)) (a .event) in
+    let g = ap followerOf f ∙ follower-back (a .follower) in
+    let o = current-back (a .card) (flatFollower (a .follower)) (a .event) in
+    λ i. record { card = c i; follower = g i; event = o i }
+
+pub same-assembler : (a b : Assembler) → flatAssembler a ≡ flatAssembler b → a ≡ b
+same-assembler = undone flatAssembler assemblerOf assembler-back
+
+pub takes-on : (x : PlaneAssembler) (o : Outcome Taken) → assemblerOf (flatTaken x o .next) ≡ after (assemblerOf x) o
+unfolding flatTaken
+takes-on x (accepted t) = assembler-back (t .next)
+takes-on x (refused n p) = refl
+
+pub taken-tells : (x : PlaneAssembler) → Tells (λ t. t) (flatTaken x) (λ r. r .refused) (λ r. r .place) (λ r. record { lost = r .lost; next = assemblerOf (r .next) })
+unfolding flatTaken
+taken-tells x = record { accepts = λ a. refl; contains = λ a. (λ i. record { lost = a .lost; next = assembler-back (a .next) i }); numbers = λ n p. refl; places = λ n p. refl }

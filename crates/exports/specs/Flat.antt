@@ -2,15 +2,17 @@
 -- its place; what an answer does not use is 0.
 -- Assumes nothing.
 use Prim.Native.Nat.{ℕ}
+use mathlib.Core.Option.{Option, none, some}
 use Rattle.format.specs.Answers as answers
 use Rattle.format.specs.Answers.{Outcome}
 use Rattle.format.specs.Book as book
 use Rattle.format.specs.Book.{rowOf}
-use Rattle.format.specs.Items.{ItemOf, Channel, Histogram, HitCount, Sample, Bin, LastCell, TimeBin, Text, StartEvent, EndEvent}
+use Rattle.format.specs.Items.{ItemOf, Channel, Histogram, HitCount, Sample, Bin, LastCell, TimeBin, Text, StartEvent, ContinueEvent, EndEvent}
 use Rattle.format.specs.Rules.{Kind, dataKind, monitorKind, commandKind}
 use Rattle.format.specs.Steps.{Overview}
-use Rattle.format.specs.Questions.{IndexedShown, Event}
+use Rattle.format.specs.Questions.{IndexedShown, Began, Event}
 use Rattle.follower.specs.Follow as follow
+use Rattle.runs.specs.Assembly.{Open, Assembler, Taken}
 use Rattle.ledger.specs.Formats as formats
 use Rattle.ledger.specs.Calls.{Summary}
 use Rattle.exports.specs.declared.answers.PlaneDone.{PlaneDone}
@@ -22,6 +24,8 @@ use Rattle.exports.specs.declared.answers.PlaneWord.{PlaneWord}
 use Rattle.exports.specs.declared.answers.PlaneWritten.{PlaneWritten}
 use Rattle.exports.specs.declared.answers.PlaneFollower.{PlaneFollower}
 use Rattle.exports.specs.declared.answers.PlaneFollowed.{PlaneFollowed}
+use Rattle.exports.specs.declared.answers.PlaneAssembler.{PlaneAssembler}
+use Rattle.exports.specs.declared.answers.PlaneTaken.{PlaneTaken}
 use Rattle.exports.specs.declared.answers.PlaneRecord.{PlaneRecord}
 use Rattle.exports.specs.declared.answers.PlaneEntry.{PlaneEntry}
 
@@ -72,15 +76,43 @@ flatItem (LastCell b c) = row (rowOf book.lastCell) 0 b 0 0 0 0 c 0 0 0 0 0 0 0
 flatItem (TimeBin t) = row (rowOf book.timeBin) 0 0 0 0 0 0 0 t 0 0 0 0 0 0
 flatItem (Text n) = row (rowOf book.text) 0 0 0 0 0 0 0 0 n 0 0 0 0 0
 flatItem (StartEvent k ts n) = row (rowOf book.startEvent) 0 0 0 0 0 0 0 0 0 k 0 n 0 ts
+flatItem (ContinueEvent n) = row (rowOf book.continueEvent) 0 0 0 0 0 0 0 0 0 0 0 n 0 0
 flatItem (EndEvent n) = row (rowOf book.endEvent) 0 0 0 0 0 0 0 0 0 0 0 0 n 0
 
 unfoldable pub flatFound : Outcome IndexedShown → PlaneFound
 flatFound (answers.accepted x) = record { refused = 0; place = 0; index = x .index; next = x .next; item = flatItem (x .item) }
 flatFound (answers.refused n p) = record { refused = n; place = p; index = 0; next = 0; item = blank (rowOf book.unassigned) }
 
+-- 1 for what is there, 0 for what is missing; and what is missing is 0 in its fields
+abbrev pub isThere : {A : Type 0} → Option A → ℕ
+isThere none = 0
+isThere (some a) = 1
+
+abbrev pub kindTold : Option Began → ℕ
+kindTold none = 0
+kindTold (some b) = b .kind
+
+abbrev pub timestampTold : Option Began → ℕ
+timestampTold none = 0
+timestampTold (some b) = b .timestamp
+
+abbrev pub sizeTold : Option ℕ → ℕ
+sizeTold none = 0
+sizeTold (some z) = z
+
 unfoldable pub flatEvent : Outcome Event → PlaneEvent
-flatEvent (answers.accepted v) = record { refused = 0; place = 0; kind = v .kind; timestamp = v .timestamp; number = v .number; size = v .size; index = v .index }
-flatEvent (answers.refused n p) = record { refused = n; place = p; kind = 0; timestamp = 0; number = 0; size = 0; index = 0 }
+flatEvent (answers.accepted v) = record {
+  refused = 0;
+  place = 0;
+  began = isThere (v .began);
+  ended = isThere (v .size);
+  kind = kindTold (v .began);
+  number = v .number;
+  timestamp = timestampTold (v .began);
+  size = sizeTold (v .size);
+  index = v .index;
+}
+flatEvent (answers.refused n p) = record { refused = n; place = p; began = 0; ended = 0; kind = 0; number = 0; timestamp = 0; size = 0; index = 0 }
 
 unfoldable pub flatWord : Outcome ℕ → PlaneWord
 flatWord (answers.accepted w) = record { refused = 0; place = 0; word = w }
@@ -98,6 +130,18 @@ flatFollower (follow.expecting e) = record { expecting = 1; number = e }
 unfoldable pub flatFollowed : PlaneFollower → follow.Answer → PlaneFollowed
 flatFollowed given (follow.accepted lost next) = record { refused = 0; place = 0; lost = lost; next = flatFollower next }
 flatFollowed given (follow.refused n p) = record { refused = n; place = p; lost = 0; next = given }
+
+abbrev pub flatAssemblerBy : ℕ → PlaneFollower → Option Open → PlaneAssembler
+flatAssemblerBy card follower none = record { card = card; «open» = 0; follower = follower; number = 0; size = 0; key = 0 }
+flatAssemblerBy card follower (some o) = record { card = card; «open» = 1; follower = follower; number = o .number; size = o .size; key = o .key }
+
+unfoldable pub flatAssembler : Assembler → PlaneAssembler
+flatAssembler a = flatAssemblerBy (a .card) (flatFollower (a .follower)) (a .event)
+
+-- "the assembler is unchanged": the one that was given
+unfoldable pub flatTaken : PlaneAssembler → Outcome Taken → PlaneTaken
+flatTaken given (answers.accepted t) = record { refused = 0; place = 0; lost = t .lost; next = flatAssembler (t .next) }
+flatTaken given (answers.refused n p) = record { refused = n; place = p; lost = 0; next = given }
 
 unfoldable pub flatRecord : Outcome Summary → PlaneRecord
 flatRecord (answers.accepted x) = record { refused = 0; place = 0; length = x .length; count = x .count; total = x .total }

@@ -1,4 +1,4 @@
--- What is handed to the exports flat: what an edit asks, a follower, the kind of a frame, an item.
+-- What is handed to the exports flat: what an edit asks, a follower, an assembler, the kind of a frame, an item.
 -- Assumes nothing.
 use Prim.Native.Nat.{ℕ}
 use mathlib.Core.List.{List, []}
@@ -6,16 +6,18 @@ use mathlib.Core.Option.{Option, none, some}
 use lib.Dec.{eqb}
 use Rattle.format.specs.Words.{pick}
 use Rattle.format.specs.Answers.{Outcome, refused}
-use Rattle.format.specs.Book.{Class, channel, histogram, hitCount, sample, bin, lastCell, timeBin, dataFrame, monitorFrame, commandFrame, text, startEvent, endEvent, frameEnd, unassigned, classAt}
-use Rattle.format.specs.Items.{Channel, Histogram, HitCount, Sample, Bin, LastCell, TimeBin, Text, StartEvent, EndEvent, Token, flawed}
+use Rattle.format.specs.Book.{Class, channel, histogram, hitCount, sample, bin, lastCell, timeBin, dataFrame, monitorFrame, commandFrame, text, startEvent, continueEvent, endEvent, frameEnd, unassigned, classAt}
+use Rattle.format.specs.Items.{Channel, Histogram, HitCount, Sample, Bin, LastCell, TimeBin, Text, StartEvent, ContinueEvent, EndEvent, Token, flawed}
 use Rattle.format.specs.Rules.{Kind, dataKind, monitorKind, commandKind}
 use Rattle.format.specs.Writing as writing
 use Rattle.format.specs.Writing.{beginAnswer, beginLeft}
 use Rattle.follower.specs.Follow.{State, idle, expecting}
+use Rattle.runs.specs.Assembly.{Open, Assembler}
 use Rattle.ledger.specs.Formats.{Correction}
 use Rattle.book.specs.Views.{viewItem}
 use Rattle.exports.specs.declared.answers.PlaneItem.{PlaneItem}
 use Rattle.exports.specs.declared.answers.PlaneFollower.{PlaneFollower}
+use Rattle.exports.specs.declared.answers.PlaneAssembler.{PlaneAssembler}
 use Rattle.exports.specs.declared.answers.PlaneCorrection.{PlaneCorrection}
 use Rattle.exports.specs.declared.writing.Given.{Given}
 use Rattle.exports.specs.declared.writing.Given.the-variants as given
@@ -26,6 +28,12 @@ asked c = record { word = c .word; value = c .value; operator = c .«operator_id
 
 abbrev pub followerOf : PlaneFollower → State
 followerOf x = pick (eqb (x .expecting) 0) idle (expecting (x .number))
+
+abbrev pub currentOf : PlaneAssembler → Option Open
+currentOf x = pick (eqb (x .«open») 0) none (some (record { number = x .number; size = x .size; key = x .key }))
+
+abbrev pub assemblerOf : PlaneAssembler → Assembler
+assemblerOf x = record { card = x .card; follower = followerOf (x .follower); event = currentOf x }
 
 -- ---- begin
 
@@ -59,6 +67,7 @@ said x text = writing.given (Text (x .length))
 said x startEvent = writing.given (StartEvent (x .kind) (x .timestamp) (x .number))
 said x endEvent = writing.given (EndEvent (x .size))
 said x frameEnd = flawed 8
+said x continueEvent = writing.given (ContinueEvent (x .number))
 said x unassigned = flawed 6
 
 unfoldable pub tokenOf : PlaneItem → Token

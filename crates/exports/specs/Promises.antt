@@ -12,6 +12,8 @@ use Rattle.format.specs.Questions.{shownAt, eventAt, textAt, done, samplesAt, s
 use Rattle.format.specs.Writing.{addAnswer, addLeft, closeAnswer, closeLeft}
 use Rattle.follower.specs.Follow.{follow}
 use Rattle.frame.specs.Parts.{textFrom}
+use Rattle.runs.specs.Assembly as runs
+use Rattle.runs.specs.Assembly.{new, giveUp}
 use Rattle.ledger.specs.Formats.{Correction}
 use Rattle.ledger.specs.Calls.{recordAnswer, entryAnswer, openAnswer, openExit, editAnswer, editExit, restoreAnswer, restoreExit}
 use Rattle.ledger.specs.VersionOne.{versionOne}
@@ -25,11 +27,13 @@ use Rattle.exports.specs.declared.answers.PlaneWord.{PlaneWord}
 use Rattle.exports.specs.declared.answers.PlaneText.{PlaneText}
 use Rattle.exports.specs.declared.answers.PlaneFollower.{PlaneFollower}
 use Rattle.exports.specs.declared.answers.PlaneFollowed.{PlaneFollowed}
+use Rattle.exports.specs.declared.answers.PlaneAssembler.{PlaneAssembler}
+use Rattle.exports.specs.declared.answers.PlaneTaken.{PlaneTaken}
 use Rattle.exports.specs.declared.answers.PlaneRecord.{PlaneRecord}
 use Rattle.exports.specs.declared.answers.PlaneEntry.{PlaneEntry}
 use Rattle.exports.specs.declared.answers.PlaneWritten.{PlaneWritten}
-use Rattle.exports.specs.Flat.{flatDone, flatFrame, flatFound, flatEvent, flatWord, flatFollowed, flatRecord, flatEntry, flatWritten}
-use Rattle.exports.specs.Given.{followerOf, kindOf, begun, begunLeft, tokenOf}
+use Rattle.exports.specs.Flat.{flatDone, flatFrame, flatFound, flatEvent, flatWord, flatFollowed, flatAssembler, flatTaken, flatRecord, flatEntry, flatWritten}
+use Rattle.exports.specs.Given.{followerOf, assemblerOf, kindOf, begun, begunLeft, tokenOf}
 
 -- ---- an answer alone
 
@@ -59,6 +63,15 @@ BinWordTold s chip c bin r = r ≡ flatWord (binWordAt s chip c bin)
 
 abbrev pub FollowTold : PlaneFollower → ℕ → PlaneFollowed → Type 0
 FollowTold follower word r = r ≡ flatFollowed follower (follow (followerOf follower) word)
+
+abbrev pub AssemblerMade : ℕ → PlaneAssembler → Type 0
+AssemblerMade card r = r ≡ flatAssembler (new card)
+
+abbrev pub TakeTold : PlaneAssembler → List ℕ → PlaneTaken → Type 0
+TakeTold assembler s r = r ≡ flatTaken assembler (runs.take (assemblerOf assembler) s)
+
+abbrev pub GivenUpTold : PlaneAssembler → PlaneAssembler → Type 0
+GivenUpTold assembler r = r ≡ flatAssembler (giveUp (assemblerOf assembler))
 
 abbrev pub RecordTold : List ℕ → PlaneRecord → Type 0
 RecordTold b r = r ≡ flatRecord (recordAnswer planeFrames versionOne b)

@@ -19,7 +19,7 @@ pub struct PlaneFrame {
     pub items: usize,
 }
 
-// An item: its class, as the row of document 01's word book from 1 on, and the fields that the class has; the others are 0.
+// An item: its class, as the row of the word book from 1 on, and the fields that the class has; the others are 0.
 #[repr(C)]
 pub struct PlaneItem {
     pub item_class: u32,
@@ -44,6 +44,7 @@ pub struct PlaneItem {
     // Start event: its type, with `number` and `timestamp`.
     pub kind: u16,
     pub count: u32,
+    // And Continue event.
     pub number: u32,
     // End event.
     pub size: u32,
@@ -67,14 +68,18 @@ pub struct PlaneText {
     pub length: usize,
 }
 
-// An event: its type, timestamp, number, size in bytes, and the word index of its Start event.
+// An event, or the part of one that stands in the frame: its type, timestamp, number, size in bytes, and the word index of its Start or Continue
+// event. Where `began` is 0 it began in another frame, which has its type and timestamp; where `ended` is 0 it does not end in this one, and another
+// has its size.
 #[repr(C)]
 pub struct PlaneEvent {
     pub refused: u32,
     pub place: usize,
+    pub began: u8,
+    pub ended: u8,
     pub kind: u16,
-    pub timestamp: u64,
     pub number: u32,
+    pub timestamp: u64,
     pub size: u32,
     pub index: usize,
 }
@@ -109,6 +114,27 @@ pub struct PlaneFollowed {
     pub place: usize,
     pub lost: u8,
     pub next: PlaneFollower,
+}
+
+// An assembler of a card's data frames: its follower, and where `open` is not 0 the event that is open: its number, its bytes so far in all parts,
+// and the least key that its next Channel header may have. All zeros is an assembler of card 0 that has taken nothing.
+#[repr(C)]
+pub struct PlaneAssembler {
+    pub card: u16,
+    pub open: u8,
+    pub follower: PlaneFollower,
+    pub number: u32,
+    pub size: u32,
+    pub key: u32,
+}
+
+// How many frames were lost before this one, and the assembler from here on; on a refusal it is the one that was given.
+#[repr(C)]
+pub struct PlaneTaken {
+    pub refused: u32,
+    pub place: usize,
+    pub lost: u8,
+    pub next: PlaneAssembler,
 }
 
 // A record: its frame's length in bytes, how many entries it has, and its own length in bytes.

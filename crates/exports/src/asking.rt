@@ -1,11 +1,13 @@
 // The questions on a frame's events, samples and counts, and on the word of a sample or a bin.
 ghost use mathlib.Core.Path.{_≡_};
-ghost use Rattle.questions.specs.Views.{viewEvent, viewFilled, viewWord};
-ghost use Rattle.exports.specs.Flat.{flatDone, flatEvent, flatWord};
+ghost use Rattle.questions.specs.Views.{viewBegan, viewEnded, viewEvent, viewFilled, viewWord};
+ghost use Rattle.exports.specs.Flat.{flatDone, isThere, kindTold, timestampTold, sizeTold, flatEvent, flatWord};
 ghost use Rattle.exports.specs.Promises.{EventTold, Sampled, Counted, SampleWordTold, BinWordTold};
 use crate::answers::PlaneDone;
 use crate::answers::PlaneEvent;
 use crate::answers::PlaneWord;
+use questions::answers::Began;
+use questions::answers::Ended;
 use questions::answers::EventFound;
 use questions::answers::Filled;
 use questions::answers::WordFound;
@@ -15,25 +17,73 @@ use questions::samples::samples;
 use questions::words::bin_word;
 use questions::words::sample_word;
 
+// What the Start event tells, and whether it is in the frame; likewise the End event.
+struct Opening {
+    began: u8,
+    kind: u16,
+    timestamp: u64,
+}
+
+struct Closing {
+    ended: u8,
+    size: u32,
+}
+
+fn opening_of(began: Began) -> Opening
+    ensures { λ r. ⌜ (r .began ≡ isThere (viewBegan began)) × (r .kind ≡ kindTold (viewBegan began)) × (r .timestamp ≡ timestampTold (viewBegan began)) ⌝ }
+{
+    match began {
+        Began::Here { kind, timestamp } => Opening {
+            began: 1,
+            kind,
+            timestamp,
+        },
+        Began::Elsewhere => Opening {
+            began: 0,
+            kind: 0,
+            timestamp: 0,
+        },
+    }
+}
+
+fn closing_of(ended: Ended) -> Closing
+    ensures { λ r. ⌜ (r .ended ≡ isThere (viewEnded ended)) × (r .size ≡ sizeTold (viewEnded ended)) ⌝ }
+{
+    match ended {
+        Ended::Here { size } => Closing { ended: 1, size },
+        Ended::Elsewhere => Closing { ended: 0, size: 0 },
+    }
+}
+
 fn flat_event(found: EventFound) -> PlaneEvent
     ensures { λ r. ⌜ r ≡ flatEvent (viewEvent found) ⌝ }
 {
     match found {
-        EventFound::Event(x) => PlaneEvent {
-            refused: 0,
-            place: 0,
-            kind: x.kind,
-            timestamp: x.timestamp,
-            number: x.number,
-            size: x.size,
-            index: x.index,
-        },
+        EventFound::Event(x) => {
+            let began = x.began;
+            let ended = x.ended;
+            let opening = opening_of(began);
+            let closing = closing_of(ended);
+            PlaneEvent {
+                refused: 0,
+                place: 0,
+                began: opening.began,
+                ended: closing.ended,
+                kind: opening.kind,
+                number: x.number,
+                timestamp: opening.timestamp,
+                size: closing.size,
+                index: x.index,
+            }
+        }
         EventFound::Refused(r) => PlaneEvent {
             refused: r.number,
             place: r.place,
+            began: 0,
+            ended: 0,
             kind: 0,
-            timestamp: 0,
             number: 0,
+            timestamp: 0,
             size: 0,
             index: 0,
         },

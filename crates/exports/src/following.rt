@@ -9,7 +9,7 @@ use crate::answers::PlaneFollower;
 use follower::Followed;
 use follower::Follower;
 
-fn follower_of(x: PlaneFollower) -> Follower
+pub(crate) fn follower_of(x: PlaneFollower) -> Follower
     ensures { λ r. ⌜ stateOf r ≡ followerOf x ⌝ }
 {
     if x.expecting == 0 {
@@ -18,7 +18,7 @@ fn follower_of(x: PlaneFollower) -> Follower
     Follower::Expecting(x.number)
 }
 
-fn flat_follower(follower: Follower) -> PlaneFollower
+pub(crate) fn flat_follower(follower: Follower) -> PlaneFollower
     ensures { λ r. ⌜ r ≡ flatFollower (stateOf follower) ⌝ }
 {
     match follower {

@@ -121,7 +121,7 @@ fn value_item(class: u32, value: u16, bin: u16, count: u32, time: u16, length: u
     }
 }
 
-// An item of an event: Start event and End event.
+// An item of an event: Start, Continue and End event.
 fn event_item(class: u32, kind: u16, timestamp: u64, number: u32, size: u32) -> PlaneItem
     ensures { λ r. ⌜ r ≡ row class 0 0 0 0 0 0 0 0 0 kind 0 number size timestamp ⌝ }
 {
@@ -148,6 +148,7 @@ fn flat_item(item: Item) -> PlaneItem
         Item::Text(x) => value_item(Class::ROW_TEXT, 0, 0, 0, 0, x.length),
         Item::StartEvent(x) => event_item(Class::ROW_START_EVENT, x.kind, x.timestamp, x.number, 0),
         Item::EndEvent(x) => event_item(Class::ROW_END_EVENT, 0, 0, 0, x.size),
+        Item::ContinueEvent(x) => event_item(Class::ROW_CONTINUE_EVENT, 0, 0, x.number, 0),
     }
 }
 

@@ -11,6 +11,7 @@ use crate::answers::PlaneWritten;
 use book::class::Class;
 use book::items::Bin;
 use book::items::Channel;
+use book::items::ContinueEvent;
 use book::items::EndEvent;
 use book::items::Histogram;
 use book::items::HitCount;
@@ -117,6 +118,9 @@ fn item_given(x: PlaneItem) -> Given
         })),
         Class::ROW_END_EVENT => Given::Item(Item::EndEvent(EndEvent { size: x.size })),
         Class::ROW_FRAME_END => Given::Flawed(Refusal::PLACE),
+        Class::ROW_CONTINUE_EVENT => Given::Item(Item::ContinueEvent(ContinueEvent {
+            number: x.number,
+        })),
         _ => Given::Flawed(Refusal::CLASS),
     }
 }

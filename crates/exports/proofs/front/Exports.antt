@@ -17,6 +17,7 @@ use Rattle.format.specs.Questions.{IndexedShown, shownAt, Event, eventAt, sampl
 use Rattle.format.specs.Writing.{addAnswer, addLeft, closeAnswer, closeLeft}
 use Rattle.format.proofs.front.Writing.{add-refused-leaves, close-refused-leaves}
 use Rattle.follower.specs.Follow as follow
+use Rattle.runs.specs.Assembly.{Taken, take, after}
 use Rattle.ledger.specs.Formats as formats
 use Rattle.ledger.specs.Calls.{Summary, recordAnswer, entryAnswer, openAnswer, editAnswer, restoreAnswer}
 use Rattle.ledger.specs.VersionOne.{versionOne}
@@ -31,16 +32,18 @@ use Rattle.exports.specs.declared.answers.PlaneWord.{PlaneWord}
 use Rattle.exports.specs.declared.answers.PlaneWritten.{PlaneWritten}
 use Rattle.exports.specs.declared.answers.PlaneFollower.{PlaneFollower}
 use Rattle.exports.specs.declared.answers.PlaneFollowed.{PlaneFollowed}
+use Rattle.exports.specs.declared.answers.PlaneAssembler.{PlaneAssembler}
+use Rattle.exports.specs.declared.answers.PlaneTaken.{PlaneTaken}
 use Rattle.exports.specs.declared.answers.PlaneRecord.{PlaneRecord}
 use Rattle.exports.specs.declared.answers.PlaneEntry.{PlaneEntry}
 use Rattle.exports.specs.declared.answers.PlaneCorrection.{PlaneCorrection}
-use Rattle.exports.specs.Flat.{flatFrame, flatFound, flatEvent, flatWord, flatWritten, flatFollowed, flatRecord, flatEntry}
-use Rattle.exports.specs.Given.{asked, followerOf, begun, begunLeft, tokenOf}
+use Rattle.exports.specs.Flat.{flatFrame, flatFound, flatEvent, flatWord, flatWritten, flatFollowed, flatTaken, flatRecord, flatEntry}
+use Rattle.exports.specs.Given.{asked, followerOf, assemblerOf, begun, begunLeft, tokenOf}
 use Rattle.exports.specs.Promises.{Leaves, Sampled, Counted, Opened, Edited, Restored}
 use Rattle.exports.proofs.NumberLaws as numbers
 use Rattle.exports.proofs.RefusedLaws as law
 use Rattle.exports.proofs.RefusedLaws.{kept, samples-found, counts-found, begin-found}
-use Rattle.exports.proofs.Unique.{exactly, done-tells, frame-tells, found-tells, event-tells, word-tells, written-tells, record-tells, entry-tells}
+use Rattle.exports.proofs.Unique.{exactly, done-tells, frame-tells, found-tells, event-tells, word-tells, written-tells, record-tells, entry-tells, taken-tells, takes-on}
 
 -- ---- the questions
 
@@ -111,6 +114,15 @@ module _ (buf : List ℕ) (r : PlaneWritten) (left : List ℕ) where
 pub follow-accepts : (x : PlaneFollower) (word : ℕ) (r : PlaneFollowed) → r ≡ flatFollowed x (follow.follow (followerOf x) word)
     → (r .refused ≡ 0) ↔ ((lost : ℕ) × (next : follow.State) × (follow.follow (followerOf x) word ≡ follow.accepted lost next))
 follow-accepts = law.follow-accepts
+
+-- ---- the assembler: the one answered goes on where the one given left off, and on a refusal is as it was
+
+pub take-accepts : (x : PlaneAssembler) (s : List ℕ) → Bytes s → (r : PlaneTaken) → r ≡ flatTaken x (take (assemblerOf x) s)
+    → (r .refused ≡ 0) ↔ ((t : Taken) × (take (assemblerOf x) s ≡ accepted t))
+take-accepts x s bs = exactly _ _ _ _ _ (taken-tells x) (take (assemblerOf x) s) (numbers.take-numbered s bs (assemblerOf x))
+
+pub take-goes-on : (x : PlaneAssembler) (s : List ℕ) → assemblerOf (flatTaken x (take (assemblerOf x) s) .next) ≡ after (assemblerOf x) (take (assemblerOf x) s)
+take-goes-on x s = takes-on x (take (assemblerOf x) s)
 
 -- ---- records
 

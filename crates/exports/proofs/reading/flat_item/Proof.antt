@@ -65,6 +65,12 @@ enum-known-item-10 c = search needs
 event-item-requires-2 : tie.Need-event-item-requires-2
 event-item-requires-2 c κs = search needs
 
+enum-known-item-11 : tie.Need-enum-known-item-11
+enum-known-item-11 c = search needs
+
+event-item-requires-3 : tie.Need-event-item-requires-3
+event-item-requires-3 c κs = search needs
+
 returns : tie.Need-returns
 unfolding flatItem
 returns c = rw (c .chip-item .ensures, c .before .before .item .given .1)
@@ -105,6 +111,10 @@ returns-10 : tie.Need-returns-10
 unfolding flatItem
 returns-10 c = rw (c .event-item2 .ensures, c .before .before .item10 .given .1)
 
+returns-11 : tie.Need-returns-11
+unfolding flatItem
+returns-11 c = rw (c .event-item3 .ensures, c .before .before .item11 .given .1)
+
 pub flat-item-spec : {M : Type 1} → statement M
 flat-item-spec =
     tie.close
@@ -129,6 +139,8 @@ flat-item-spec =
     event-item-requires
     enum-known-item-10
     event-item-requires-2
+    enum-known-item-11
+    event-item-requires-3
     returns
     returns-2
     returns-3
@@ -138,4 +150,5 @@ flat-item-spec =
     returns-7
     returns-8
     returns-9
-    returns-10)
+    returns-10
+    returns-11)

@@ -63,7 +63,11 @@ returns-14 c = rw (c .match .keys14)
 
 returns-15 : tie.Need-returns-15
 unfolding tokenOf
-returns-15 c = unnamed (c .before .args .x) (c .match .rest)
+returns-15 c = rw (c .match .keys15)
+
+returns-16 : tie.Need-returns-16
+unfolding tokenOf
+returns-16 c = unnamed (c .before .args .x) (c .match .rest)
 
 pub item-given-spec : {M : Type 1} → statement M
 item-given-spec =
@@ -83,4 +87,5 @@ item-given-spec =
     returns-12
     returns-13
     returns-14
-    returns-15)
+    returns-15
+    returns-16)
