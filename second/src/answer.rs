@@ -1,8 +1,10 @@
 //! The line that answers a case: `ok` and the values in decimals, or
 //! `refused NUMBER at PLACE`. Where a call was lent memory to write in, ` | `
 //! follows with the length of that memory and a check sum over it, as the call
-//! left it, refused or not.
+//! left it, refused or not. A value that stands in another frame is `-`. A run
+//! is always `ok`, with what each step came to and what is open at its end.
 
+use crate::assembler::{Assembler, Open};
 use crate::book::{classify, Class};
 use crate::cases::*;
 use crate::follower::{follow, Follower};
@@ -11,6 +13,7 @@ use crate::item::Item;
 use crate::listing::listing;
 use crate::record;
 use crate::rules::{refuse, Kind, Refusal, ROOM};
+use crate::run::{steps, Step};
 use crate::writer;
 
 /// The line for input that is no case.
@@ -32,8 +35,12 @@ fn verdict(answer: Result<Vec<String>, Refusal>) -> String {
     match answer {
         Ok(values) if values.is_empty() => "ok".to_string(),
         Ok(values) => format!("ok {}", values.join(" ")),
-        Err(Refusal { number, place }) => format!("refused {number} at {place}"),
+        Err(refusal) => refused(refusal),
     }
+}
+
+fn refused(Refusal { number, place }: Refusal) -> String {
+    format!("refused {number} at {place}")
 }
 
 fn numbers(values: &[u64]) -> Vec<String> {
@@ -51,6 +58,8 @@ pub fn answer(case: &mut Case) -> String {
             format!("{} | {}", verdict(written), sum(&case.p))
         }
         FOLLOW => verdict(follow_coded(case.a[0], case.a[1] as u16)),
+        RUN => run_line(case.a[0], &case.p),
+        STEP => verdict(step_coded(&case.a, &case.p)),
         _ => record_call(case),
     }
 }
@@ -73,10 +82,11 @@ fn question(case: &Case) -> String {
             values
         })),
         TEXT => format!("ok {}", sum(frame::text(p, a[0]))),
-        EVENT => verdict(
-            frame::event(p, a[0])
-                .map(|e| numbers(&[e.kind, e.timestamp, e.number, e.size, e.index as u64])),
-        ),
+        EVENT => verdict(frame::event(p, a[0]).map(|e| {
+            let values = [e.kind, e.timestamp, Some(e.number), e.size, Some(e.index as u64)];
+            // What stands in another frame is missing.
+            values.map(|value| value.map_or("-".to_string(), |value| value.to_string())).to_vec()
+        })),
         SAMPLE_WORD => word_line(frame::sample_word(p, a[0], a[1], a[2], a[3])),
         BIN_WORD => word_line(frame::bin_word(p, a[0], a[1], a[2])),
         SAMPLES => {
@@ -107,18 +117,68 @@ fn added_item(a: &[u64; 7]) -> Item {
     Item::from_fields(Class::of_row(a[1]), [a[2], a[3], a[4]]).expect("a row that can be added")
 }
 
-/// States are coded 0 for idle and 1 + e for expecting e.
-fn follow_coded(state: u64, word: u16) -> Result<Vec<String>, Refusal> {
-    let state = match state {
+/// A follower is coded 0 for idle and 1 + e for expecting e.
+fn follower_of(code: u64) -> Follower {
+    match code {
         0 => Follower::Idle,
         coded => Follower::Expects((coded - 1) as u8),
-    };
-    let (lost, after) = follow(state, word)?;
-    let coded = match after {
+    }
+}
+
+fn follower_code(follower: Follower) -> u64 {
+    match follower {
         Follower::Idle => 0,
         Follower::Expects(number) => 1 + number as u64,
-    };
-    Ok(numbers(&[lost, coded]))
+    }
+}
+
+fn follow_coded(state: u64, word: u16) -> Result<Vec<String>, Refusal> {
+    let (lost, after) = follow(follower_of(state), word)?;
+    Ok(numbers(&[lost, follower_code(after)]))
+}
+
+/// What each step of a run comes to, and what is open at its end.
+fn run_line(card: u64, payload: &[u8]) -> String {
+    let mut assembler = Assembler::new(card);
+    let mut line = "ok".to_string();
+    for step in steps(payload).expect("a case that is allowed") {
+        let said = match step {
+            Step::GiveUp => {
+                assembler.give_up();
+                "given up".to_string()
+            }
+            Step::Frame(bytes) => {
+                assembler.step(&bytes).map_or_else(refused, |lost| format!("lost {lost}"))
+            }
+        };
+        line = format!("{line} {said}");
+    }
+    match assembler.open {
+        None => format!("{line} none"),
+        Some(open) => format!("{line} open {} {}", open.number, open.size),
+    }
+}
+
+/// The assembler whose state is given in numbers.
+pub fn assembler_of(a: &[u64; 7]) -> Assembler {
+    let header = a[5].checked_sub(1);
+    let open = (a[2] == 1).then_some(Open { number: a[3], size: a[4], header });
+    Assembler { card: a[0], follower: follower_of(a[1]), open }
+}
+
+/// The numbers that give its state: a0 to a5.
+pub fn state_code(assembler: &Assembler) -> [u64; 6] {
+    let [open, number, size, header] = assembler.open.map_or([0; 4], |open| {
+        [1, open.number, open.size, open.header.map_or(0, |header| header + 1)]
+    });
+    [assembler.card, follower_code(assembler.follower), open, number, size, header]
+}
+
+/// One step from such a state: the loss, then the new state but for the card.
+fn step_coded(a: &[u64; 7], frame: &[u8]) -> Result<Vec<String>, Refusal> {
+    let mut assembler = assembler_of(a);
+    let lost = assembler.step(frame)?;
+    Ok(numbers(&[&[lost], &state_code(&assembler)[1..]].concat()))
 }
 
 fn record_call(case: &mut Case) -> String {

@@ -1,7 +1,8 @@
 //! The word book: the class of a 16-bit word, the words after it, and how a
 //! word is put together from its fields.
 
-/// The rows of the book, in its own order; `Unassigned` is every other word.
+/// The rows of the book in its own order, behind them the classes that came
+/// later; `Unassigned` is every other word.
 #[derive(Clone, Copy, PartialEq, Eq, Debug)]
 pub enum Class {
     Unassigned,
@@ -19,11 +20,12 @@ pub enum Class {
     StartEvent,
     EndEvent,
     FrameEnd,
+    ContinueEvent,
 }
 
 /// First and last word of each class. The ranges do not touch each other, so
 /// the first hit is the only one.
-pub const BOOK: [(u16, u16, Class); 14] = [
+pub const BOOK: [(u16, u16, Class); 15] = [
     (0xC000, 0xFFFF, Class::Channel),
     (0x8000, 0xBFFF, Class::Histogram),
     (0x4000, 0x7FFF, Class::HitCount),
@@ -38,6 +40,7 @@ pub const BOOK: [(u16, u16, Class); 14] = [
     (0x00F0, 0x00FF, Class::StartEvent),
     (0x00E0, 0x00EF, Class::EndEvent),
     (0x000F, 0x000F, Class::FrameEnd),
+    (0x0A00, 0x0BFF, Class::ContinueEvent),
 ];
 
 pub const MAX_CARD: u64 = 31;
@@ -55,15 +58,15 @@ pub const MAX_SEQUENCE: u16 = 0x0100;
 pub const FRAME_END: u16 = 0x000F;
 
 impl Class {
-    /// The row of the book, 1 to 14; 0 for an unassigned word.
+    /// The row of the book, 1 to 15; 0 for an unassigned word.
     pub fn row(self) -> u64 {
         BOOK.iter().position(|row| row.2 == self).map_or(0, |at| at as u64 + 1)
     }
 
-    /// The class of a row; anything but 1 to 14 is unassigned.
+    /// The class of a row; anything but 1 to 15 is unassigned.
     pub fn of_row(row: u64) -> Class {
         match row {
-            1..=14 => BOOK[row as usize - 1].2,
+            1..=15 => BOOK[row as usize - 1].2,
             _ => Class::Unassigned,
         }
     }
@@ -78,7 +81,7 @@ pub fn classify(word: u16) -> Class {
 /// Frame end have none where they are met among the items.
 pub fn words_after(word: u16) -> usize {
     match classify(word) {
-        Class::Bin | Class::EndEvent => 2,
+        Class::Bin | Class::EndEvent | Class::ContinueEvent => 2,
         Class::StartEvent => 5,
         Class::Text => (word as usize & 0xFF).div_ceil(2),
         _ => 0,
@@ -95,9 +98,10 @@ mod tests {
     use super::*;
 
     #[test]
-    fn unassigned_words_are_3807() {
+    fn unassigned_words_are_3295() {
+        // Document 01's 3,807 without the 512 words of Continue event.
         let unassigned = (0..=0xFFFFu16).filter(|w| classify(*w) == Class::Unassigned);
-        assert_eq!(unassigned.count(), 3807);
+        assert_eq!(unassigned.count(), 3295);
     }
 
     #[test]
@@ -109,13 +113,15 @@ mod tests {
             assert_ne!(classify(last.wrapping_add(1)), class);
         }
         assert_eq!(Class::of_row(0), Class::Unassigned);
-        assert_eq!((1..=14).map(Class::of_row).map(Class::row).sum::<u64>(), 105);
+        assert_eq!((1..=15).map(Class::of_row).map(Class::row).sum::<u64>(), 120);
+        assert_eq!((Class::FrameEnd.row(), Class::ContinueEvent.row()), (14, 15));
     }
 
     #[test]
     fn words_after_by_class() {
         let pairs = [(0x2FFF, 2), (0x00E0, 2), (0x00F0, 5), (0x0100, 0), (0x0101, 1), (0x0102, 1)];
-        for (word, after) in pairs.into_iter().chain([(0x0103, 2), (0x01FF, 128), (0x0805, 0)]) {
+        let more = [(0x0103, 2), (0x01FF, 128), (0x0805, 0), (0x09FF, 0), (0x0A00, 2), (0x0BFF, 2)];
+        for (word, after) in pairs.into_iter().chain(more) {
             assert_eq!(words_after(word), after, "{word:04X}");
         }
     }

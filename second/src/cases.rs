@@ -7,8 +7,9 @@
 //! is zero or empty. Anything else is a bad case and ends the input.
 
 use crate::book::Class;
+use crate::run;
 
-pub const OPS: usize = 20;
+pub const OPS: usize = 22;
 pub const MAX_PAYLOAD: usize = 24_576;
 const FIXED_BYTES: usize = 72;
 
@@ -32,6 +33,8 @@ pub const RESTORE: u8 = 16;
 pub const LIST: u8 = 17;
 pub const SAMPLE_WORD: u8 = 18;
 pub const BIN_WORD: u8 = 19;
+pub const RUN: u8 = 20;
+pub const STEP: u8 = 21;
 
 pub const NAMES: [&str; OPS] = [
     "classify",
@@ -54,6 +57,8 @@ pub const NAMES: [&str; OPS] = [
     "list",
     "sample word",
     "bin word",
+    "run",
+    "step",
 ];
 
 /// One call: the op, its arguments, and the payloads P and Q.
@@ -98,7 +103,18 @@ impl Case {
         };
         let limit = |at: usize| limits.get(at).copied().unwrap_or(0);
         let in_limits = self.a.iter().enumerate().all(|(at, a)| *a <= limit(at));
-        in_limits && (uses_p || self.p.is_empty()) && (uses_q || self.q.is_empty())
+        let uses = (uses_p || self.p.is_empty()) && (uses_q || self.q.is_empty());
+        in_limits && uses && self.fits()
+    }
+
+    /// What the largest values cannot say.
+    fn fits(&self) -> bool {
+        match self.op {
+            RUN => run::steps(&self.p).is_some(),
+            // With no event open there is nothing to say of it.
+            STEP => self.a[2] == 1 || self.a[3..6] == [0, 0, 0],
+            _ => true,
+        }
     }
 }
 
@@ -118,11 +134,13 @@ fn table(case: &Case) -> Option<(Vec<u64>, bool, bool)> {
         SAMPLE_WORD => (vec![ANY, U16, U16, U16], true, false),
         BIN_WORD => (vec![U16, U16, U16], true, false),
         BEGIN => (vec![2, U16, U16], true, false),
-        ADD => ([vec![ANY, 13], field_limits(case.a[1])?].concat(), true, false),
+        ADD => ([vec![ANY, 15], field_limits(case.a[1])?].concat(), true, false),
         ADD_TEXT | RESTORE => (vec![ANY], true, true),
         FOLLOW => (vec![256, U16], false, false),
         OPEN | LIST => (vec![], true, true),
         EDIT => (vec![U32, U32, U32, U32], true, false),
+        RUN => (vec![U16], true, false),
+        STEP => (vec![31, 256, 1, U32, U32, 512], true, false),
         _ => return None,
     })
 }
@@ -135,7 +153,7 @@ fn field_limits(row: u64) -> Option<Vec<u64>> {
         Class::Bin => vec![U16, U32],
         Class::LastCell => vec![U16, U16],
         Class::StartEvent => vec![U16, ANY, U32],
-        Class::EndEvent => vec![U32],
+        Class::EndEvent | Class::ContinueEvent => vec![U32],
         _ => return None,
     })
 }
@@ -220,9 +238,14 @@ mod tests {
             bytes[at] = value;
             assert!(is_bad(&bytes), "byte {at}");
         }
-        for (row, fields, bad) in
-            [(7, 1, false), (8, 1, true), (11, 1, true), (14, 0, true), (13, 2, true)]
-        {
+        for (row, fields, bad) in [
+            (7, 1, false),
+            (8, 1, true),
+            (11, 1, true),
+            (14, 0, true),
+            (13, 2, true),
+            (15, 1, false),
+        ] {
             let mut a = vec![6, row];
             a.resize(2 + fields, 1);
             assert_eq!(is_bad(&bytes_of(&Case::new(ADD, &a))), bad, "row {row}");
@@ -231,5 +254,44 @@ mod tests {
         let long = Case::new(READ, &[]).p(&vec![0; MAX_PAYLOAD]);
         assert!(!is_bad(&bytes_of(&long)));
         assert!(is_bad(&bytes_of(&Case::new(READ, &[]).p(&vec![0; MAX_PAYLOAD + 1]))));
+    }
+
+    #[test]
+    fn bad_continue_events() {
+        let add = |fields: &[u64]| is_bad(&bytes_of(&Case::new(ADD, &[&[6], fields].concat())));
+        assert!(!add(&[15, U32]));
+        for fields in [&[15, U32 + 1][..], &[15, 1, 1], &[16, 1], &[0, 1], &[14, 0]] {
+            assert!(add(fields), "{fields:?}");
+        }
+    }
+
+    #[test]
+    fn bad_runs() {
+        let run = |card, payload: &[u8]| is_bad(&bytes_of(&Case::new(RUN, &[card]).p(payload)));
+        assert!(!run(U16, &[]) && !run(0, &[2, 0, 1, 2, 0xFF, 0xFF]) && !run(5, &[0; 48]));
+        assert!(run(U16 + 1, &[]) && run(0, &[2, 0, 1]) && run(0, &[0]) && run(5, &[0; 50]));
+        assert!(is_bad(&bytes_of(&Case::new(RUN, &[0, 1]))));
+        assert!(is_bad(&bytes_of(&Case::new(RUN, &[0]).q(&[0, 0]))));
+    }
+
+    #[test]
+    fn bad_steps() {
+        let step = |a: &[u64]| is_bad(&bytes_of(&Case::new(STEP, a)));
+        let good: [&[u64]; 3] = [&[], &[31, 256, 1, U32, U32, 512], &[0, 0, 1, 0, 0, 0]];
+        good.iter().for_each(|a| assert!(!step(a), "{a:?}"));
+        let most = [31, 256, 1, U32, U32, 512];
+        for at in 0..6 {
+            let mut a = most;
+            a[at] += 1;
+            assert!(step(&a), "{a:?}");
+        }
+        assert!(step(&[31, 256, 1, U32, U32, 512, 1]));
+        // With no event open its number, size and header are zero.
+        for at in 3..6 {
+            let mut a = [0; 6];
+            a[at] = 1;
+            assert!(step(&a), "{a:?}");
+        }
+        assert!(is_bad(&bytes_of(&Case::new(STEP, &[]).q(&[0]))));
     }
 }

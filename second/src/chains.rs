@@ -1,15 +1,20 @@
 //! Chains of calls: a whole frame written by calls, a record edited by calls.
 //! Each case is given the buffer that the call before it left.
 
+use crate::answer::state_code;
+use crate::assembler::Assembler;
 use crate::cases::*;
-use crate::draft::{sound, Draft};
+use crate::draft::{any_card, long, sound, Draft};
+use crate::draft_run::lay_out as lay_out_run;
 use crate::item::Item;
 use crate::make::Sink;
 use crate::make_record::{edit_arguments, history, lay_out, recorded_draft};
+use crate::make_run::any_run;
 use crate::make_writer::{add, aimed_item, aimed_text, begin_case};
 use crate::record::{ENTRY_BYTES, HEADER_BYTES, MAX_ENTRIES};
 use crate::rng::Rng;
 use crate::rules::Kind;
+use crate::run::{steps, Step};
 use crate::writer;
 
 /// The length that an accepted writer call answered.
@@ -84,9 +89,10 @@ fn wander(rng: &mut Rng, sink: &mut Sink, buffer: &mut Vec<u8>, length: &mut u64
     for _ in 0..rng.below(25) {
         wander_once(rng, sink, buffer, length);
     }
-    // Mostly the open event is ended, so that close is not always refused.
+    // Often the open event is ended; close takes an open one too.
     if let Ok((standing, _)) = writer::partial(buffer, *length) {
-        if let (Some(size), true) = (standing.event_size(*length as usize / 2), rng.percent(70)) {
+        if standing.event.is_some() && rng.percent(50) {
+            let size = standing.event_size(*length as usize / 2).unwrap_or(long(rng));
             step(sink, add(*length, &Item::EndEvent { zero: 0, size }), buffer, length);
         }
     }
@@ -112,6 +118,23 @@ fn ask(sink: &mut Sink, frame: &[u8]) {
     for (ordinal, found) in items.iter().enumerate().take(12) {
         if matches!(found.item, Item::Text { .. }) {
             sink.emit(&Case::new(TEXT, &[ordinal as u64]).p(frame));
+        }
+    }
+}
+
+/// A run, and each of its steps from the state that the steps before it left.
+pub fn running(rng: &mut Rng, sink: &mut Sink) {
+    let card = any_card(rng);
+    let payload = lay_out_run(&any_run(rng, card));
+    sink.emit(&Case::new(RUN, &[card]).p(&payload));
+    let mut assembler = Assembler::new(card);
+    for step in steps(&payload).expect("a run") {
+        match step {
+            Step::GiveUp => assembler.give_up(),
+            Step::Frame(bytes) => {
+                sink.emit(&Case::new(STEP, &state_code(&assembler)).p(&bytes));
+                let _ = assembler.step(&bytes);
+            }
         }
     }
 }

@@ -4,9 +4,11 @@ use crate::book::BOOK;
 use crate::cases::*;
 use crate::corpus_list;
 use crate::corpus_record;
+use crate::corpus_run;
 use crate::corpus_writer;
 use crate::item::to_bytes;
 use crate::known::*;
+use crate::known_parts::part;
 
 /// The cases of the given ops, in the order of the ops.
 pub fn corpus(ops: &[u8]) -> Vec<u8> {
@@ -40,6 +42,8 @@ fn all() -> Vec<Case> {
         corpus_list::list_cases(),
         sample_word_cases(),
         bin_word_cases(),
+        corpus_run::run_cases(),
+        corpus_run::step_cases(),
     ]
     .concat();
     cases.sort_by_key(|case| case.op);
@@ -47,19 +51,25 @@ fn all() -> Vec<Case> {
 }
 
 /// At most so many frames of each refusal.
-pub fn refused_frames(of_each: usize) -> Vec<Vec<u8>> {
+pub fn refused_known(of_each: usize) -> Vec<Known> {
     let mut met = [0; 12];
-    let mut chosen = Vec::new();
-    for known in frames() {
+    let mut known = frames();
+    known.retain(|known| {
         let Some((number, _)) = known.refusal else {
-            continue;
+            return false;
         };
         met[number as usize] += 1;
-        if met[number as usize] <= of_each {
-            chosen.push(known.bytes);
-        }
-    }
-    chosen
+        met[number as usize] <= of_each
+    });
+    known
+}
+
+/// These frames, and as many that end right behind a Start event, which
+/// document 01 alone refuses by 11.
+pub fn tried_frames(of_each: usize) -> Vec<Vec<u8>> {
+    let open = [framed(DATA, &START), framed(DATA, &[event(&[]), START.to_vec()].concat())];
+    let refused = refused_known(of_each).into_iter().map(|known| known.bytes);
+    refused.chain(open.into_iter().take(of_each)).collect()
 }
 
 /// Numbers far out, among them such that look small when cut short.
@@ -81,6 +91,15 @@ pub fn two_events() -> Vec<u8> {
     let inner = [0x1801, 0xCA05, 0x0E10, 0x3111, 0x0FFE, 0x3222, 0x3333, 0x4A00, 0x1A02, 0xCBCE];
     let second = event(&[&inner[..], &[0x0FFF, 0x3444, 0x4BCF]].concat());
     framed(DATA, &[first, second].concat())
+}
+
+/// The rest of an event, a whole one, and the beginning of a third.
+pub fn three_parts() -> Vec<u8> {
+    let block = [0xCA05, 0x0E00, 0x3001, 0x3002, 0x0E08, 0x3003];
+    let rest = part(&[&[0x4A05][..], &block, &[0x00E0, 99, 0]].concat());
+    let whole = event(&[0xCA05, 0x0E03, 0x30FA]);
+    let open = [&START[..], &[0xCA05, 0x0FFF, 0x3111, 0xCBCE, 0x0E00, 0x3222]].concat();
+    framed(DATA, &[rest, whole, open].concat())
 }
 
 /// Three histograms: bins at both ends, no bin, counts that look like words.
@@ -109,23 +128,27 @@ fn classify_cases() -> Vec<Case> {
 }
 
 fn read_cases() -> Vec<Case> {
-    let sound =
-        [two_events(), three_histograms(), five_texts()].map(|b| Case::new(READ, &[]).p(&b));
+    let sound = [two_events(), three_histograms(), five_texts(), three_parts()]
+        .map(|b| Case::new(READ, &[]).p(&b));
     let known = frames().into_iter().chain(long_frames());
     known.map(|known| Case::new(READ, &[]).p(&known.bytes)).chain(sound).collect()
 }
 
 fn item_cases() -> Vec<Case> {
     let mut cases = Vec::new();
-    for (frame, items) in
-        [(third(), 6), (two_events(), 25), (three_histograms(), 8), (five_texts(), 5)]
-    {
+    for (frame, items) in [
+        (third(), 6),
+        (two_events(), 25),
+        (three_histograms(), 8),
+        (five_texts(), 5),
+        (three_parts(), 21),
+    ] {
         for ordinal in 0..=items + 1 {
             cases.push(Case::new(ITEM, &[ordinal]).p(&frame));
         }
     }
     cases.extend(FAR.map(|ordinal| Case::new(ITEM, &[ordinal]).p(&third())));
-    for frame in refused_frames(1).iter().chain([&figures()[0].bytes]) {
+    for frame in tried_frames(1).iter().chain([&figures()[0].bytes]) {
         cases.push(Case::new(ITEM, &[0]).p(frame));
     }
     cases
@@ -136,7 +159,7 @@ fn text_cases() -> Vec<Case> {
     for ordinal in (0..=6).chain(FAR) {
         cases.push(Case::new(TEXT, &[ordinal]).p(&five_texts()));
     }
-    for frame in [third(), seventh()].iter().chain(&refused_frames(1)) {
+    for frame in [third(), seventh(), three_parts()].iter().chain(&tried_frames(1)) {
         cases.push(Case::new(TEXT, &[0]).p(frame));
     }
     // An accepted text in front of one that is refused.
@@ -154,10 +177,32 @@ fn event_cases() -> Vec<Case> {
         let frame = framed(DATA, &[&start[..], &[0x00E0, 18, 0]].concat());
         cases.push(Case::new(EVENT, &[0]).p(&frame));
     }
-    for frame in [third(), seventh(), five_texts()].iter().chain(&refused_frames(1)) {
+    for frame in [third(), seventh(), five_texts()].iter().chain(&tried_frames(1)) {
         cases.push(Case::new(EVENT, &[0]).p(frame));
     }
     cases.push(Case::new(EVENT, &[0]).p(&framed(DATA, &filled(DATA, 4092))));
+    cases.extend(event_parts());
+    cases
+}
+
+/// Events of which something stands in another frame.
+fn event_parts() -> Vec<Case> {
+    let ask = |ordinal: u64, frame: &[u8]| Case::new(EVENT, &[ordinal]).p(frame);
+    let mut cases: Vec<Case> =
+        (0..=4).chain(FAR).map(|ordinal| ask(ordinal, &three_parts())).collect();
+    for fill in [0, 0xFFFF] {
+        let alone = framed(DATA, &[0x0A00, fill, fill ^ 1]);
+        let start = framed(DATA, &[0x00F0 | (fill & 15), fill, fill, fill, fill ^ 1, fill]);
+        let ended = framed(DATA, &part(&[0x00E0, fill, fill ^ 1]));
+        for frame in [alone, start, ended] {
+            cases.extend([0, 1].map(|ordinal| ask(ordinal, &frame)));
+        }
+    }
+    // A whole event and the beginning of a next one, which a Channel cuts.
+    let open = [event(&[]), START.to_vec()].concat();
+    cases.extend([0, 1, 2].map(|ordinal| ask(ordinal, &framed(DATA, &open))));
+    let cut = [event(&[]), START.to_vec(), vec![0xCA05]].concat();
+    cases.extend([0, 1].map(|ordinal| ask(ordinal, &framed(DATA, &cut))));
     cases
 }
 
@@ -186,10 +231,17 @@ fn samples_cases() -> Vec<Case> {
         cases.push(Case::new(SAMPLES, &[0, 2, 10, 512, 9]).p(frame));
     }
     // A refused frame comes before too few elements.
-    for frame in &refused_frames(1) {
+    for frame in &tried_frames(1) {
         cases.push(Case::new(SAMPLES, &[0, 2, 10, 511, 9]).p(frame));
     }
     cases.push(Case::new(SAMPLES, &[0, 0, 6, 512, 9]).p(&known[3]));
+    // Of the rest of an event, a whole one, the beginning of one; the channel
+    // of another event, and one that may stand in another frame.
+    for (event, chip, channel) in
+        [(0, 0, 5), (1, 0, 5), (2, 0, 5), (2, 3, 78), (0, 3, 78), (1, 3, 78), (0, 0, 4), (3, 0, 5)]
+    {
+        cases.push(Case::new(SAMPLES, &[event, chip, channel, 512, 9]).p(&three_parts()));
+    }
     cases
 }
 
@@ -215,7 +267,7 @@ fn counts_cases() -> Vec<Case> {
     for frame in &known {
         cases.push(Case::new(COUNTS, &[0, 78, 4096, 9]).p(frame));
     }
-    for frame in &refused_frames(1) {
+    for frame in &tried_frames(1) {
         cases.push(Case::new(COUNTS, &[0, 78, 4095, 9]).p(frame));
     }
     cases.push(Case::new(COUNTS, &[0, 0, 4096, 9]).p(&known[3]));
@@ -241,8 +293,14 @@ fn sample_word_cases() -> Vec<Case> {
             cases.push(Case::new(SAMPLE_WORD, &[0, 2, 10, time]).p(frame));
         }
     }
-    for frame in &refused_frames(1) {
+    for frame in &tried_frames(1) {
         cases.push(Case::new(SAMPLE_WORD, &[0, 2, 10, 3]).p(frame));
+    }
+    for (event, chip, channel) in [(0, 0, 5), (1, 0, 5), (2, 0, 5), (2, 3, 78), (0, 3, 78)] {
+        for time in [0, 1, 2, 3, 8, 9, 511] {
+            let case = Case::new(SAMPLE_WORD, &[event, chip, channel, time]);
+            cases.push(case.p(&three_parts()));
+        }
     }
     cases
 }
@@ -265,7 +323,7 @@ fn bin_word_cases() -> Vec<Case> {
         }
     }
     cases.extend([0, 5, 4095].map(|bin| Case::new(BIN_WORD, &[0, 0, bin]).p(&known[3])));
-    for frame in &refused_frames(1) {
+    for frame in &tried_frames(1) {
         cases.push(Case::new(BIN_WORD, &[0, 78, 256]).p(frame));
     }
     cases
@@ -309,15 +367,15 @@ mod tests {
         assert_eq!(tally.missing(), Vec::<String>::new());
         assert_eq!(tally.cases(), all().len() as u64);
         assert!(answers(&bytes).all(|line| line != crate::answer::BAD_CASE));
-        assert!((300..=1800).contains(&tally.cases()), "{}", tally.cases());
-        assert!(bytes.len() < 1_500_000, "{}", bytes.len());
+        assert!((300..=2800).contains(&tally.cases()), "{}", tally.cases());
+        assert!(bytes.len() < 2_000_000, "{}", bytes.len());
     }
 
     #[test]
     fn the_examples_are_accepted() {
-        for (frame, items) in
-            [(two_events(), 25), (three_histograms(), 8), (five_texts(), 5), (third(), 6)]
-        {
+        let others = [(three_histograms(), 8), (five_texts(), 5), (third(), 6)];
+        let events = [(two_events(), 25), (three_parts(), 21)];
+        for (frame, items) in events.into_iter().chain(others) {
             assert_eq!(crate::frame::read(&frame).unwrap().items.len(), items);
         }
     }

@@ -2,6 +2,7 @@
 //! damaged.
 
 use crate::cases::{Case, Cases, LIST, MAX_PAYLOAD, RECORD};
+use crate::corpus::three_parts;
 use crate::damage::put_word;
 use crate::known::{figures, filled, framed, long_frames, MONITOR};
 use crate::listing::{listing, READ};
@@ -103,6 +104,9 @@ pub fn list_cases() -> Vec<Case> {
             cases.push(Case::new(LIST, &[]).p(&record).q(&room));
         }
     }
+    // A frame with parts of events.
+    let parts = edited(&three_parts(), 4);
+    cases.push(Case::new(LIST, &[]).p(&parts).q(&vec![0x5A; listing(&parts).len()]));
     cases
 }
 

@@ -33,6 +33,15 @@ fn two_edits() -> (Vec<u8>, Vec<Entry>) {
     (frame, vec![bin_edit(4, 70_000, 0xFFFF_FFFF), bin_edit(4, 0xFFFF_FFFF, 0x1_2345)])
 }
 
+/// A frame with parts of events after two edits: one in the rest of an event,
+/// one in the beginning of another.
+fn part_edits() -> (Vec<u8>, Vec<Entry>) {
+    let mut frame = three_parts();
+    put_word(&mut frame, 9, 0x3064);
+    put_word(&mut frame, 39, 0x3FFF);
+    (frame, vec![sample_edit(9, 1, 100), sample_edit(39, 0x222, 4095)])
+}
+
 /// Case 3 after so many edits of word 11, to and fro.
 fn many_edits(count: u16) -> Vec<u8> {
     let value = |at: u16| if at % 2 == 0 { 250 } else { 1000 };
@@ -121,16 +130,18 @@ fn faulty_headers() -> Vec<Vec<u8>> {
     records
 }
 
-/// Records round refused frames, the headers right.
-fn records_of_refused(of_each: usize) -> Vec<Vec<u8>> {
-    refused_frames(of_each).iter().map(|frame| lay_out(frame, &[])).collect()
+/// Records round such frames, the headers right.
+fn tried_records(of_each: usize) -> Vec<Vec<u8>> {
+    tried_frames(of_each).iter().map(|frame| lay_out(frame, &[])).collect()
 }
 
 fn good_records() -> Vec<Vec<u8>> {
     let (frame, entries) = three_edits();
     let (other, bins) = two_edits();
     let command = lay_out(&five_texts(), &[]);
-    vec![lay_out(&frame, &entries), lay_out(&other, &bins), lay_out(&third(), &[]), command]
+    let (parts, samples) = part_edits();
+    let parts = lay_out(&parts, &samples);
+    vec![lay_out(&frame, &entries), lay_out(&other, &bins), lay_out(&third(), &[]), command, parts]
 }
 
 /// Records with their faults, each kind at least once.
@@ -138,7 +149,7 @@ fn some_faulty() -> Vec<Vec<u8>> {
     let each_tenth = faulty_entries().into_iter().step_by(10);
     let each_fifth = faulty_headers().into_iter().step_by(5);
     let faulty = each_tenth.chain(each_fifth).chain(disordered_entries());
-    faulty.chain(records_of_refused(1)).collect()
+    faulty.chain(tried_records(1)).collect()
 }
 
 /// Document 01's cases 10 and 11 on the bytes that it prints, in a buffer with
@@ -175,7 +186,7 @@ pub fn judge_cases() -> Vec<Case> {
     records.extend(faulty_headers());
     records.extend(faulty_entries());
     records.extend(disordered_entries());
-    records.extend(records_of_refused(2));
+    records.extend(tried_records(2));
     records.extend(long_frames().iter().map(|known| lay_out(&known.bytes, &[])).step_by(4));
     records.iter().map(|record| Case::new(RECORD, &[]).p(record)).collect()
 }
@@ -196,13 +207,15 @@ pub fn entry_cases() -> Vec<Case> {
 pub fn open_cases() -> Vec<Case> {
     let mut cases = Vec::new();
     let ask = |frame: &[u8], room: usize| Case::new(OPEN, &[]).p(&extended(&[], room)).q(frame);
-    for frame in [third(), seventh(), five_texts(), figures()[0].bytes.clone()] {
+    let empty = figures()[0].bytes.clone();
+    let alone = framed(DATA, &CONTINUE);
+    for frame in [third(), seventh(), five_texts(), empty, three_parts(), alone] {
         let need = 16 + frame.len();
         cases.extend([0, 16, need - 1, need, need + 1].map(|room| ask(&frame, room)));
     }
     // Refused frames with room and without: the frame comes first.
-    cases.extend(refused_frames(2).iter().map(|frame| ask(frame, 16 + frame.len())));
-    cases.extend(refused_frames(1).iter().map(|frame| ask(frame, 3)));
+    cases.extend(tried_frames(2).iter().map(|frame| ask(frame, 16 + frame.len())));
+    cases.extend(tried_frames(1).iter().map(|frame| ask(frame, 3)));
     for known in long_frames().iter().skip(3) {
         cases.push(ask(&known.bytes, 16 + known.bytes.len()));
     }
@@ -232,6 +245,9 @@ pub fn edit_cases() -> Vec<Case> {
     {
         cases.push(ask(&fresh, [11, 1, operator, reason]));
     }
+    // Continue event's words, and samples of parts.
+    let parts = extended(&lay_out(&three_parts(), &[]), 16);
+    cases.extend([3, 4, 9, 13, 24, 36, 39, 40].map(|at| ask(&parts, [at, 77, 9, 2])));
     cases.extend(edit_order());
     cases.extend(some_faulty().iter().map(|record| ask(&extended(record, 16), [11, 5, 1, 1])));
     cases
@@ -262,7 +278,8 @@ pub fn restore_cases() -> Vec<Case> {
     let mut cases = Vec::new();
     let ask =
         |record: &[u8], k, room: usize| Case::new(RESTORE, &[k]).p(record).q(&extended(&[], room));
-    for (record, length) in good_records().iter().zip([34, 16, 34, five_texts().len()]) {
+    let lengths = [34, 16, 34, five_texts().len(), three_parts().len()];
+    for (record, length) in good_records().iter().zip(lengths) {
         for k in 0..=4 {
             cases.push(ask(record, k, length));
         }

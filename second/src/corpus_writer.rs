@@ -46,7 +46,8 @@ pub fn add_cases() -> Vec<Case> {
     // The classes after everything; each class once without room.
     for before in befores() {
         let partial = partial(before.start, &before.items);
-        for row in [1, 2, 3, 4, 5, 6, 7, 12, 13].into_iter().filter(|row| before.is_worth(*row)) {
+        let addable = [1, 2, 3, 4, 5, 6, 7, 12, 13, 15];
+        for row in addable.into_iter().filter(|row| before.is_worth(*row)) {
             let words = next_item(&before, row);
             let fields = fields_of(&words);
             let need = partial.len() + 2 * words.len() + 2;
@@ -58,6 +59,7 @@ pub fn add_cases() -> Vec<Case> {
         }
     }
     cases.extend(add_values());
+    cases.extend(add_parts());
     cases.extend(add_orders());
     cases.extend(add_lengths());
     for frame in partials_with_faults(1) {
@@ -96,6 +98,33 @@ fn add_values() -> Vec<Case> {
     }
     for size in [0, 16, 17, 18, 19, 20, 0x1_0012, 0xFFFF_FFFF] {
         cases.push(add(&inside, &[13, size], inside.len() + 8));
+    }
+    cases
+}
+
+/// Continue events by their numbers and room; what follows one: End events of
+/// any size, and Channels that rise since it.
+fn add_parts() -> Vec<Case> {
+    let (outside, inside) = (partial(DATA, &[]), partial(DATA, &CONTINUE));
+    let mut cases = Vec::new();
+    for number in [0, 1, 0xFFFF, 0x10000, 0xFFFF_FFFF] {
+        cases.push(add(&outside, &[15, number], 14));
+    }
+    cases.extend([12, 13, 15].map(|length| add(&outside, &[15, 7], length)));
+    // In each kind of frame, and behind items of it.
+    for partial in [partial(MONITOR, &[]), partial(COMMAND, &[]), partial(MONITOR, &[0x8A05])] {
+        cases.push(add(&partial, &[15, 7], partial.len() + 8));
+    }
+    for size in [0, 12, 13, 18, 0x1_0000, 0xFFFF_FFFF] {
+        cases.push(add(&inside, &[13, size], inside.len() + 8));
+    }
+    // An event that starts behind the rest of one is measured as ever.
+    let ended = partial(DATA, &[&CONTINUE[..], &[0x00E0, 99, 0], &START].concat());
+    cases.extend([18, 30].map(|size| add(&ended, &[13, size], ended.len() + 8)));
+    let block = [0xCA85, 0x0E03, 0x30FA];
+    let sampled = partial(DATA, &[&CONTINUE[..], &block].concat());
+    for (chip, channel) in [(1, 4), (1, 5), (1, 6), (0, 79)] {
+        cases.push(add(&sampled, &[1, 5, chip, channel], sampled.len() + 4));
     }
     cases
 }
@@ -149,8 +178,7 @@ fn add_lengths() -> Vec<Case> {
 
 /// At most so many partial frames for each refusal of a partial frame.
 fn partials_with_faults(of_each: usize) -> Vec<Vec<u8>> {
-    let mut partials: Vec<Vec<u8>> =
-        refused_frames(of_each).iter().map(|f| partial_of(f)).collect();
+    let mut partials: Vec<Vec<u8>> = tried_frames(of_each).iter().map(|f| partial_of(f)).collect();
     for size in [1, 6, 8, 0x0100] {
         let mut sized = partial(COMMAND, &[]);
         sized[2..4].copy_from_slice(&(size as u16).to_le_bytes());
@@ -209,14 +237,22 @@ pub fn close_cases() -> Vec<Case> {
     for frame in partials_with_faults(2) {
         ask(&frame, frame.len() + 4);
     }
-    for frame in [third(), seventh(), two_events(), three_histograms(), five_texts()] {
+    let sound = [third(), seventh(), two_events(), three_histograms(), five_texts(), three_parts()];
+    for frame in sound {
         let partial = partial_of(&frame);
         (0..3).for_each(|more| ask(&partial, partial.len() + more));
     }
-    // An open event comes before room.
-    for items in [&[][..], &[0x4A05], &[0xCA05], &[0xCA05, 0x0E03], &[0xCA05, 0x0E03, 0x30FA]] {
-        let open = partial(DATA, &[&START[..], items].concat());
-        [0, 2].into_iter().for_each(|more| ask(&open, open.len() + more));
+    // After each class in an event and in a part: a cut comes before room.
+    for opener in [&START[..], &CONTINUE] {
+        let block = [0xCA05, 0x0E03, 0x30FA];
+        for items in [&[][..], &[0x4A05], &[0x1805], &block[..1], &block[..2], &block] {
+            let open = partial(DATA, &[opener, items].concat());
+            [0, 2].into_iter().for_each(|more| ask(&open, open.len() + more));
+        }
+    }
+    for size in [0, 12, 0xFFFF] {
+        let ended = partial(DATA, &[&CONTINUE[..], &[0x00E0, size, size]].concat());
+        [0, 2].into_iter().for_each(|more| ask(&ended, ended.len() + more));
     }
     for words in [4091, 4092, 4093] {
         let long = partial(DATA, &filled(DATA, words));

@@ -2,8 +2,8 @@
 //! laid-out bytes.
 
 use crate::book::*;
-use crate::draft::Draft;
-use crate::item::{text_words, to_bytes};
+use crate::draft::{long, Draft};
+use crate::item::{text_words, to_bytes, Item};
 use crate::rng::Rng;
 use crate::rules::Kind;
 
@@ -55,10 +55,11 @@ pub fn damaged_frame(rng: &mut Rng, draft: &Draft) -> Vec<u8> {
 
 /// Damages the items of a draft.
 pub fn damage_draft(rng: &mut Rng, draft: &mut Draft) {
-    match rng.below(10) {
+    match rng.below(12) {
         0..=4 => items_damage(rng, draft),
         5..=7 => field_damage(rng, draft),
-        _ => order_damage(rng, draft),
+        8 | 9 => order_damage(rng, draft),
+        _ => cut_channel(rng, draft),
     }
 }
 
@@ -104,7 +105,7 @@ fn items_damage(rng: &mut Rng, draft: &mut Draft) {
     let count = draft.items.len();
     let card = draft.card();
     let at = rng.below(count.max(1));
-    match rng.below(8) {
+    match rng.below(9) {
         0 if at + 1 < count => draft.items.swap(at, at + 1),
         1 if count > 0 => draft.items.swap(at, rng.below(count)),
         2 if count > 0 => draft.items.insert(at, draft.items[at].clone()),
@@ -120,6 +121,11 @@ fn items_damage(rng: &mut Rng, draft: &mut Draft) {
             let at = rng.below(count + 1);
             draft.items.insert(at, vec![edge_word(rng)]);
         }
+        7 => {
+            // A Continue event where it may stand, and where it may not.
+            let at = if rng.percent(40) { 0 } else { rng.below(count + 1) };
+            draft.items.insert(at, Item::ContinueEvent { zero: 0, number: long(rng) }.words());
+        }
         _ => {
             let at = rng.below(count + 1);
             draft.items.insert(at, any_item(rng, card));
@@ -128,6 +134,17 @@ fn items_damage(rng: &mut Rng, draft: &mut Draft) {
     if rng.percent(80) {
         draft.fix_events();
     }
+}
+
+/// Ends the items right behind a Channel or Time bin.
+fn cut_channel(rng: &mut Rng, draft: &mut Draft) {
+    let cuts =
+        |at: &usize| matches!(classify(draft.items[*at][0]), Class::Channel | Class::TimeBin);
+    let places: Vec<usize> = (0..draft.items.len()).filter(cuts).collect();
+    if places.is_empty() {
+        return items_damage(rng, draft);
+    }
+    draft.items.truncate(rng.pick(&places) + 1);
 }
 
 /// Moves one field of one item to or over an edge.
@@ -144,6 +161,7 @@ fn field_damage(rng: &mut Rng, draft: &mut Draft) {
     match class {
         Class::Text => text_damage(rng, words),
         Class::EndEvent => end_damage(rng, words),
+        Class::ContinueEvent => words[0] = 0x0A00 | rng.pick(&[0, 1, 2, 0x10, 0x100, 0x1FF]),
         Class::Bin if rng.percent(40) => (words[1], words[2]) = (0, rng.pick(&[0, 0, 1])),
         _ if !like.is_empty() && rng.percent(50) => {
             // Equal to an earlier one of its class, or just beside it.

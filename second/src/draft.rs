@@ -36,7 +36,8 @@ impl Draft {
     }
 
     /// Makes every End event name the bytes since the Start event before it,
-    /// so that other faults are not hidden behind its size.
+    /// so that other faults are not hidden behind its size. Behind a Continue
+    /// event any size will do.
     pub fn fix_events(&mut self) {
         let (mut start, mut index) = (None, 0);
         for words in &mut self.items {
@@ -69,14 +70,28 @@ impl Draft {
     }
 }
 
+/// A card: at an edge now and then.
+pub fn any_card(rng: &mut Rng) -> u64 {
+    if rng.percent(70) {
+        rng.within(0, 31)
+    } else {
+        rng.pick(&[0, 5, 31])
+    }
+}
+
 /// A sound frame with exactly so many words of items where the kind can have
 /// that many, else about as many.
 pub fn sound(rng: &mut Rng, kind: Kind, words: usize) -> Draft {
-    let card = if rng.percent(70) { rng.within(0, 31) } else { rng.pick(&[0, 5, 31]) };
+    let card = any_card(rng);
+    sound_of(rng, kind, card, words)
+}
+
+/// The same of a card.
+pub fn sound_of(rng: &mut Rng, kind: Kind, card: u64, words: usize) -> Draft {
     let number = rng.within(0, 255) as u16;
     let sequence = rng.pick(&[0, 1, 0xFF, 0x100, number, number]);
     let items = match kind {
-        // An event has nine words at least.
+        // A whole event has nine words at least.
         Kind::Data if (1..9).contains(&words) => events(rng, card, 9 + words),
         Kind::Data => events(rng, card, words),
         Kind::Monitor => histograms(rng, card, words),
@@ -107,8 +122,8 @@ fn field(rng: &mut Rng, max: u64) -> u64 {
 }
 
 /// A 32-bit number: now and then one whose words look like words of the book.
-fn long(rng: &mut Rng) -> u64 {
-    let looks = [0x00F1, 0x000F, 0x30FA, 0x2100, 0x8A4E, 0x00E0, 0xCB0A, 0x0805];
+pub fn long(rng: &mut Rng) -> u64 {
+    let looks = [0x00F1, 0x000F, 0x30FA, 0x2100, 0x8A4E, 0x00E0, 0xCB0A, 0x0805, 0x0A00];
     match rng.below(4) {
         0 => rng.pick(&looks),
         1 => rng.pick(&looks) << 16 | rng.pick(&looks),
@@ -117,43 +132,119 @@ fn long(rng: &mut Rng) -> u64 {
     }
 }
 
-/// Events that fill the words exactly. An event has at least nine words.
+/// What a frame has of an event: does it begin here, does it end here?
+#[derive(Clone, Copy)]
+pub struct Shape {
+    pub begins: bool,
+    pub ends: bool,
+}
+
+pub const WHOLE: Shape = Shape { begins: true, ends: true };
+
+impl Shape {
+    /// The words of its Start or Continue event and its End event.
+    fn least(self) -> usize {
+        let opener = if self.begins { 6 } else { 3 };
+        opener + if self.ends { 3 } else { 0 }
+    }
+}
+
+/// Which events a frame of so many words can have: at first perhaps the rest
+/// of one, at last perhaps the beginning of one.
+fn shapes(rng: &mut Rng, words: usize) -> Vec<Shape> {
+    let mut shapes = Vec::new();
+    let mut left = words;
+    let mut take = |shape: Shape, chosen: bool| {
+        if chosen && shape.least() <= left {
+            left -= shape.least();
+            shapes.push(shape);
+        }
+    };
+    if rng.percent(8) {
+        take(Shape { begins: false, ends: false }, true);
+        return shapes;
+    }
+    take(Shape { begins: false, ends: true }, rng.percent(22));
+    let open = rng.percent(22);
+    take(WHOLE, !open || rng.percent(50));
+    while rng.percent(50) && words > 0 {
+        take(WHOLE, true);
+    }
+    take(Shape { begins: true, ends: false }, open);
+    shapes
+}
+
+/// Events that fill the words exactly. A whole event has at least nine words.
 fn events(rng: &mut Rng, card: u64, words: usize) -> Vec<Vec<u16>> {
     let mut items = Vec::new();
-    let mut left = words;
-    while left >= 9 {
-        let all = left < 18 || rng.percent(50);
-        let size = if all { left } else { 9 + rng.below(left - 17) };
-        event(rng, card, size, &mut items);
-        left -= size;
+    let shapes = shapes(rng, words);
+    let mut left = words - shapes.iter().map(|shape| shape.least()).sum::<usize>();
+    for (at, shape) in shapes.iter().enumerate() {
+        let all = at + 1 == shapes.len() || rng.percent(40);
+        let inner = if all { left } else { rng.below(left + 1) };
+        event(rng, card, *shape, inner, &mut items);
+        left -= inner;
     }
     items
 }
 
-/// One event of exactly so many words.
-fn event(rng: &mut Rng, card: u64, words: usize, items: &mut Vec<Vec<u16>>) {
+/// An event with so many words beside its Start, Continue and End event.
+pub fn event(rng: &mut Rng, card: u64, shape: Shape, inner: usize, items: &mut Vec<Vec<u16>>) {
+    let number = long(rng);
+    if shape.begins {
+        items.push(start_event(rng, number).words());
+    } else {
+        items.push(Item::ContinueEvent { zero: 0, number }.words());
+    }
+    let mut channel = first_channel(rng);
+    body(rng, card, inner, &mut channel, items);
+    if shape.ends {
+        let here = 2 * (shape.least() + inner) as u64;
+        // What an event had before is not known here: any size is sound.
+        let size = if shape.begins { here } else { rng.pick(&[here, here + 18, 0, number]) };
+        items.push(Item::EndEvent { zero: 0, size }.words());
+    }
+}
+
+pub fn start_event(rng: &mut Rng, number: u64) -> Item {
     let timestamp = match rng.below(4) {
         0 => field(rng, MAX_TIMESTAMP),
         1 => long(rng) << 16,
         _ => rng.within(0, 0xFFFF_FFFF),
     };
-    let start = Item::StartEvent { kind: field(rng, MAX_TYPE), timestamp, number: long(rng) };
-    items.push(start.words());
-    let mut left = words - 9;
-    // Channels rise by chip and channel; `channel` counts them through.
-    let mut channel = if rng.percent(70) { rng.below(40) } else { rng.below(316) };
+    Item::StartEvent { kind: field(rng, MAX_TYPE), timestamp, number }
+}
+
+/// Channels are counted through by chip and channel; this is the first one.
+pub fn first_channel(rng: &mut Rng) -> usize {
+    if rng.percent(70) {
+        rng.below(40)
+    } else {
+        rng.below(316)
+    }
+}
+
+/// Exactly so many words of channels, from `channel` on, and loose items;
+/// leaves in `channel` the one that may come next.
+pub fn body(
+    rng: &mut Rng,
+    card: u64,
+    words: usize,
+    channel: &mut usize,
+    items: &mut Vec<Vec<u16>>,
+) {
+    let mut left = words;
     while left > 0 {
-        if left < 3 || channel >= 316 || rng.percent(30) {
+        if left < 3 || *channel >= 316 || rng.percent(30) {
             items.push(loose_item(rng, card).words());
             left -= 1;
         } else {
             let most = left.min(if left > 500 { 300 } else { 40 });
             let size = 3 + rng.below(most - 2);
-            left -= channel_block(rng, card, channel as u64, size, items);
-            channel += 1 + rng.pick(&[0, 0, 0, 1, 5, 78, 79]);
+            left -= channel_block(rng, card, *channel as u64, size, items);
+            *channel += 1 + rng.pick(&[0, 0, 0, 1, 5, 78, 79]);
         }
     }
-    items.push(Item::EndEvent { zero: 0, size: 2 * words as u64 }.words());
 }
 
 /// A Hit count or Last cell, which may stand anywhere between channels.

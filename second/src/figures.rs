@@ -43,8 +43,8 @@ fn figure_3_is_read() {
     assert_eq!((frame.kind, frame.card, frame.sequence), (Kind::Data, 5, 0x0100));
     assert_eq!(frame.items.len(), 6);
     let event = event(&bytes, 0).unwrap();
-    assert_eq!((event.kind, event.timestamp, event.number), (1, 1000, 7));
-    assert_eq!((event.size, event.index), (26, 3));
+    assert_eq!((event.kind, event.timestamp, event.number), (Some(1), Some(1000), 7));
+    assert_eq!((event.size, event.index), (Some(26), 3));
     let channel = item(&bytes, 1).unwrap();
     assert_eq!(channel.item, Item::Channel { card: 5, chip: 2, channel: 10 });
     let mut out = [7; 513];

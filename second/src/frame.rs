@@ -99,7 +99,7 @@ pub fn read(bytes: &[u8]) -> Result<Frame, Refusal> {
         return refuse(END);
     }
     let (items, standing) = walk(bytes, Standing::new(kind, card), last)?;
-    if standing.event.is_some() {
+    if standing.is_cut() {
         return refuse_at(OPEN, last);
     }
     Ok(Frame { kind, card, sequence, items })
@@ -126,32 +126,48 @@ pub fn text(bytes: &[u8], ordinal: u64) -> &[u8] {
     }
 }
 
-/// An event: its Start event's fields, its size, and where it starts.
+/// An event, or the part of one that stands in a frame. What stands in another
+/// frame is missing: type and timestamp with the Start, the size with the End.
 #[derive(Clone, Copy, PartialEq, Eq, Debug)]
 pub struct Event {
-    pub kind: u64,
-    pub timestamp: u64,
+    pub kind: Option<u64>,
+    pub timestamp: Option<u64>,
     pub number: u64,
-    pub size: u64,
+    pub size: Option<u64>,
+    /// Of its Start or Continue word.
     pub index: usize,
 }
 
-/// The items of event `ordinal` in an accepted frame, Start and End included.
-fn event_items(frame: &Frame, ordinal: u64) -> Option<&[Found]> {
-    let is_start = |found: &&[Found]| matches!(found[0].item, Item::StartEvent { .. });
+/// The events of an accepted frame, each from its Start or Continue event to
+/// its End event or the last item.
+pub fn events(frame: &Frame) -> impl Iterator<Item = &[Found]> {
     let ends = |found: &Found| matches!(found.item, Item::EndEvent { .. });
-    let events = frame.items.split_inclusive(ends).filter(is_start);
-    events.enumerate().find(|(at, _)| *at as u64 == ordinal).map(|(_, items)| items)
+    // In a data frame every item belongs to an event, in others none does.
+    let items: &[Found] = if frame.kind == Kind::Data { &frame.items } else { &[] };
+    items.split_inclusive(ends)
+}
+
+/// The items of event `ordinal` in an accepted frame.
+fn event_items(frame: &Frame, ordinal: u64) -> Option<&[Found]> {
+    events(frame).enumerate().find(|(at, _)| *at as u64 == ordinal).map(|(_, items)| items)
 }
 
 pub fn event(bytes: &[u8], ordinal: u64) -> Result<Event, Refusal> {
     let frame = read(bytes)?;
-    let Some([first, .., last]) = event_items(&frame, ordinal) else {
+    let Some([first, rest @ ..]) = event_items(&frame, ordinal) else {
         return refuse(ABSENT);
     };
-    match (first.item, last.item) {
-        (Item::StartEvent { kind, timestamp, number }, Item::EndEvent { size, .. }) => {
-            Ok(Event { kind, timestamp, number, size, index: first.index })
+    let size = match rest.last().map(|last| last.item) {
+        Some(Item::EndEvent { size, .. }) => Some(size),
+        _ => None,
+    };
+    let index = first.index;
+    match first.item {
+        Item::StartEvent { kind, timestamp, number } => {
+            Ok(Event { kind: Some(kind), timestamp: Some(timestamp), number, size, index })
+        }
+        Item::ContinueEvent { number, .. } => {
+            Ok(Event { kind: None, timestamp: None, number, size, index })
         }
         _ => refuse(ABSENT),
     }

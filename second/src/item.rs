@@ -49,6 +49,11 @@ pub enum Item {
         zero: u64,
         size: u64,
     },
+    /// `zero` is the word's low nine bits, which a value rule asks to be zero.
+    ContinueEvent {
+        zero: u64,
+        number: u64,
+    },
 }
 
 /// The word at an index, low byte first.
@@ -86,6 +91,9 @@ pub fn item_at(bytes: &[u8], index: usize) -> Option<Item> {
             number: number(bytes, index + 4, 2),
         },
         Class::EndEvent => Item::EndEvent { zero: cut(0, 4), size: number(bytes, index + 1, 2) },
+        Class::ContinueEvent => {
+            Item::ContinueEvent { zero: cut(0, 9), number: number(bytes, index + 1, 2) }
+        }
         _ => return None,
     })
 }
@@ -120,6 +128,7 @@ impl Item {
             Item::Text { .. } => Class::Text,
             Item::StartEvent { .. } => Class::StartEvent,
             Item::EndEvent { .. } => Class::EndEvent,
+            Item::ContinueEvent { .. } => Class::ContinueEvent,
         }
     }
 
@@ -136,6 +145,7 @@ impl Item {
             Item::Text { length } => vec![length],
             Item::StartEvent { kind, timestamp, number } => vec![kind, timestamp, number],
             Item::EndEvent { size, .. } => vec![size],
+            Item::ContinueEvent { number, .. } => vec![number],
         }
     }
 
@@ -152,6 +162,7 @@ impl Item {
             Class::TimeBin => Item::TimeBin { time: a },
             Class::StartEvent => Item::StartEvent { kind: a, timestamp: b, number: c },
             Class::EndEvent => Item::EndEvent { zero: 0, size: a },
+            Class::ContinueEvent => Item::ContinueEvent { zero: 0, number: a },
             _ => return None,
         })
     }
@@ -178,6 +189,9 @@ impl Item {
                 vec![0x00F0 | kind as u16, low(t, 0), low(t, 1), low(t, 2), low(n, 0), low(n, 1)]
             }
             Item::EndEvent { zero, size } => vec![0x00E0 | zero as u16, low(size, 0), low(size, 1)],
+            Item::ContinueEvent { zero, number: n } => {
+                vec![0x0A00 | zero as u16, low(n, 0), low(n, 1)]
+            }
         }
     }
 }

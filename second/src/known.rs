@@ -2,6 +2,7 @@
 //! rule. The verdicts are written down here and not computed.
 
 use crate::item::to_bytes;
+use crate::known_parts::{long_parts, parts};
 
 /// A frame and its refusal, number and place; none where it is accepted.
 #[derive(Clone, Debug)]
@@ -16,10 +17,18 @@ pub const COMMAND: u16 = 0x0405;
 /// A Start event and five words after it.
 pub const START: [u16; 6] = [0x00F1, 0x03E8, 0, 0, 7, 0];
 
+/// A Continue event of the same number and the two words after it.
+pub const CONTINUE: [u16; 3] = [0x0A00, 7, 0];
+
 /// The frame of the items, with right head and end.
 pub fn framed(start: u16, items: &[u16]) -> Vec<u8> {
+    framed_with(0x0100, start, items)
+}
+
+/// The same with a sequence word.
+pub fn framed_with(sequence: u16, start: u16, items: &[u16]) -> Vec<u8> {
     let size = 2 * items.len() as u16 + 8;
-    to_bytes(&[&[start, size, 0x0100], items, &[0x000F]].concat())
+    to_bytes(&[&[start, size, sequence], items, &[0x000F]].concat())
 }
 
 /// An event round the items, with its right size.
@@ -28,18 +37,18 @@ pub fn event(inner: &[u16]) -> Vec<u16> {
     [&START, inner, &[0x00E0, size, 0]].concat()
 }
 
-fn good(bytes: Vec<u8>) -> Known {
+pub fn good(bytes: Vec<u8>) -> Known {
     Known { bytes, refusal: None }
 }
 
-fn bad(bytes: Vec<u8>, number: u8, place: u64) -> Known {
+pub fn bad(bytes: Vec<u8>, number: u8, place: u64) -> Known {
     Known { bytes, refusal: Some((number, place)) }
 }
 
 /// All frames of the corpus but the long ones.
 pub fn frames() -> Vec<Known> {
-    let groups = [figures(), heads(), classes_and_cuts(), places(), values(), texts(), orders()];
-    groups.concat()
+    let alone = [figures(), heads(), classes_and_cuts(), places(), values(), texts(), orders()];
+    [alone.concat(), parts()].concat()
 }
 
 /// Document 01's cases 1 to 9.
@@ -49,9 +58,9 @@ pub fn figures() -> Vec<Known> {
         words[at] = word;
         to_bytes(&words)
     };
-    let seventh = |header, low, high| framed_zero(MONITOR, &[header, 0x2100, low, high]);
+    let seventh = |header, low, high| framed_with(0, MONITOR, &[header, 0x2100, low, high]);
     vec![
-        good(framed_zero(DATA, &[])),
+        good(framed_with(0, DATA, &[])),
         bad(to_bytes(&[0x0825, 8, 0, 0x000F]), 2, 0),
         good(third(0, DATA)),
         bad(third(14, 0x001C), 9, 13),
@@ -65,12 +74,6 @@ pub fn figures() -> Vec<Known> {
 
 /// What stands in the event of case 3.
 pub const SIX: [u16; 4] = [0xCB0A, 0x0E03, 0x30FA, 0x30FB];
-
-/// A frame with sequence word 0.
-fn framed_zero(start: u16, items: &[u16]) -> Vec<u8> {
-    let size = 2 * items.len() as u16 + 8;
-    to_bytes(&[&[start, size, 0], items, &[0x000F]].concat())
-}
 
 /// Rules 1 to 5 on frames of eight bytes or about.
 fn heads() -> Vec<Known> {
@@ -109,7 +112,7 @@ fn heads() -> Vec<Known> {
 /// Unassigned words, and items cut by one word or by all.
 fn classes_and_cuts() -> Vec<Known> {
     let mut known = Vec::new();
-    let unassigned = [0, 0x000E, 0x0010, 0x00DF, 0x0200, 0x03FF, 0x0A00, 0x0DFF, 0x1000, 0x17FF];
+    let unassigned = [0, 0x000E, 0x0010, 0x00DF, 0x0200, 0x03FF, 0x0C00, 0x0DFF, 0x1000, 0x17FF];
     for (at, word) in unassigned.into_iter().enumerate() {
         known.push(bad(framed([DATA, MONITOR, COMMAND][at % 3], &[word]), 6, 3));
     }
@@ -145,9 +148,13 @@ impl Before {
     /// the allowed ones and those that a lax reader would take.
     pub fn is_worth(&self, row: u64) -> bool {
         let last = self.items.last().copied();
-        let differs = matches!(last, None | Some(0xCA05 | 0x0E03 | 0x30FA)) || self.items == START;
+        let inside = matches!(last, None | Some(0xCA05 | 0x0E03 | 0x30FA));
+        let differs = match self.items.starts_with(&CONTINUE) {
+            true => self.items == CONTINUE,
+            false => inside || self.items == START,
+        };
         let frame_start = (8..=10).contains(&row);
-        let lax = [4, 7].contains(&row);
+        let lax = [4, 7, 15].contains(&row);
         self.allowed.contains(&row) || lax || (differs && (!frame_start || last.is_none()))
     }
 }
@@ -164,8 +171,10 @@ pub fn befores() -> Vec<Before> {
         let items = [&START[..], items].concat();
         Before { start: DATA, items, event: Some(3), allowed }
     };
+    // The event that is open began in an earlier frame.
+    let part = |items: &[u16], allowed| outside(DATA, &[&CONTINUE, items].concat(), allowed);
     vec![
-        outside(DATA, &[], &[12]),
+        outside(DATA, &[], &[12, 15]),
         outside(DATA, &event(&[]), &[12]),
         within(&[], inside),
         within(&[0x4A05], inside),
@@ -175,6 +184,13 @@ pub fn befores() -> Vec<Before> {
         within(&[0xCA05, 0x0E03, 0x30FA], &[1, 3, 4, 6, 7, 13]),
         within(&[0xCA05, 0x0E03, 0x30FA, 0x4A05], inside),
         within(&[0xCA05, 0x0E03, 0x30FA, 0x1805], inside),
+        part(&[], inside),
+        part(&[0x4A05], inside),
+        part(&[0x1805], inside),
+        part(&[0xCA05], &[7]),
+        part(&[0xCA05, 0x0E03], &[4]),
+        part(&[0xCA05, 0x0E03, 0x30FA], &[1, 3, 4, 6, 7, 13]),
+        part(&[0x00E0, 0, 0], &[12]),
         outside(MONITOR, &[], &[2]),
         outside(MONITOR, &[0x8A05], &[2, 5]),
         outside(MONITOR, &[0x8A05, 0x2100, 1, 0], &[2, 5]),
@@ -201,6 +217,7 @@ pub fn next_item(before: &Before, row: u64) -> Vec<u16> {
         11 => vec![0x0102, 0x0041],
         12 => START.to_vec(),
         13 => vec![0x00E0, size, 0],
+        15 => CONTINUE.to_vec(),
         _ => vec![0x000F],
     }
 }
@@ -209,15 +226,16 @@ pub fn next_item(before: &Before, row: u64) -> Vec<u16> {
 fn places() -> Vec<Known> {
     let mut known = Vec::new();
     for before in befores() {
-        for row in (1..=14).filter(|row| before.is_worth(*row)) {
+        for row in (1..=15).filter(|row| before.is_worth(*row)) {
             let item = next_item(&before, row);
             let items = [&before.items[..], &item].concat();
             let (index, last) = (3 + before.items.len() as u64, 3 + items.len() as u64);
             let bytes = framed(before.start, &items);
-            let opens = before.start == DATA && row != 13;
+            // A frame may end in an open event, but not after Channel or Time bin.
+            let cut = [1, 7].contains(&row);
             known.push(match before.allowed.contains(&row) {
                 false => bad(bytes, 8, index),
-                true if opens => bad(bytes, 11, last),
+                true if cut => bad(bytes, 11, last),
                 true => good(bytes),
             });
         }
@@ -340,6 +358,7 @@ pub fn long_frames() -> Vec<Known> {
     let mut odd = framed(COMMAND, &filled(COMMAND, 4091));
     odd.push(0);
     known.push(bad(odd, 1, 0));
+    known.extend(long_parts());
     known
 }
 

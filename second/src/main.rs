@@ -1,29 +1,43 @@
-//! The independent second program: answers cases by document 01, makes fresh
-//! ones, and compares another program's lines with its own.
+//! The independent second program: answers cases by document 01 and request 1 of
+//! document 02, makes fresh ones, and compares another program's lines with its
+//! own.
 
 mod answer;
+mod assembler;
 mod book;
 mod cases;
 mod chains;
 mod corpus;
 mod corpus_list;
 mod corpus_record;
+mod corpus_run;
 mod corpus_writer;
 mod damage;
+mod damage_run;
 mod draft;
+mod draft_run;
 #[cfg(test)]
 mod figures;
+#[cfg(test)]
+mod figures_parts;
 mod follower;
 mod frame;
 mod item;
 mod known;
+mod known_parts;
+mod known_runs;
+mod known_steps;
 mod listing;
 mod make;
 mod make_record;
+mod make_run;
 mod make_writer;
+#[cfg(test)]
+mod reasons;
 mod record;
 mod rng;
 mod rules;
+mod run;
 mod samples;
 mod tally;
 mod writer;

@@ -10,6 +10,7 @@ use crate::draft::{small_size, sound};
 use crate::frame::{self, Found};
 use crate::item::Item;
 use crate::make_record;
+use crate::make_run;
 use crate::make_writer;
 use crate::rng::Rng;
 use crate::rules::Kind;
@@ -70,6 +71,9 @@ fn draw(rng: &mut Rng, op: u8, sink: &mut Sink) {
         BEGIN => sink.emit(&make_writer::begin_case(rng)),
         ADD..=CLOSE => sink.emit(&make_writer::partial_case(rng, op)),
         FOLLOW => sink.emit(&follow_case(rng)),
+        RUN | STEP if chain => chains::running(rng, sink),
+        RUN => sink.emit(&make_run::run_case(rng)),
+        STEP => sink.emit(&make_run::step_case(rng)),
         _ if chain => chains::recording(rng, sink),
         _ => sink.emit(&make_record::record_case(rng, op)),
     }
@@ -117,7 +121,10 @@ fn question(rng: &mut Rng, op: u8) -> Case {
     let count_of = |class| items.iter().filter(|found| found.item.class() == class).count();
     let arguments = match op {
         READ => vec![],
-        EVENT => vec![ordinal(rng, count_of(Class::StartEvent))],
+        EVENT => {
+            let events = count_of(Class::StartEvent) + count_of(Class::ContinueEvent);
+            vec![ordinal(rng, events)]
+        }
         SAMPLES => {
             let [event, chip, channel] = aim_at_channel(rng, &items);
             let fill = rng.pick(&[0xFFFF, 0, 0x1234, 0x0FFF]);
@@ -162,7 +169,7 @@ fn aim_at_channel(rng: &mut Rng, items: &[Found]) -> [u64; 3] {
     let mut events = 0u64;
     for found in items {
         match found.item {
-            Item::StartEvent { .. } => events += 1,
+            Item::StartEvent { .. } | Item::ContinueEvent { .. } => events += 1,
             Item::Channel { chip, channel, .. } => standing.push([events - 1, chip, channel]),
             Item::Histogram { chip, channel, .. } => standing.push([0, chip, channel]),
             _ => {}
@@ -191,7 +198,7 @@ fn aim_at_value(rng: &mut Rng, items: &[Found]) -> [u64; 4] {
     let (mut event, mut under, mut next) = (0u64, [0, 0], 0);
     for found in items {
         match found.item {
-            Item::StartEvent { .. } => event += 1,
+            Item::StartEvent { .. } | Item::ContinueEvent { .. } => event += 1,
             Item::Channel { chip, channel, .. } => under = [chip, channel],
             Item::Histogram { chip, channel, .. } => under = [chip, channel],
             Item::TimeBin { time } => next = time,

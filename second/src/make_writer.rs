@@ -3,7 +3,7 @@
 use crate::book::*;
 use crate::cases::*;
 use crate::damage::{damage_draft, flip_bit, put_word, start_word};
-use crate::draft::{small_size, sound, text_content, Draft};
+use crate::draft::{long, small_size, sound, text_content, Draft};
 use crate::item::{text_words, Item};
 use crate::rng::Rng;
 use crate::rules::{Kind, Standing};
@@ -141,7 +141,7 @@ pub fn add(said: u64, item: &Item) -> Case {
 
 fn item_words_after(item: &Item) -> usize {
     match item.class() {
-        Class::Bin | Class::EndEvent => 2,
+        Class::Bin | Class::EndEvent | Class::ContinueEvent => 2,
         Class::StartEvent => 5,
         _ => 0,
     }
@@ -179,7 +179,7 @@ pub fn aimed_text(rng: &mut Rng) -> Vec<u8> {
 
 /// An item at or around what the standing items allow at this word index.
 pub fn aimed_item(rng: &mut Rng, standing: &Standing, index: usize) -> Item {
-    let addable = [1, 2, 3, 4, 5, 6, 7, 12, 13].map(Class::of_row);
+    let addable = [1, 2, 3, 4, 5, 6, 7, 12, 13, 15].map(Class::of_row);
     let allowed: Vec<Class> = addable.into_iter().filter(|c| standing.allows(*c)).collect();
     let good = !allowed.is_empty() && rng.percent(88);
     let mut class = if good { rng.pick(&allowed) } else { rng.pick(&addable) };
@@ -236,10 +236,11 @@ fn near(rng: &mut Rng, standing: &Standing, class: Class, index: usize) -> [u64;
             let timestamp = rng.pick(&[0, 1, 1000, 1 << 32, MAX_TIMESTAMP, MAX_TIMESTAMP, 1 << 48]);
             [edge(rng, MAX_TYPE), timestamp, rng.next() >> rng.within(32, 63)]
         }
+        Class::ContinueEvent => [long(rng), 0, 0],
         _ => {
-            let size = standing.event_size(index).unwrap_or(18);
+            let size = standing.event_size(index).unwrap_or(long(rng));
             let off = rng.pick(&[0, 0, 0, 0, 0, 0, 1, 2, -1, -2, 65_536]);
-            [size.saturating_add_signed(off), 0, 0]
+            [size.saturating_add_signed(off).min(0xFFFF_FFFF), 0, 0]
         }
     }
 }

@@ -25,6 +25,7 @@ pub const OPEN: u8 = 11;
 pub const ROOM: u8 = 12;
 pub const ABSENT: u8 = 13;
 pub const NO_START: u8 = 14;
+pub const LINK: u8 = 15;
 pub const HEADER: u8 = 20;
 pub const ENTRY: u8 = 21;
 pub const TARGET: u8 = 22;
@@ -83,16 +84,25 @@ impl Kind {
     }
 }
 
+/// What opened the event that stands open.
+#[derive(Clone, Copy, PartialEq, Eq, Debug)]
+pub enum Opener {
+    /// A Start event of this frame, at that word index.
+    Start(usize),
+    /// The frame's leading Continue event: the Start is in an earlier frame.
+    Continue,
+}
+
 /// What stands before the next item, as far as the rules ask.
 #[derive(Clone, Debug)]
 pub struct Standing {
     pub kind: Kind,
     pub card: u64,
-    /// Word index of the open event's Start event.
-    pub event: Option<usize>,
+    /// The open event, if any.
+    pub event: Option<Opener>,
     /// Class of the item just before.
     pub last: Option<Class>,
-    /// Content of the last Channel header in the open event.
+    /// Content of the last Channel header since the event was opened here.
     pub channel: Option<u64>,
     /// Time of the last sample in the present channel.
     pub sampled: Option<u64>,
@@ -124,7 +134,9 @@ impl Standing {
         use Class::*;
         let inside = matches!(class, HitCount | LastCell | Channel | EndEvent);
         match self.kind {
-            Kind::Data if self.event.is_none() => class == StartEvent,
+            Kind::Data if self.event.is_none() => {
+                class == StartEvent || (class == ContinueEvent && self.last.is_none())
+            }
             Kind::Data => match self.last {
                 Some(Channel) => class == TimeBin,
                 Some(TimeBin) => class == Sample,
@@ -158,13 +170,26 @@ impl Standing {
             Item::StartEvent { kind, timestamp, number } => {
                 kind <= MAX_TYPE && timestamp <= MAX_TIMESTAMP && number <= u32::MAX as u64
             }
-            Item::EndEvent { zero, size } => zero == 0 && Some(size) == self.event_size(index),
+            Item::EndEvent { zero, size } => {
+                let right = self.event_size(index).is_none_or(|right| size == right);
+                zero == 0 && size <= u32::MAX as u64 && right
+            }
+            Item::ContinueEvent { zero, number } => zero == 0 && number <= u32::MAX as u64,
         }
     }
 
-    /// The bytes of the open event if an End event starts at this word index.
+    /// The bytes of the open event if an End event starts at this word index;
+    /// none where they are not known here, as it began in an earlier frame.
     pub fn event_size(&self, index: usize) -> Option<u64> {
-        self.event.map(|start| 2 * (index + 3 - start) as u64)
+        match self.event {
+            Some(Opener::Start(start)) => Some(2 * (index + 3 - start) as u64),
+            _ => None,
+        }
+    }
+
+    /// OPEN: a frame may not end right after a Channel or Time bin.
+    pub fn is_cut(&self) -> bool {
+        matches!(self.last, Some(Class::Channel | Class::TimeBin))
     }
 
     /// ORDER: times, headers and bins rise.
@@ -188,9 +213,10 @@ impl Standing {
     pub fn take(&mut self, item: &Item, index: usize) {
         match *item {
             Item::StartEvent { .. } => {
-                self.event = Some(index);
+                self.event = Some(Opener::Start(index));
                 self.channel = None;
             }
+            Item::ContinueEvent { .. } => self.event = Some(Opener::Continue),
             Item::EndEvent { .. } => self.event = None,
             Item::Channel { card, chip, channel } => {
                 self.channel = Some(content(card, chip, channel));

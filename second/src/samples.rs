@@ -1,5 +1,5 @@
 //! The samples: frames written by calls of the writer, records by calls of the
-//! editor. Each call is also given out as a case, so that the proved library
+//! editor, a run taken by the assembler. Each call is also given out as a case, so that the proved library
 //! can be asked whether it leaves the same bytes.
 
 use crate::answer::answer;
@@ -9,6 +9,7 @@ use crate::known::figures;
 use crate::make_record::targets;
 use crate::record::{ENTRY_BYTES, HEADER_BYTES};
 use crate::rules::Kind;
+use crate::run::{payload, Step};
 
 /// A sample by its name, and the calls that made all of them.
 #[derive(Default)]
@@ -97,15 +98,22 @@ fn mending(frame: &[u8]) -> Vec<[u64; 4]> {
     edits
 }
 
+fn start(number: u64) -> Item {
+    Item::StartEvent { kind: 1, timestamp: 1000 * number, number }
+}
+
+fn channel(chip: u64, channel: u64) -> Item {
+    Item::Channel { card: 5, chip, channel }
+}
+
+/// A Time bin and its samples.
+fn pulse(time: u64, values: &[u64]) -> Vec<Item> {
+    let samples = values.iter().map(|value| Item::Sample { value: *value });
+    std::iter::once(Item::TimeBin { time }).chain(samples).collect()
+}
+
 /// Two events of one card: pulses on two channels, and on one.
 fn pulses() -> Vec<Item> {
-    let start = |number| Item::StartEvent { kind: 1, timestamp: 1000 * number, number };
-    let channel = |chip, channel| Item::Channel { card: 5, chip, channel };
-    let pulse = |time, values: &[u64]| {
-        let mut items = vec![Item::TimeBin { time }];
-        items.extend(values.iter().map(|value| Item::Sample { value: *value }));
-        items
-    };
     let mut items = vec![start(7), Item::HitCount { card: 5, chip: 2, count: 2 }];
     items.push(channel(2, 10));
     items.extend(pulse(3, &[250, 251, 390, 812, 604, 301]));
@@ -121,6 +129,44 @@ fn pulses() -> Vec<Item> {
     items
 }
 
+/// One event over three frames: pulses on two channels, on two more, on one.
+fn parts() -> [Vec<Item>; 3] {
+    let goes_on = Item::ContinueEvent { zero: 0, number: 9 };
+    let mut first = vec![start(9), Item::HitCount { card: 5, chip: 0, count: 2 }];
+    first.push(channel(0, 20));
+    first.extend(pulse(17, &[251, 260, 402, 655, 480, 297]));
+    first.push(channel(0, 21));
+    first.extend(pulse(18, &[249, 301, 366, 280]));
+    let mut second = vec![goes_on, channel(1, 4)];
+    second.extend(pulse(17, &[250, 288, 917, 640, 311]));
+    second.push(channel(2, 33));
+    second.extend(pulse(16, &[252, 270, 259]));
+    second.extend(pulse(40, &[266, 258]));
+    let mut third = vec![goes_on, channel(3, 60)];
+    third.extend(pulse(19, &[247, 355, 342, 261]));
+    third.push(Item::LastCell { chip: 3, cell: 12 });
+    // The three frames' items, the Continue events too.
+    let size = 2 * ((6 + 1 + 8 + 6) + (3 + 7 + 5 + 3) + (3 + 6 + 1 + 3));
+    third.push(Item::EndEvent { zero: 0, size });
+    [first, second, third]
+}
+
+impl Samples {
+    /// The frames of an event, numbered from a new start on. They have to be
+    /// taken one behind the other.
+    fn run(&mut self, kind: u64, card: u64) -> [Vec<u8>; 3] {
+        let mut sequence = [0x0100, 1, 2].into_iter();
+        let mut frame = |items: Vec<Item>| {
+            self.frame(kind, card, sequence.next().expect("three frames"), &items, &[])
+        };
+        let frames = parts().map(&mut frame);
+        let steps = frames.clone().map(Step::Frame);
+        let line = self.call(&mut Case::new(RUN, &[card]).p(&payload(&steps)));
+        assert_eq!(line, "ok lost 0 lost 0 lost 0 none", "a sample's run");
+        frames
+    }
+}
+
 pub fn samples() -> Samples {
     let mut samples = Samples::default();
     let kind = |kind| Kind::ALL.iter().position(|k| *k == kind).expect("a kind") as u64;
@@ -128,6 +174,7 @@ pub fn samples() -> Samples {
     let data = samples.frame(kind(Kind::Data), 5, 0x0100, &pulses(), &[]);
     let command =
         samples.frame(kind(Kind::Command), 14, 3, &[], &["isobus 0x6C", "hped getbins 1 40"]);
+    let [first, second, third] = samples.run(kind(Kind::Data), 5);
     let plane = samples.record(&monitor, &mending(&monitor));
     let tenth = samples.record(&figures()[2].bytes, &[[11, 260, 9, 2]]);
     // The new value of the fourth entry rewritten.
@@ -140,6 +187,25 @@ pub fn samples() -> Samples {
         ("data.frame", data),
         ("monitor.frame", monitor),
         ("command.frame", command),
+        ("run-1.frame", first),
+        ("run-2.frame", second),
+        ("run-3.frame", third),
     ];
     samples
+}
+
+#[cfg(test)]
+mod tests {
+    use super::*;
+
+    /// The parts of event 9 as the questions about each frame tell them.
+    #[test]
+    fn the_run_is_one_event() {
+        let files = samples().files;
+        let lines = ["run-1.frame", "run-2.frame", "run-3.frame"].map(|name| {
+            let (_, bytes) = files.iter().find(|file| file.0 == name).unwrap();
+            answer(&mut Case::new(EVENT, &[0]).p(bytes))
+        });
+        assert_eq!(lines, ["ok 1 9000 9 - 3", "ok - - 9 - 3", "ok - - 9 104 3"]);
+    }
 }

@@ -5,7 +5,7 @@ use crate::cases::*;
 use std::collections::BTreeMap;
 use std::fmt::Write;
 
-/// The refusals that each op can give.
+/// The refusals that each op can give; those of a run are its steps'.
 pub fn possible(op: u8) -> &'static [u8] {
     match op {
         READ => &[1, 2, 3, 4, 5, 6, 7, 8, 9, 10, 11],
@@ -21,13 +21,16 @@ pub fn possible(op: u8) -> &'static [u8] {
         EDIT => &[1, 2, 3, 4, 5, 6, 7, 8, 9, 10, 11, 12, 20, 21, 22, 23, 24, 25],
         LIST => &[12],
         RESTORE => &[1, 2, 3, 4, 5, 6, 7, 8, 9, 10, 11, 12, 20, 21, 26],
+        RUN | STEP => &[1, 2, 3, 4, 5, 6, 7, 8, 9, 10, 11, 14, 15],
         _ => &[],
     }
 }
 
-/// Counts by op and refusal number; 0 stands for an accepted call.
+/// Counts of the cases by op, and of the answers by op and refusal number; 0
+/// stands for a line without a refusal. A run's line can have several.
 #[derive(Default)]
 pub struct Tally {
+    cases: BTreeMap<u8, u64>,
     counts: BTreeMap<(u8, u8), u64>,
 }
 
@@ -41,9 +44,14 @@ impl Tally {
     }
 
     fn count(&mut self, op: u8, line: &str) {
-        let refusal = line.strip_prefix("refused ").and_then(|rest| rest.split(' ').next());
-        let number = refusal.map_or(0, |number| number.parse().unwrap_or(0));
-        *self.counts.entry((op, number)).or_default() += 1;
+        *self.cases.entry(op).or_default() += 1;
+        let mut numbers: Vec<u8> = refusals(line).collect();
+        if numbers.is_empty() {
+            numbers.push(0);
+        }
+        for number in numbers {
+            *self.counts.entry((op, number)).or_default() += 1;
+        }
     }
 
     fn get(&self, op: u8, number: u8) -> u64 {
@@ -52,14 +60,14 @@ impl Tally {
 
     #[cfg(test)]
     pub fn cases(&self) -> u64 {
-        self.counts.values().sum()
+        self.cases.values().sum()
     }
 
     /// What an op that came up can answer and never did.
     pub fn missing(&self) -> Vec<String> {
         let mut missing = Vec::new();
         for op in 0..OPS as u8 {
-            let came_up = self.counts.keys().any(|key| key.0 == op);
+            let came_up = self.cases.contains_key(&op);
             for number in std::iter::once(&0).chain(possible(op)) {
                 if came_up && self.get(op, *number) == 0 {
                     missing.push(format!("op {op} refusal {number}"));
@@ -69,17 +77,14 @@ impl Tally {
         missing
     }
 
-    /// One row for each op that came up: op, name, cases, accepted, and every
-    /// refusal that it can give with how often it did.
+    /// One row for each op that came up: op, name, cases, those with nothing
+    /// refused, and every refusal that it can give with how often it did.
     pub fn table(&self) -> String {
         let mut table = format!("{:>2} {:<12}{:>9}{:>9}  refused\n", "op", "call", "cases", "ok");
-        for op in 0..OPS as u8 {
-            let numbers = self.counts.iter().filter(|(key, _)| key.0 == op);
-            let all: u64 = numbers.clone().map(|(_, count)| count).sum();
-            if all == 0 {
-                continue;
-            }
-            let mut refusals: Vec<u8> = numbers.map(|(key, _)| key.1).filter(|n| *n > 0).collect();
+        for (op, all) in &self.cases {
+            let op = *op;
+            let numbers = self.counts.keys().filter(|key| key.0 == op && key.1 > 0);
+            let mut refusals: Vec<u8> = numbers.map(|key| key.1).collect();
             refusals.extend(possible(op));
             refusals.sort();
             refusals.dedup();
@@ -104,6 +109,7 @@ impl Tally {
             // Cases, accepted; the name is what is no number.
             let rest: Vec<&str> = tokens.collect();
             let plain: Vec<u64> = rest.iter().filter_map(|token| token.parse().ok()).collect();
+            *self.cases.entry(op).or_default() += plain.first().unwrap_or(&0);
             *self.counts.entry((op, 0)).or_default() += plain.get(1).unwrap_or(&0);
             for (number, count) in rest.iter().filter_map(|token| token.split_once(':')) {
                 let (number, count) = (number.parse().unwrap_or(0), count.parse().unwrap_or(0));
@@ -112,6 +118,12 @@ impl Tally {
         }
         self.counts.retain(|_, count| *count > 0);
     }
+}
+
+/// The numbers of the refusals in a line.
+fn refusals(line: &str) -> impl Iterator<Item = u8> + '_ {
+    let behind = line.split("refused ").skip(1);
+    behind.filter_map(|rest| rest.split(' ').next()?.parse().ok())
 }
 
 /// Compares the lines of another program with our own answers. The error is
@@ -202,5 +214,18 @@ mod tests {
         assert_eq!(twice.get(FOLLOW, 14), 2);
         assert_eq!(twice.get(CLASSIFY, 0), 2);
         assert_eq!(twice.cases(), 4);
+    }
+
+    #[test]
+    fn every_refusal_of_a_run_counts() {
+        let mut tally = Tally::default();
+        tally.count(RUN, "ok lost 0 refused 15 at 0 given up refused 9 at 3 refused 15 at 0 none");
+        tally.count(RUN, "ok lost 3 open 7 18");
+        let mut read = Tally::default();
+        read.add_table(&tally.table());
+        for tally in [tally, read] {
+            assert_eq!((tally.get(RUN, 15), tally.get(RUN, 9), tally.get(RUN, 0)), (2, 1, 1));
+            assert_eq!(tally.cases(), 2);
+        }
     }
 }

@@ -90,7 +90,7 @@ pub fn add_text(buffer: &mut [u8], length: u64, text: &[u8]) -> Result<usize, Re
 /// Writes the size and end words.
 pub fn close(buffer: &mut [u8], length: u64) -> Result<usize, Refusal> {
     let (standing, length) = partial(buffer, length)?;
-    if standing.event.is_some() {
+    if standing.is_cut() {
         return refuse_at(OPEN, length / 2);
     }
     let end = length + 2;

@@ -88,7 +88,7 @@ impl Case {
     // And of 32 bits.
     const LONG: u64 = 4294967295;
     // The last row of the word book that an item has.
-    const LAST_ROW: u64 = Class::ROW_END_EVENT as u64;
+    const LAST_ROW: u64 = Class::ROW_CONTINUE_EVENT as u64;
 
     // Whether each argument is at most what stands here for it, the others are zero, and only a payload that is named has bytes.
     fn within(self, a0: u64, a1: u64, a2: u64, a3: u64, a4: u64, p: bool, q: bool) -> bool {
@@ -102,6 +102,20 @@ impl Case {
             & (self.a6 == 0)
             & (p | (self.n == 0))
             & (q | (self.m == 0))
+    }
+
+    // The same for op 21, whose state takes six arguments: where no event is open it has no number, size and header.
+    fn is_state(self) -> bool {
+        (self.got == 72)
+            & (self.a0 <= 31)
+            & (self.a1 <= 256)
+            & (self.a2 <= 1)
+            & (self.a3 <= Case::LONG)
+            & (self.a4 <= Case::LONG)
+            & (self.a5 <= 512)
+            & ((self.a2 == 1) | ((self.a3 == 0) & (self.a4 == 0) & (self.a5 == 0)))
+            & (self.a6 == 0)
+            & (self.m == 0)
     }
 
     // Whether the head is whole and has nothing but what its op allows: a row for each op that is there.
@@ -152,6 +166,8 @@ impl Case {
             17 => self.within(0, 0, 0, 0, 0, true, true),
             18 => self.within(u64::MAX, Case::WORD, Case::WORD, Case::WORD, 0, true, false),
             19 => self.within(Case::WORD, Case::WORD, Case::WORD, 0, 0, true, false),
+            20 => self.within(Case::WORD, 0, 0, 0, 0, true, false),
+            21 => self.is_state(),
             _ => false,
         }
     }

@@ -2,7 +2,7 @@
 // standard input and writes one line for each. README.md says what a case and its line look like, and how an op is added.
 //
 // The ops that are there: 0 classify, 1 read, 2 item, 3 text, 4 event, 5 samples, 6 counts, 7 begin, 8 add, 9 add text, 10 close, 11 follow, 12 record, 13 entry, 14 open, 15 edit,
-// 16 restore, 17 list, 18 sample word, 19 bin word. Any other is a bad case.
+// 16 restore, 17 list, 18 sample word, 19 bin word, 20 a run, 21 one step of an assembler. Any other is a bad case.
 mod cases;
 mod ops;
 mod ops_book;
@@ -12,6 +12,7 @@ mod ops_frame;
 mod ops_list;
 mod ops_questions;
 mod ops_record;
+mod ops_runs;
 mod ops_writer;
 mod reply;
 mod sums;
@@ -56,6 +57,18 @@ fn answered(case: Case, p: &mut [u8], q: &mut [u8]) -> Reply {
     read_and_answer(case, &mut p[0..n], &mut q[0..m])
 }
 
+// Adds the line of a run, whose payload is in p.
+fn run_line(out: &mut [u8], waiting: usize, case: Case, p: &[u8]) -> usize
+    requires { ⌜ waiting ≤ length (now out) ⌝ }
+    ensures { λ r. ⌜ r ≤ length (now (out .exit)) ⌝ }
+{
+    let n = case.n;
+    if p.len() < n {
+        return waiting;
+    }
+    ops_runs::write(out, waiting, &p[0..n], cases::low16(case.a0))
+}
+
 // Reads one case and adds its line to what waits. Input that ends here is the end.
 fn turn(p: &mut [u8], q: &mut [u8], out: &mut [u8], waiting: usize) -> After
     requires { ⌜ waiting ≤ length (now out) ⌝ }
@@ -69,6 +82,12 @@ fn turn(p: &mut [u8], q: &mut [u8], out: &mut [u8], waiting: usize) -> After
         };
     }
     let answer = answered(case, p, q);
+    if answer.many == Reply::RUN {
+        return After {
+            waiting: run_line(out, waiting, case, p),
+            more: true,
+        };
+    }
     After {
         waiting: reply::write(out, waiting, answer),
         more: answer.many != Reply::NO_CASE,

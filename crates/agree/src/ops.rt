@@ -7,6 +7,7 @@ use crate::ops_frame;
 use crate::ops_list;
 use crate::ops_questions;
 use crate::ops_record;
+use crate::ops_runs;
 use crate::ops_writer;
 use crate::reply;
 use crate::reply::Reply;
@@ -28,6 +29,8 @@ fn asked(case: Case, p: &[u8]) -> Reply {
         13 => ops_record::entry(p, case.a0),
         18 => ops_questions::sample_word(p, case.a0, case.a1, case.a2, case.a3),
         19 => ops_questions::bin_word(p, case.a0, case.a1, case.a2),
+        20 => ops_runs::run(p),
+        21 => ops_runs::step(case, p),
         _ => no_case(),
     }
 }

@@ -7,14 +7,14 @@ use follower::Followed;
 use follower::Follower;
 
 // The follower's state as a case codes it: 0 idle, 1 + e expecting e.
-fn state_of(code: u64) -> Follower {
+pub(crate) fn state_of(code: u64) -> Follower {
     if code == 0 {
         return Follower::Idle;
     }
     Follower::Expecting(cases::low8(code - 1))
 }
 
-fn code_of(state: Follower) -> u64 {
+pub(crate) fn code_of(state: Follower) -> u64 {
     match state {
         Follower::Idle => 0,
         Follower::Expecting(expected) => 1 + expected as u64,

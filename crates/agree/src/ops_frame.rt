@@ -60,6 +60,7 @@ fn item_reply(item: Item) -> Reply {
             x.number as u64,
         ),
         Item::EndEvent(x) => fields(Class::ROW_END_EVENT, 1, x.size as u64, 0, 0),
+        Item::ContinueEvent(x) => fields(Class::ROW_CONTINUE_EVENT, 1, x.number as u64, 0, 0),
     }
 }
 

@@ -3,23 +3,45 @@ use crate::cases;
 use crate::reply;
 use crate::reply::Reply;
 use crate::sums;
+use questions::answers::Began;
+use questions::answers::Ended;
 use questions::answers::EventFound;
 use questions::answers::Filled;
 use questions::answers::WordFound;
+
+// What the Start event tells, or that it is in another frame.
+fn begun(x: Reply, began: Began) -> Reply {
+    match began {
+        Began::Here { kind, timestamp } => Reply {
+            a: kind as u64,
+            b: timestamp,
+            ..x
+        },
+        Began::Elsewhere => Reply { unbegun: true, ..x },
+    }
+}
+
+// What the End event tells.
+fn ended(x: Reply, ended: Ended) -> Reply {
+    match ended {
+        Ended::Here { size } => Reply {
+            d: size as u64,
+            ..x
+        },
+        Ended::Elsewhere => Reply { unended: true, ..x },
+    }
+}
 
 // Op 4: event a0 of the frame p.
 pub(crate) fn event(p: &[u8], a0: u64) -> Reply {
     let answer = questions::event::event(p, a0 as usize);
     match answer {
-        EventFound::Event(x) => reply::values(
-            5,
-            x.kind as u64,
-            x.timestamp,
-            x.number as u64,
-            x.size as u64,
-            x.index as u64,
-            0,
-        ),
+        EventFound::Event(x) => {
+            let start = x.began;
+            let end = x.ended;
+            let told = reply::values(5, 0, 0, x.number as u64, 0, x.index as u64, 0);
+            ended(begun(told, start), end)
+        }
         EventFound::Refused(r) => reply::refused(r),
     }
 }

@@ -5,6 +5,7 @@ use crate::reply::Reply;
 use book::class::Class;
 use book::items::Bin;
 use book::items::Channel;
+use book::items::ContinueEvent;
 use book::items::EndEvent;
 use book::items::Histogram;
 use book::items::HitCount;
@@ -107,6 +108,11 @@ fn wide_item(class: u32, a2: u64, a3: u64, a4: u64) -> Asked {
     if (class == Class::ROW_END_EVENT) & (a2 <= 4294967295) & (a3 == 0) & (a4 == 0) {
         return Asked::Item(Item::EndEvent(EndEvent {
             size: cases::low32(a2),
+        }));
+    }
+    if (class == Class::ROW_CONTINUE_EVENT) & (a2 <= 4294967295) & (a3 == 0) & (a4 == 0) {
+        return Asked::Item(Item::ContinueEvent(ContinueEvent {
+            number: cases::low32(a2),
         }));
     }
     Asked::Nothing

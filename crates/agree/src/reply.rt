@@ -20,6 +20,9 @@ pub(crate) struct Reply {
     pub d: u64,
     pub e: u64,
     pub f: u64,
+    // Values that stand in another frame and are missing: the first two, and the fourth.
+    pub unbegun: bool,
+    pub unended: bool,
     // The word index of the next item, or 0.
     pub next: usize,
     // Whether a buffer was lent to be written, its length in elements and its check sum.
@@ -31,6 +34,8 @@ pub(crate) struct Reply {
 impl Reply {
     // In the place of how many values there are: this is no case.
     pub const NO_CASE: u8 = 255;
+    // And: the line is a run's, which is written step by step.
+    pub const RUN: u8 = 254;
 }
 
 // Accepted, with so many values.
@@ -46,6 +51,8 @@ pub(crate) fn values(many: u8, a: u64, b: u64, c: u64, d: u64, e: u64, f: u64) -
         d,
         e,
         f,
+        unbegun: false,
+        unended: false,
         next: 0,
         lent: false,
         elements: 0,
@@ -87,13 +94,13 @@ pub(crate) fn left(x: Reply, bytes: &[u8]) -> Reply {
 }
 
 // A piece of a line: a text of at most 8 bytes, the first one lowest, or where it has no bytes a number; or nothing.
-struct Piece {
+pub(crate) struct Piece {
     there: bool,
     bytes: u8,
     value: u64,
 }
 
-fn text(there: bool, bytes: u8, value: u64) -> Piece {
+pub(crate) fn text(there: bool, bytes: u8, value: u64) -> Piece {
     Piece {
         there,
         bytes,
@@ -101,12 +108,20 @@ fn text(there: bool, bytes: u8, value: u64) -> Piece {
     }
 }
 
-fn number(there: bool, value: u64) -> Piece {
+pub(crate) fn number(there: bool, value: u64) -> Piece {
     Piece {
         there,
         bytes: 0,
         value,
     }
+}
+
+// A value, or a dash where it is missing.
+fn value(there: bool, missing: bool, value: u64) -> Piece {
+    if missing {
+        return text(there, 2, DASH);
+    }
+    number(there, value)
 }
 
 // How many pieces a line has at most.
@@ -117,6 +132,8 @@ const AT: u64 = 0x746120; // " at"
 const BAD_CASE: u64 = 0x6573616320646162; // "bad case"
 
 const BAR: u64 = 0x7C20; // " |"
+
+const DASH: u64 = 0x2D20; // " -"
 
 const NEXT: u64 = 0x7478656E20; // " next"
 
@@ -130,10 +147,10 @@ fn accepted_piece(x: Reply, k: u8) -> Piece {
     match k {
         0 => text(true, 2, OK),
         1 => text(0 < x.letter, 2, 32 + 256 * (x.letter as u64)),
-        2 => number(1 <= many, x.a),
-        3 => number(2 <= many, x.b),
+        2 => value(1 <= many, x.unbegun, x.a),
+        3 => value(2 <= many, x.unbegun, x.b),
         4 => number(3 <= many, x.c),
-        5 => number(4 <= many, x.d),
+        5 => value(4 <= many, x.unended, x.d),
         6 => number(5 <= many, x.e),
         7 => number(6 <= many, x.f),
         8 => text(0 < x.next, 5, NEXT),
@@ -224,7 +241,7 @@ fn put_number(out: &mut [u8], at: usize, n: u64) -> usize
 }
 
 // Adds a piece.
-fn put(out: &mut [u8], at: usize, x: Piece) -> usize
+pub(crate) fn put(out: &mut [u8], at: usize, x: Piece) -> usize
     requires { ⌜ at ≤ length (now out) ⌝ }
     ensures { λ r. ⌜ r ≤ length (now (out .exit)) ⌝ }
 {
