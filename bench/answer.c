@@ -1,5 +1,5 @@
 // answer: cases on standard input (crates/agree has their format), the baseline's lines on standard output, for `second compare`. The ops that
-// are there: 1, 2, 4 to 10, 12 to 16, 18 and 19.
+// are there: 1, 2, 4 to 10, 12 to 16 and 18 to 21.
 #include "baseline.h"
 #include "cases.h"
 
@@ -40,7 +40,7 @@ static void frame(const struct a_case *c) {
 }
 
 // How many fields a class of the word book has.
-static const u8 fields[15] = { [1] = 3, [2] = 3, [3] = 3, [4] = 1, [5] = 2, [6] = 2, [7] = 1, [11] = 1, [12] = 3, [13] = 1 };
+static const u8 fields[16] = { [1] = 3, [2] = 3, [3] = 3, [4] = 1, [5] = 2, [6] = 2, [7] = 1, [11] = 1, [12] = 3, [13] = 1, [15] = 1 };
 
 static void item(const struct a_case *c) {
     struct item x;
@@ -50,10 +50,21 @@ static void item(const struct a_case *c) {
     printf(" next %u", x.next);
 }
 
+// A value, or that it is missing.
+static void there(u32 is, u64 value) {
+    if (is) printf(" %lu", value);
+    else printf(" -");
+}
+
 static void event(const struct a_case *c) {
     struct event x;
     if (refused(baseline_event(c->p, c->n, c->a[0], &x))) return;
-    printf("ok %u %lu %u %u %u", x.type, x.timestamp, x.number, x.size, x.index);
+    printf("ok");
+    there(x.began, x.type);
+    there(x.began, x.timestamp);
+    there(1, x.number);
+    there(x.ended, x.size);
+    there(1, x.index);
 }
 
 static void samples(const struct a_case *c) {
@@ -148,6 +159,34 @@ static void restore(struct a_case *c) {
     bytes(c->q, c->m);
 }
 
+static void run(const struct a_case *c) {
+    struct assembler a = baseline_new_assembler((u32)c->a[0]);
+    struct step s = { 0 };
+    printf("ok");
+    while (next_step(c, &s)) {
+        if (s.gives_up) {
+            a = baseline_give_up(a);
+            printf(" given up");
+            continue;
+        }
+        const struct taken t = baseline_take(a, s.frame, s.length);
+        if (t.number) printf(" refused %u at %u", t.number, t.place);
+        else printf(" lost %u", t.lost);
+        a = t.next;
+    }
+    if (a.open) printf(" open %u %u", a.number, a.size);
+    else printf(" none");
+}
+
+// One step. A case has the latest Channel header as 1 + its low 9 bits, or 0; here the key stands behind it.
+static void take(const struct a_case *c) {
+    const u32 card = (u32)c->a[0], header = (u32)c->a[5];
+    const struct assembler a = { card, (u32)c->a[1], (u32)c->a[2], (u32)c->a[3], (u32)c->a[4], header ? 512 * card + header : 0 };
+    const struct taken t = baseline_take(a, c->p, c->n);
+    if (refused((struct refusal){ t.number, t.place })) return;
+    printf("ok %u %u %u %u %u %u", t.lost, t.next.follower, t.next.open, t.next.number, t.next.size, t.next.key ? t.next.key - 512 * card : 0);
+}
+
 int main(void) {
     static struct a_case c;
     while (next_case(&c)) {
@@ -168,6 +207,8 @@ int main(void) {
         case 16: restore(&c); break;
         case 18: sample_word(&c); break;
         case 19: bin_word(&c); break;
+        case 20: run(&c); break;
+        case 21: take(&c); break;
         default: printf("bad case\n"); return 1;
         }
         printf("\n");

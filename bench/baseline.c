@@ -16,6 +16,7 @@ static struct item item_at(const u8 *s, usize at) {
     if (w >= 0x2000) return (struct item){ BIN, next + 2, { w & 4095, word32(s, at + 1) } };
     if (w >= 0x1800) return (struct item){ LAST_CELL, next, { w >> 9 & 3, w & 511 } };
     if (w >= 0x0E00) return (struct item){ TIME_BIN, next, { w & 511 } };
+    if (w >= 0x0A00) return (struct item){ CONTINUE_EVENT, next + 2, { word32(s, at + 1) } };
     if (w >= 0x0100) return (struct item){ TEXT, next + ((w & 255) + 1) / 2, { w & 255 } };
     if (w >= 0x00F0)
         return (struct item){ START_EVENT, next + 5, { w & 15, word32(s, at + 1) | (u64)word(s, at + 3) << 32, word32(s, at + 4) } };
@@ -31,13 +32,10 @@ struct refusal baseline_item(const u8 *s, usize n, u64 ordinal, struct item *out
     return only(v);
 }
 
-// The End event's size, looked for from the event's first item on.
-static u32 size_from(const u8 *s, usize at) {
-    for (;;) {
-        const struct item x = item_at(s, at);
-        if (x.class == END_EVENT) return (u32)x.fields[0];
-        at = x.next;
-    }
+// The End event from a word inside an event of an accepted frame on, or the last word: all else inside has one word, and that from 0E00 up.
+static usize end_from(const u8 *s, usize at) {
+    while (word(s, at) >= 0x0E00) at += 1;
+    return at;
 }
 
 struct refusal baseline_event(const u8 *s, usize n, u64 ordinal, struct event *out) {
@@ -45,8 +43,14 @@ struct refusal baseline_event(const u8 *s, usize n, u64 ordinal, struct event *o
     const struct verdict v = judge(s, n, (struct question){ .asked = AN_EVENT, .ordinal = ordinal }, &found);
     if (v.number) return only(v);
     if (!found) return fault(ABSENT, 0);
+    const usize last = n / 2 - 1;
     const struct item x = item_at(s, found);
-    *out = (struct event){ (u32)x.fields[0], (u32)x.fields[2], x.fields[1], size_from(s, x.next), (u32)found };
+    const usize end = end_from(s, x.next);
+    *out = x.class == START_EVENT ? (struct event){ .began = 1, .type = (u32)x.fields[0], .timestamp = x.fields[1], .number = (u32)x.fields[2] }
+                                  : (struct event){ .number = (u32)x.fields[0] };
+    out->ended = end < last;
+    out->size = end < last ? word32(s, end + 1) : 0;
+    out->index = (u32)found;
     return only(v);
 }
 

@@ -1,4 +1,4 @@
-// What the baseline answers. The names are document 01's.
+// What the baseline answers. The names are those of documents 01 and 02.
 #ifndef BASELINE_H
 #define BASELINE_H
 
@@ -25,7 +25,10 @@ struct item {
     u64 fields[3];
 };
 
+// Where it did not begin in this frame its type and timestamp are missing, where it does not end here its size; they are 0 then.
 struct event {
+    u8 began;
+    u8 ended;
     u32 type;
     u32 number;
     u64 timestamp;
@@ -39,7 +42,7 @@ struct refusal {
 };
 
 // What the items so far leave behind, for the next one: where it would stand (0 is no mode), the least that a header may be, the time of the
-// next sample or the least number of the next bin, and the latest Start event.
+// next sample or the least number of the next bin, and the latest Start event (0 is none: an open event began in another frame).
 struct state {
     u32 mode;
     u32 key;
@@ -52,6 +55,25 @@ struct draft {
     usize length;
     u32 card;
     struct state state;
+};
+
+// The assembler of a card's events: its follower (0 idle, 1 + e expecting e), and the event that is open, if one is: its number, its bytes in all
+// parts so far, and the least that its next Channel header may be, by its low 14 bits. All is 0 but card and follower where none is open.
+struct assembler {
+    u32 card;
+    u32 follower;
+    u32 open;
+    u32 number;
+    u32 size;
+    u32 key;
+};
+
+// A refusal, with the assembler as it was; or number 0, how many frames were lost before this one, and the assembler from here on.
+struct taken {
+    u32 number;
+    u32 place;
+    u32 lost;
+    struct assembler next;
 };
 
 struct record {
@@ -97,6 +119,12 @@ struct refusal baseline_put_text(u8 *buf, usize room, struct draft *d, const u8 
 struct refusal baseline_add(u8 *buf, usize room, u64 length, struct item x, struct draft *out);
 struct refusal baseline_add_text(u8 *buf, usize room, u64 length, const u8 *text, usize n, struct draft *out);
 struct refusal baseline_close(u8 *buf, usize room, u64 length, usize *out);
+
+// ---- the assembler
+
+struct assembler baseline_new_assembler(u32 card);
+struct taken baseline_take(struct assembler a, const u8 *s, usize n);
+struct assembler baseline_give_up(struct assembler a);
 
 // ---- the record
 

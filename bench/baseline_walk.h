@@ -1,17 +1,17 @@
-// The walk of the hand-written baseline, from document 01 alone: one pass over the words, the state in locals, a word's class by a tree of
-// comparisons. It is inlined into each call, which says what to look out for on the way.
+// The walk of the hand-written baseline, from document 01 and request 1 of document 02 alone: one pass over the words, the state in locals, a word's
+// class by a tree of comparisons. It is inlined into each call, which says what to look out for on the way.
 #ifndef BASELINE_WALK_H
 #define BASELINE_WALK_H
 #include "baseline.h"
 
 enum refusals {
-    LENGTH = 1, KIND, SIZE, SEQUENCE, END, CLASS, CUT, PLACE, VALUE, ORDER, OPEN, ROOM, ABSENT, HEADER = 20, ENTRY, TARGET, NEW_VALUE, SIGNER,
-    FULL, NO_ENTRY
+    LENGTH = 1, KIND, SIZE, SEQUENCE, END, CLASS, CUT, PLACE, VALUE, ORDER, OPEN, ROOM, ABSENT, NO_START, LINK, HEADER = 20, ENTRY, TARGET,
+    NEW_VALUE, SIGNER, FULL, NO_ENTRY
 };
 
 enum classes {
     CHANNEL = 1, HISTOGRAM, HIT_COUNT, SAMPLE, BIN, LAST_CELL, TIME_BIN, DATA_FRAME, MONITOR_FRAME, COMMAND_FRAME, TEXT, START_EVENT,
-    END_EVENT, FRAME_END
+    END_EVENT, FRAME_END, CONTINUE_EVENT
 };
 
 // Where the next item would stand, one bit each, so that "one of these" is one test.
@@ -19,10 +19,10 @@ enum modes {
     OUTSIDE = 1, INSIDE = 2, AFTER_CHANNEL = 4, AFTER_TIME = 8, AFTER_SAMPLE = 16, UNHEADED = 32, HEADED = 64, COMMANDS = 128
 };
 
-enum { LAST_CHANNEL = 78, MOST_HITS = 79, LAST_TIME = 511, LAST_CHIP = 3, TIMES = 512, BINS = 4096 };
+enum { FIRST_ITEM = 3, LAST_CHANNEL = 78, MOST_HITS = 79, LAST_TIME = 511, LAST_CHIP = 3, TIMES = 512, BINS = 4096 };
 
-// The modes in which an event is open.
-enum { IN_EVENT = INSIDE | AFTER_CHANNEL | AFTER_TIME | AFTER_SAMPLE };
+// The modes in which no frame ends: an event may be open there, but a channel's samples stand in one frame.
+enum { UNFINISHED = AFTER_CHANNEL | AFTER_TIME };
 
 // What a call looks out for on the way.
 enum asked { NOTHING, AN_ITEM, AN_EVENT, A_CHANNEL, A_HISTOGRAM, KINDS };
@@ -72,7 +72,7 @@ static inline __attribute__((always_inline)) struct refusal walk(
     usize opener = st->opener;
     u32 items = 0;
     u64 events = 0;
-    usize at = 3;
+    usize at = FIRST_ITEM;
     while (at < last) {
         const u32 w = word(s, at);
         if (q.asked == AN_ITEM && items == q.ordinal) *found = at;
@@ -142,8 +142,17 @@ static inline __attribute__((always_inline)) struct refusal walk(
         } else if (w >> 4 == 0xE) { // End event
             if (at + 2 >= last) return fault(CUT, at);
             if (!(mode & (INSIDE | AFTER_SAMPLE))) return fault(PLACE, at);
-            if ((w & 15) != 0 || word32(s, at + 1) != 2 * (at + 3 - opener)) return fault(VALUE, at);
+            if ((w & 15) != 0) return fault(VALUE, at);
+            if (opener && word32(s, at + 1) != 2 * (at + 3 - opener)) return fault(VALUE, at);
             mode = OUTSIDE;
+            at += 3;
+        } else if (w >> 9 == 5) { // Continue event, with no opener behind it
+            if (at + 2 >= last) return fault(CUT, at);
+            if (mode != OUTSIDE || at != FIRST_ITEM) return fault(PLACE, at);
+            if ((w & 511) != 0) return fault(VALUE, at);
+            if (q.asked == AN_EVENT && events == q.ordinal) *found = at;
+            events += 1;
+            mode = INSIDE;
             at += 3;
         } else if ((w >= 0x0400 && w < 0x0A00) || w == 0x000F) { // a frame start, Frame end
             return fault(PLACE, at);
@@ -181,7 +190,7 @@ static inline __attribute__((always_inline)) struct verdict judge(const u8 *s, u
     u32 items = 0;
     const struct refusal r = walk(s, last, card, q, &st, &items, found);
     if (r.number) return refused(r.number, r.place);
-    if (st.mode & IN_EVENT) return refused(OPEN, last);
+    if (st.mode & UNFINISHED) return refused(OPEN, last);
     const char kind = mode == OUTSIDE ? 'D' : mode == UNHEADED ? 'M' : 'C';
     return (struct verdict){ .kind = kind, .card = (u16)card, .sequence = (u16)sequence, .items = items };
 }

@@ -89,9 +89,12 @@ static inline __attribute__((always_inline)) struct refusal put(u8 *buf, usize r
         d->length += 12;
         d->state = (struct state){ INSIDE, 0, s.next, at };
         return accepted;
+    case CONTINUE_EVENT:
+        if (s.mode != OUTSIDE || at != FIRST_ITEM) return fault(PLACE, at);
+        return three_words(buf, room, d, 0x0A00, first, (struct state){ INSIDE, 0, s.next, 0 });
     case END_EVENT:
         if (!(s.mode & (INSIDE | AFTER_SAMPLE))) return fault(PLACE, at);
-        if (x.fields[0] != 6 + 2 * (at < s.opener ? 0 : at - s.opener)) return fault(VALUE, at);
+        if (s.opener && x.fields[0] != 6 + 2 * (at < s.opener ? 0 : at - s.opener)) return fault(VALUE, at);
         return three_words(buf, room, d, 0xE0, first, (struct state){ OUTSIDE, s.key, s.next, s.opener });
     default: // a text is put by its own call
         return fault(s.mode == COMMANDS ? VALUE : PLACE, at);
@@ -166,7 +169,7 @@ struct refusal baseline_close(u8 *buf, usize room, u64 length, usize *out) {
     struct draft d;
     const struct refusal r = resume(buf, room, length, &d);
     if (r.number) return r;
-    if (d.state.mode & IN_EVENT) return fault(OPEN, d.length / 2);
+    if (d.state.mode & UNFINISHED) return fault(OPEN, d.length / 2);
     if (d.length + 2 > room) return fault(ROOM, 0);
     put_word(buf, 1, (u32)d.length + 2);
     put_word(buf + d.length, 0, 0x000F);

@@ -27,3 +27,12 @@ int next_case(struct a_case *c) {
     c->m = number(head + 68, 4);
     return c->n <= PAYLOAD && c->m <= PAYLOAD && fill(c->p, c->n) && fill(c->q, c->m);
 }
+
+int next_step(const struct a_case *c, struct step *s) {
+    if (c->n - s->after < 2) return 0;
+    const usize length = number(c->p + s->after, 2), at = s->after + 2;
+    const u32 gives_up = length == 65535;
+    if (!gives_up && c->n - at < length) return 0;
+    *s = gives_up ? (struct step){ at, 1, 0, 0 } : (struct step){ at + length, 0, c->p + at, length };
+    return 1;
+}

@@ -18,4 +18,15 @@ int fill(u8 *to, usize n);
 // Reads the next case from standard input; 0 at the end.
 int next_case(struct a_case *c);
 
+// A step of a run (op 20): a frame, or the open event given up.
+struct step {
+    usize after; // in the payload, where the next step begins
+    u32 gives_up;
+    const u8 *frame;
+    usize length;
+};
+
+// The step behind the one that is given, all zeros before the first; 0 at the end.
+int next_step(const struct a_case *c, struct step *s);
+
 #endif

@@ -23,7 +23,9 @@ int clock_gettime(int clock, struct timespec *now);
 
 enum { LONGEST = 8192, RECORD = 16 + LONGEST + 16 * 512 };
 
-enum ops { READ = 1, ITEM = 2, EVENT = 4, SAMPLES = 5, COUNTS = 6, JUDGE = 12, EDIT = 15, RESTORE = 16, SAMPLE_WORD = 18, BIN_WORD = 19 };
+enum ops {
+    READ = 1, ITEM = 2, EVENT = 4, SAMPLES = 5, COUNTS = 6, JUDGE = 12, EDIT = 15, RESTORE = 16, SAMPLE_WORD = 18, BIN_WORD = 19, TAKE = 21
+};
 
 // A call that is measured; `fills` has a bit for each fill that it is asked of.
 struct call {
@@ -33,8 +35,8 @@ struct call {
 };
 
 static const struct call calls[] = {
-    { "read", READ, 63 }, { "item", ITEM, 63 }, { "event", EVENT, 7 }, { "samples", SAMPLES, 5 }, { "counts", COUNTS, 8 },
-    { "sample word", SAMPLE_WORD, 5 }, { "bin word", BIN_WORD, 8 },
+    { "read", READ, 255 }, { "item", ITEM, 63 }, { "event", EVENT, 7 }, { "samples", SAMPLES, 5 }, { "counts", COUNTS, 8 },
+    { "sample word", SAMPLE_WORD, 5 }, { "bin word", BIN_WORD, 8 }, { "take", TAKE, 192 },
     { "record", JUDGE, 13 }, { "edit", EDIT, 13 }, { "restore", RESTORE, 13 },
 };
 
@@ -146,6 +148,16 @@ static void make_record(struct row r, struct a_case *c) {
     if (r.call->op == RESTORE) c->m = LONGEST;
 }
 
+// The event that is open before the frame, so that the step is accepted.
+static void open_event(struct a_case *c) {
+    c->a[0] = FRAME_CARD;
+    c->a[1] = 1 + FRAME_SEQUENCE;
+    c->a[2] = 1;
+    c->a[3] = EARLIER_NUMBER;
+    c->a[4] = EARLIER_SIZE;
+    c->a[5] = EARLIER_HEADER;
+}
+
 static void make_question(struct row r, struct a_case *c) {
     u64 none;
     make_frame(r.fill, r.size, c->p);
@@ -166,6 +178,7 @@ static void make_question(struct row r, struct a_case *c) {
         c->a[3] = last_time(c);
         break;
     case BIN_WORD: last_bin(c); break;
+    case TAKE: open_event(c); break;
     }
 }
 
@@ -248,6 +261,7 @@ static void timed(void) {
 static void fill_lent(struct lent *x, u32 with) {
     for (u32 i = 0; i < 600; i++) x->samples[i] = (u16)with;
     for (u32 i = 0; i < 4200; i++) x->counts[i] = with;
+    for (u32 i = 0; i < 32; i++) x->told[i] = with;
 }
 
 static int same(void) {

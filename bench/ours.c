@@ -21,7 +21,8 @@ static u64 last_field(const struct plane_item_fields *x) {
     case PLANE_LAST_CELL: return x->cell;
     case PLANE_TIME_BIN: return x->time;
     case PLANE_TEXT: return x->length;
-    case PLANE_START_EVENT: return x->number;
+    case PLANE_START_EVENT:
+    case PLANE_CONTINUE_EVENT: return x->number;
     default: return x->size;
     }
 }
@@ -33,8 +34,12 @@ static u64 item(struct a_case *c, struct lent *out) {
 }
 
 static u64 event(struct a_case *c, struct lent *out) {
-    (void)out;
     const struct plane_event_found x = plane_event(c->p, c->n, c->a[0]);
+    out->told[0] = x.began;
+    out->told[1] = x.ended;
+    out->told[2] = x.kind;
+    out->told[3] = x.timestamp;
+    out->told[4] = x.number;
     return x.refused ? refusal_number(x.refused, x.place) : accepted_number(x.size, x.index);
 }
 
@@ -76,4 +81,57 @@ static u64 restore(struct a_case *c, struct lent *out) {
     return told(plane_restore(c->p, c->n, c->a[0], c->q, c->m));
 }
 
-const side ours[32] = { [1] = read_frame, [2] = item, [4] = event, [5] = samples, [6] = counts, [12] = record, [15] = edit, [16] = restore, [18] = sample_word, [19] = bin_word };
+// An assembler as a case has it: the latest Channel header is 0 for none, else 1 + its chip and channel.
+static struct plane_assembler given(const struct a_case *c) {
+    const u32 header = (u32)c->a[5];
+    return (struct plane_assembler){
+        .card = (u16)c->a[0],
+        .open = (u8)c->a[2],
+        .follower = { c->a[1] != 0, (u8)(c->a[1] ? c->a[1] - 1 : 0) },
+        .number = (u32)c->a[3],
+        .size = (u32)c->a[4],
+        .key = header ? 2048 * (u32)c->a[0] + header : 0,
+    };
+}
+
+static void tell(u64 *told, const struct plane_assembler *a) {
+    told[0] = a->follower.expecting ? 1 + (u64)a->follower.number : 0;
+    told[1] = a->open;
+    told[2] = a->number;
+    told[3] = a->size;
+    told[4] = a->key ? a->key - 2048 * (u32)a->card : 0;
+    told[5] = a->card;
+}
+
+static u64 step_told(const struct plane_taken *t) {
+    return t->refused ? refusal_number(t->refused, t->place) : accepted_number(0, t->lost);
+}
+
+static u64 take(struct a_case *c, struct lent *out) {
+    const struct plane_taken t = plane_take(given(c), c->p, c->n);
+    tell(out->told, &t.next);
+    return step_told(&t);
+}
+
+static u64 run(struct a_case *c, struct lent *out) {
+    struct plane_assembler a = plane_new_assembler((u16)c->a[0]);
+    struct step s = { 0 };
+    u32 steps = 0;
+    for (; steps < STEPS && next_step(c, &s); steps++) {
+        if (s.gives_up) {
+            a = plane_give_up(a);
+            out->told[steps] = 0;
+        } else {
+            const struct plane_taken t = plane_take(a, s.frame, s.length);
+            out->told[steps] = step_told(&t);
+            a = t.next;
+        }
+    }
+    tell(out->told + STEPS, &a);
+    return accepted_number(0, steps);
+}
+
+const side ours[32] = {
+    [1] = read_frame, [2] = item, [4] = event, [5] = samples, [6] = counts, [12] = record, [15] = edit, [16] = restore, [18] = sample_word,
+    [19] = bin_word, [20] = run, [21] = take,
+};

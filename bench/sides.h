@@ -3,11 +3,15 @@
 #define SIDES_H
 #include "cases.h"
 
-// Memory that a call fills; its lengths are the case's.
+// Memory that a call fills; its lengths are the case's. What an answer has beside its number is laid down here too, so that it is compared as well.
 struct lent {
     u16 samples[600];
     u32 counts[4200];
+    u64 told[32];
 };
+
+// A run has no more steps than this; the assembler behind them is told after them.
+enum { STEPS = 24 };
 
 // A call on a case, its answer as one number: a refusal's number and place, or something above 2^48.
 typedef u64 (*side)(struct a_case *c, struct lent *out);
