@@ -86,7 +86,7 @@ pub data Refused (s : List ℕ) : ℕ → ℕ → Type 0 where
   ofHead : (n : ℕ) → First (HeadBroken s) n → Refused s n 0
   -- "then item by item from the left", up to the last word
   ofItem : (n p : ℕ) → ((m : ℕ) → HeadBroken s m → ⊥) → FirstFaulty s (lastOf s) n p → Refused s n p
-  -- "then 11", at "that of the last word": all items are faultless, and an event is open
+  -- "then 11", at "that of the last word": all items are faultless, and the last is a Channel or Time bin
   ofEnd : (xs : List Item) → ((m : ℕ) → HeadBroken s m → ⊥) → Sound (kindIn s) (cardIn s) [] xs
       → drop 3 (front s) ≡ allWords xs → mayEnd (earlierThen [] xs) ≡ false → Refused s 11 (lastOf s)
 

@@ -36,7 +36,7 @@ pub(crate) enum Indexed {
     Refused(Refusal),
 }
 
-// The verdict where the items were walked through: 11 inside an event.
+// The verdict where the items were walked through: 11 after a Channel or Time bin.
 fn ending(s: &[u8], last: usize, kind: Kind, card: u16, x: Summary) -> Indexed
     ensures { λ r. ⌜ viewIndexed r ≡ endingOf (now (s .entry)) last (viewKind kind) card (viewSummary x) ⌝ }
 {

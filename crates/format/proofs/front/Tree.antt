@@ -1,5 +1,5 @@
 -- The front page of the second writing, T6b: the rules of specs/Rules.antt and the trees of specs/Tree.antt say the same. A list of items is sound
--- and ends outside an event exactly where it is the leaves of a lawful tree; and no two trees have the same leaves. Each theorem is one law.
+-- and may end where it does exactly where it is the leaves of a lawful tree; and no two trees have the same leaves. Each theorem is one law.
 -- Assumes nothing.
 use Prim.Native.Nat.{ℕ}
 use mathlib.Core.Path.{_≡_}
@@ -16,7 +16,7 @@ use Rattle.format.proofs.tree.TreeLaws as law
 pub one-tree : (kind : Kind) (t u : Tree kind) → leaves kind t ≡ leaves kind u → t ≡ u
 one-tree = law.one-tree
 
--- the leaves of a lawful tree are sound, and end outside an event
+-- the leaves of a lawful tree are sound, and may end there: not after Channel or Time bin
 pub of-tree : (kind : Kind) (card : ℕ) (tree : Tree kind) → Lawful kind card tree → Sound kind card [] (leaves kind tree) × (mayEnd (earlierThen [] (leaves kind tree)) ≡ true)
 of-tree = law.of-tree
 

@@ -1,4 +1,4 @@
--- Sound lists in parts, and when an event is open: from a Start event until the first End event behind it, and only so in a data frame.
+-- Sound lists in parts, and when an event is open: from a Start or Continue event until the first End event behind it, and only so in a data frame.
 -- Assumes nothing.
 use Prim.Native.Nat.{ℕ, _+_}
 use mathlib.Core.Path.{_≡_, refl, sym, ap, _∙_}
