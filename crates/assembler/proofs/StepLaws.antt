@@ -1,7 +1,7 @@
 -- One step, way out by way out: what the code has worked out is what the definitions of `runs` say.
 -- Assumes nothing.
 use Prim.Native.Nat.{ℕ, _+_, _-_, _*_, max, _<_}
-use mathlib.Core.Path.{_≡_, sym, ap, ap₂, _∙_}
+use mathlib.Core.Path.{_≡_, refl, sym, ap, ap₂, _∙_}
 use mathlib.Core.List.{List}
 use mathlib.Core.Bool.{Bool, true, false, not, _&&_}
 use mathlib.Core.Option.{Option, none, some}
@@ -11,7 +11,7 @@ use borrow.Author.Tests.{eq-eqb, ne-eqb, ltb-true}
 use Rattle.follower.specs.Follow as follower
 use Rattle.format.specs.Words.{pick, Bytes, longAt}
 use Rattle.format.specs.Answers.{Outcome, accepted, refused, andThen}
-use Rattle.format.specs.Steps.{Marks, ReaderState, Overview, readOf}
+use Rattle.format.specs.Steps.{Marks, ReaderState, openIn, Overview, readOf}
 use Rattle.format.proofs.book.PrefixLaws.{and-right}
 use Rattle.runs.specs.Assembly.{Open, Assembler, isData, Taken, take}
 use Rattle.runs.specs.Marked.{continuesAt, risesBy, itemBytes, sizeBy, goesOnBy, linkedBy, sizedBy, begunBy, openBy, linkingBy, takeBy}
@@ -55,17 +55,29 @@ some-linked o p lost s m r e g = g ∙ sym (ap (λ (o : Option Open). linkedBy o
 
 -- ---- what is open then
 
+-- the event of the latest Start event
+abbrev latestOpen : List ℕ → ReaderState → Option Open
+latestOpen s st = some (record { number = longAt s (st .marks .opener + 4); size = length s - 2 - 2 * st .marks .opener; key = st .key })
+
 pub none-begun : (s : List ℕ) (st : ReaderState) → st .marks .opener ≡ 0 → none ≡ begunBy s st
 unfolding begunBy
-none-begun s st z =
-    sym (ap (λ (b : Bool). pick b none (some (record { number = longAt s (st .marks .opener + 4); size = length s - 2 - 2 * st .marks .opener; key = st .key }))) (eq-eqb (st .marks .opener) 0 z))
+none-begun s st z = sym (ap (λ (b : Bool). pick (openIn (st .mode) && not b) (latestOpen s st) none) (eq-eqb (st .marks .opener) 0 z) ∙ go (openIn (st .mode)))
+  where
+    go : (b : Bool) → pick (b && false) (latestOpen s st) none ≡ none
+    go true = refl
+    go false = refl
 
-pub some-begun : (s : List ℕ) (st : ReaderState) (number size : ℕ) → number ≡ longAt s (st .marks .opener + 4) → size ≡ length s - 2 - 2 * st .marks .opener
-    → (st .marks .opener ≡ 0 → ⊥) → some (record { number = number; size = size; key = st .key }) ≡ begunBy s st
+-- it has ended
+pub shut-begun : (s : List ℕ) (st : ReaderState) (o : Bool) → o ≡ openIn (st .mode) → o ≡ false → none ≡ begunBy s st
 unfolding begunBy
-some-begun s st number size n e z =
+shut-begun s st o e f = sym (ap (λ (b : Bool). pick (b && not (eqb (st .marks .opener) 0)) (latestOpen s st) none) (sym e ∙ f))
+
+pub some-begun : (s : List ℕ) (st : ReaderState) (number size : ℕ) (o : Bool) → number ≡ longAt s (st .marks .opener + 4) → size ≡ length s - 2 - 2 * st .marks .opener
+    → (st .marks .opener ≡ 0 → ⊥) → o ≡ openIn (st .mode) → o ≡ true → some (record { number = number; size = size; key = st .key }) ≡ begunBy s st
+unfolding begunBy
+some-begun s st number size o n e z m t =
     (λ i. some (record { number = n i; size = e i; key = st .key }))
-    ∙ sym (ap (λ (b : Bool). pick b none (some (record { number = longAt s (st .marks .opener + 4); size = length s - 2 - 2 * st .marks .opener; key = st .key }))) (ne-eqb (st .marks .opener) 0 z))
+    ∙ sym (ap₂ (λ (a b : Bool). pick (a && not b) (latestOpen s st) none) (sym m ∙ t) (ne-eqb (st .marks .opener) 0 z))
 
 pub ended : (o : Open) (s : List ℕ) (st : ReaderState) (r : Option Open) → r ≡ begunBy s st → (st .marks .lead ≡ 0 → ⊥) → r ≡ openBy (some o) s st
 unfolding openBy

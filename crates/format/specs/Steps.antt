@@ -9,14 +9,14 @@ use Rattle.format.specs.Words.{pick, words, wordAt}
 use Rattle.format.specs.Answers.{Outcome, accepted, andThen}
 use Rattle.format.specs.Book.{Class, channel, histogram, startEvent, endEvent, classOf, after}
 use Rattle.format.specs.Items.{Item, Channel, Histogram, HitCount, Sample, Bin, LastCell, TimeBin, Text, StartEvent, ContinueEvent, EndEvent, classFor, inRange, key, Token, whole, broken, flawed, tokenOf, tokens}
-use Rattle.format.specs.Rules.{Kind, dataKind, monitorKind, commandKind, same, since, total, gather, channelKey, histogramKey, binNumber, time, begun, ReaderMode, fresh, outside, inside, afterChannel, afterTime, afterSample, unheaded, headed, commands, modeAfter, allowed, among, Checked, good, bad}
+use Rattle.format.specs.Rules.{Kind, dataKind, monitorKind, commandKind, same, since, has, total, gather, channelKey, histogramKey, binNumber, time, begun, ReaderMode, fresh, outside, inside, afterChannel, afterTime, afterSample, unheaded, headed, commands, modeAfter, allowed, among, Checked, good, bad}
 use Rattle.format.specs.Frames.{Frame, earlierThen, walk, verdict}
 
 -- ---- the state
 
 -- where events begin and end. The leading part is that of an event that began in another frame, and goes on with a Continue event in this one
 pub record Marks : Type 0 where
-  -- the word index of the open event's Start event; 0 where no event that began in this frame is open
+  -- the word index of the latest Start event; 0 where the frame has none. Whether its event is open is the mode's to tell
   pub opener : ℕ
   -- one more than the key of the leading part's first Channel header; 0 where it has none
   pub first : ℕ
@@ -49,7 +49,7 @@ nextAfter commandKind p = 0
 
 -- the items p begin at word 3
 abbrev pub openerAfter : List Item → ℕ
-openerAfter p = pick (begun p) ((3 + total p) - total (since startEvent p)) 0
+openerAfter p = pick (has startEvent p) ((3 + total p) - total (since startEvent p)) 0
 
 -- a Channel of an event that did not begin in this frame, and the first one
 unfoldable pub firstAfter : List Item → ℕ
@@ -126,7 +126,8 @@ orderBy st (StartEvent t ts n) = true
 orderBy st (ContinueEvent n) = true
 orderBy st (EndEvent n) = true
 
--- the marks after a Channel header whose key is one less than n, a Start event at word `at`, and an End event there
+-- the marks after a Channel header whose key is one less than n, a Start event at word `at`, and an End event there. Channel and End event stand in the
+-- leading part where no Start event stood before them: an event is open there, and behind a Start event none that began in another frame is
 abbrev pub marksChannel : ℕ → Marks → Marks
 marksChannel n m = record { opener = m .opener; first = pick (eqb (m .opener) 0 && eqb (m .first) 0) n (m .first); lead = m .lead }
 
@@ -134,7 +135,7 @@ abbrev pub marksStart : ℕ → Marks → Marks
 marksStart at m = record { opener = at; first = m .first; lead = m .lead }
 
 abbrev pub marksEnd : ℕ → Marks → Marks
-marksEnd at m = record { opener = 0; first = m .first; lead = pick (eqb (m .opener) 0) at (m .lead) }
+marksEnd at m = record { opener = m .opener; first = m .first; lead = pick (eqb (m .opener) 0) at (m .lead) }
 
 -- the state after an item at word `at`
 abbrev pub stateAfter : ℕ → ReaderState → Item → ReaderState
@@ -167,6 +168,18 @@ endedBy afterSample = true
 endedBy unheaded = true
 endedBy headed = true
 endedBy commands = true
+
+-- an event is open here
+abbrev pub openIn : ReaderMode → Bool
+openIn fresh = false
+openIn outside = false
+openIn inside = true
+openIn afterChannel = true
+openIn afterTime = true
+openIn afterSample = true
+openIn unheaded = false
+openIn headed = false
+openIn commands = false
 
 -- ---- one turn at a word of some bytes, of which the words before word `last` are read
 

@@ -122,7 +122,7 @@ module _ (next : ℕ) (st : ReaderState) (r : Stepped) where
   continue-turn low e f = e ∙ same-front next true (record { mode = inside; key = st .key; next = st .next; marks = st .marks }) {v = eqb low 0} {v′ = eqb low 0} f refl
 
   pub end-turn : (at size low n : ℕ) {p v : Bool} → n ≡ pick (eqb (st .marks .opener) 0) at (st .marks .lead)
-      → r ≡ marked next (tested p (eqb low 0 && v) true (record { mode = outside; key = st .key; next = st .next; marks = record { opener = 0; first = st .marks .first; lead = n } }))
+      → r ≡ marked next (tested p (eqb low 0 && v) true (record { mode = outside; key = st .key; next = st .next; marks = record { opener = st .marks .opener; first = st .marks .first; lead = n } }))
       → p ≡ placeBy st channel → v ≡ eqb (st .marks .opener) 0 || eqb size (2 * (at - st .marks .opener) + 6) → r ≡ marked next (endTested at st size low)
   unfolding endTested
   end-turn at size low n m e f g =

@@ -23,7 +23,7 @@ pub enum Mode {
 
 // Where events begin and end. The leading part is that of an event that began in another frame: a Continue event opens it.
 pub struct Marks {
-    // The word index of the open event's Start event; 0 where no event that began in this frame is open.
+    // The word index of the latest Start event; 0 where the frame has none. Whether its event is open is the mode's to tell.
     pub opener: usize,
     // One more than the key of the leading part's first Channel header; 0 where it has none.
     pub first: u32,

@@ -266,16 +266,16 @@ fn sized(at: usize, opener: usize, size: u32) -> bool
     words == at - opener
 }
 
-// The low bits of the item's first word are a value rule of their own.
+// The low bits of the item's first word are a value rule of their own. The opener stays: a constant in its place made the whole walk dearer.
 pub fn end_event(at: usize, st: State, x: EndEvent, low: u16, next: usize) -> Step
     ensures { λ r. ⌜ EndEventStep at st x low next r ⌝ }
 {
     let mode = st.mode;
-    let m = st.marks;
+    let before = st.marks;
     let marks = Marks {
-        opener: 0,
-        first: m.first,
-        lead: lead_of(m.opener, m.lead, at),
+        opener: before.opener,
+        first: before.first,
+        lead: lead_of(before.opener, before.lead, at),
     };
     let after = State {
         mode: Mode::Outside,
@@ -283,7 +283,7 @@ pub fn end_event(at: usize, st: State, x: EndEvent, low: u16, next: usize) -> St
         next: st.next,
         marks,
     };
-    let value = (low == 0) & sized(at, m.opener, x.size);
+    let value = (low == 0) & sized(at, before.opener, x.size);
     judged(may_stand_inside(mode), value, true, after, next)
 }
 

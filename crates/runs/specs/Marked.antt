@@ -10,7 +10,7 @@ use lib.ListN.{length}
 use Rattle.follower.specs.Follow as follower
 use Rattle.format.specs.Words.{pick, wordAt, longAt}
 use Rattle.format.specs.Answers.{Outcome, accepted, refused, andThen}
-use Rattle.format.specs.Steps.{Marks, ReaderState, Overview, readOf}
+use Rattle.format.specs.Steps.{Marks, ReaderState, openIn, Overview, readOf}
 use Rattle.runs.specs.Assembly.{Open, Assembler, isData, Taken}
 
 -- the items begin at word 3; a Continue event's word is this one, and its number stands behind it
@@ -42,11 +42,12 @@ unfoldable pub sizedBy : Option Open → List ℕ → Marks → Bool
 sizedBy none s m = true
 sizedBy (some o) s m = sizeBy (o .size) s (m .lead)
 
--- the event that began in the frame and is open: its number stands at the fifth word of its Start event, and it reaches to the last word
+-- the event that began in the frame and is open, that of the latest Start event: its number stands at the fifth word of that, and it reaches to the last
+-- word. An opener alone may be that of an event that has ended, an open event alone the leading part
 unfoldable pub begunBy : List ℕ → ReaderState → Option Open
 begunBy s st =
-    pick (eqb (st .marks .opener) 0) none
-    (some (record { number = longAt s (st .marks .opener + 4); size = length s - 2 - 2 * st .marks .opener; key = st .key }))
+    pick (openIn (st .mode) && not (eqb (st .marks .opener) 0))
+    (some (record { number = longAt s (st .marks .opener + 4); size = length s - 2 - 2 * st .marks .opener; key = st .key })) none
 
 -- an event that was open is open still where its part has no End event
 unfoldable pub openBy : Option Open → List ℕ → ReaderState → Option Open

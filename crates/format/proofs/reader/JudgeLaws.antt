@@ -13,6 +13,7 @@ use Rattle.format.specs.Items.{Item, Channel, Histogram, HitCount, Sampl
 use Rattle.format.specs.Rules.{Kind, dataKind, monitorKind, commandKind, since, count, total, modeAfter, mayEnd}
 use Rattle.format.specs.Frames.{Frame, earlierThen, Allowed, lastOf, headFault, kindIn, cardIn, front, body, walk, ending, judged, verdict}
 use Rattle.format.specs.Steps.{ReaderState, stateOf, stateAfter, endedBy, indexIn, Summary, summary, summed, rest, Overview, overview, readOf, Indexed, indexOf}
+use Rattle.format.proofs.rules.SoundLaws.{Own, own-nil, own-further}
 use Rattle.format.proofs.reader.StateLaws.{turn-of}
 use Rattle.format.proofs.verdict.WalkLaws.{Stepped, walk-step}
 use Rattle.format.proofs.verdict.Acceptance.{in-order, behind-behind, length-behind}
@@ -32,10 +33,10 @@ by-item at st (StartEvent t ts n) p = refl
 by-item at st (ContinueEvent n) p = refl
 by-item at st (EndEvent n) p = refl
 
-after-item : (kind : Kind) (card : ℕ) (p : List Item) (x : Item) → Allowed kind card p x → endedBy (modeAfter kind (x ∷ p)) ≡ mayEnd (x ∷ p)
+after-item : (kind : Kind) (card : ℕ) (p : List Item) (x : Item) → Own p → Allowed kind card p x → endedBy (modeAfter kind (x ∷ p)) ≡ mayEnd (x ∷ p)
 unfolding stateOf
-after-item kind card p x a =
-    sym (ap (λ (st : ReaderState). endedBy (st .mode)) (turn-of kind p x (a .placed) .after (a .ordered))) ∙ by-item (3 + total p) (stateOf kind p) x p
+after-item kind card p x w a =
+    sym (ap (λ (st : ReaderState). endedBy (st .mode)) (turn-of kind p x w (a .placed) .after (a .ordered))) ∙ by-item (3 + total p) (stateOf kind p) x p
 
 before-items : (kind : Kind) → endedBy (modeAfter kind []) ≡ mayEnd []
 unfolding since count
@@ -43,19 +44,19 @@ before-items dataKind = refl
 before-items monitorKind = refl
 before-items commandKind = refl
 
-ended-walk : (kind : Kind) (card : ℕ) (ts : List Token) (p q : List Item) (at : ℕ) → endedBy (modeAfter kind p) ≡ mayEnd p → walk kind card p at ts ≡ accepted q
+ended-walk : (kind : Kind) (card : ℕ) (ts : List Token) (p q : List Item) (at : ℕ) → Own p → endedBy (modeAfter kind p) ≡ mayEnd p → walk kind card p at ts ≡ accepted q
     → endedBy (modeAfter kind q) ≡ mayEnd q
 unfolding walk
-ended-walk kind card [] p q at e w = subst (λ (l : List Item). endedBy (modeAfter kind l) ≡ mayEnd l) (inner p q w) e
+ended-walk kind card [] p q at o e w = subst (λ (l : List Item). endedBy (modeAfter kind l) ≡ mayEnd l) (inner p q w) e
   where
     inner : (p q : List Item) → accepted p ≡ accepted q → p ≡ q
     inner p q f = cc
-ended-walk kind card (t ∷ ts) p q at e w =
+ended-walk kind card (t ∷ ts) p q at o e w =
     let s = walk-step kind card p at t ts q w in
-    ended-walk kind card ts (s .item ∷ p) q (at + length (wordsOf (s .item))) (after-item kind card p (s .item) (s .allowed)) (s .rest)
+    ended-walk kind card ts (s .item ∷ p) q (at + length (wordsOf (s .item))) (own-further kind p (s .item) (s .allowed .placed) o) (after-item kind card p (s .item) o (s .allowed)) (s .rest)
 
 pub may-end : (kind : Kind) (card at : ℕ) (ts : List Token) (p : List Item) → walk kind card [] at ts ≡ accepted p → endedBy (modeAfter kind p) ≡ mayEnd p
-may-end kind card at ts p w = ended-walk kind card ts [] p at (before-items kind) w
+may-end kind card at ts p w = ended-walk kind card ts [] p at own-nil (before-items kind) w
 
 -- ---- the answers
 

@@ -1,7 +1,7 @@
 -- From the walk to the verdict on a partial frame; and `add` and `close` by the state that the verdict carries.
 -- Assumes nothing.
 use Prim.Native.Nat.{ℕ, _+_, _*_, _/_, _%_, _<_, _≤_}
-use mathlib.Core.Path.{_≡_, refl, sym, ap, _∙_}
+use mathlib.Core.Path.{_≡_, refl, sym, ap, subst, _∙_}
 use mathlib.Core.List.{List, []}
 use mathlib.Core.Bool.{Bool, true, false}
 use native.Mathlib.Omega.{arith}
@@ -19,6 +19,7 @@ use Rattle.format.specs.Writing.{Partial, partialFault, partialBody, par
 use Rattle.format.specs.WriterCases.{partialLength}
 use Rattle.format.specs.PartialSteps.{PartialOverview, partialOverview, partialReadOf, Put, putChecked, putAnswer, putLeft}
 use Rattle.format.proofs.items.PartLaws.{take-words}
+use Rattle.format.proofs.rules.SoundLaws.{Own, own-nil, own-sound}
 use Rattle.format.proofs.reader.StateLaws.{states, turn}
 use Rattle.format.proofs.reader.JudgeLaws.{may-end}
 use Rattle.format.proofs.writer.PartialLaws.{kept, then-kept, accepted-is, partial-head, measured-of, partial-sound, begun-length}
@@ -115,12 +116,17 @@ module _ (buf : List ℕ) (n : ℕ) where
         let z = total-nil in
         omega arith
 
+    own : Bytes buf → Own (contained .0 .earlier)
+    own bs =
+        let (xs, b) = partial-sound buf bs n (contained .0) (contained .1) in
+        subst Own (sym (b .earlier)) (own-sound (contained .0 .kind) (contained .0 .card) [] xs (b .sound) own-nil)
+
     pub by-state : Bytes buf → (t : Token)
         → checkBy (v .card) (n / 2) (v .state) t ≡ states (contained .0 .kind) (check (contained .0 .kind) (contained .0 .card) (contained .0 .earlier) t)
     by-state bs t =
         ap (λ (w : PartialOverview). checkBy (w .card) (n / 2) (w .state) t) (sym view-is)
         ∙ ap (λ (at : ℕ). checkBy (contained .0 .card) at (stateOf (contained .0 .kind) (contained .0 .earlier)) t) (sym (words-behind bs))
-        ∙ turn (contained .0 .kind) (contained .0 .card) (contained .0 .earlier) t
+        ∙ turn (contained .0 .kind) (contained .0 .card) (contained .0 .earlier) t (own bs)
 
     same-answer : (kind : Kind) (t : Token) (o : Checked (List Item))
         → addChecked buf n t o ≡ andThen (putChecked buf n (tokenBytes t) (states kind o)) (λ x. accepted (x .reached))

@@ -13,7 +13,8 @@ use Rattle.format.specs.Words.{pick}
 use Rattle.format.specs.Book.{Class, channel, histogram, hitCount, sample, bin, lastCell, timeBin, dataFrame, monitorFrame, commandFrame, text, startEvent, continueEvent, endEvent, frameEnd, unassigned}
 use Rattle.format.specs.Items.{Item, Channel, Histogram, HitCount, Sample, Bin, LastCell, TimeBin, Text, StartEvent, ContinueEvent, EndEvent, classFor, wordsOf, inRange, key, Token, whole, broken, flawed}
 use Rattle.format.specs.Rules.{Kind, dataKind, monitorKind, commandKind, same, since, before, count, has, latest, total, gather, channelKey, histogramKey, binNumber, startTime, headOrZero, above, openers, inEvent, begun, time, lastTime, ReaderMode, fresh, outside, inside, afterChannel, afterTime, afterSample, unheaded, headed, commands, insideAfter, betweenEvents, modeAfter, allowed, among, place, eventSize, value, order, Checked, good, bad, check}
-use Rattle.format.specs.Steps.{Marks, ReaderState, aboveAll, openerAfter, firstAfter, leadAfter, marksAfter, stateOf, start, valueBy, marksChannel, marksStart, marksEnd, paused, orderBy, stateAfter, checkBy}
+use Rattle.format.specs.Steps.{Marks, ReaderState, aboveAll, openerAfter, firstAfter, leadAfter, marksAfter, stateOf, start, valueBy, marksChannel, marksStart, marksEnd, paused, orderBy, stateAfter, checkBy, openIn}
+use Rattle.format.proofs.rules.SoundLaws.{end-place, Own}
 
 -- ---- numbers above all of some
 
@@ -77,6 +78,36 @@ in-data p = go (inEvent p)
 
     go : (b : Bool) → InData (pick b (insideAfter (latest p)) (betweenEvents p))
     go true = within-data (latest p)
+    go false = between p
+
+-- the mode tells whether an event is open
+pub open-in : (p : List Item) → openIn (modeAfter dataKind p) ≡ inEvent p
+open-in p = go (inEvent p)
+  where
+    within : (c : Class) → openIn (insideAfter c) ≡ true
+    within channel = refl
+    within histogram = refl
+    within hitCount = refl
+    within sample = refl
+    within bin = refl
+    within lastCell = refl
+    within timeBin = refl
+    within dataFrame = refl
+    within monitorFrame = refl
+    within commandFrame = refl
+    within text = refl
+    within startEvent = refl
+    within continueEvent = refl
+    within endEvent = refl
+    within frameEnd = refl
+    within unassigned = refl
+
+    between : (q : List Item) → openIn (betweenEvents q) ≡ false
+    between [] = refl
+    between (x ∷ q) = refl
+
+    go : (b : Bool) → openIn (pick b (insideAfter (latest p)) (betweenEvents p)) ≡ b
+    go true = within (latest p)
     go false = between p
 
 -- a class that stands in no place of a data frame, of a monitor frame
@@ -155,12 +186,12 @@ since-less c (x ∷ p) = go (same c (classFor x)) (since-less c p)
     go true h = omega arith
     go false h = omega arith
 
-opener-same : (x : Item) (p : List Item) → same startEvent (classFor x) ≡ false → same endEvent (classFor x) ≡ false → openerAfter p ≡ openerAfter (x ∷ p)
+opener-same : (x : Item) (p : List Item) → same startEvent (classFor x) ≡ false → openerAfter p ≡ openerAfter (x ∷ p)
 unfolding since total count
-opener-same x p n m =
-    let z : 0 + count startEvent (since endEvent p) ≡ count startEvent (since endEvent p) = omega arith in
+opener-same x p n =
+    let z : 0 + count startEvent p ≡ count startEvent p = omega arith in
     let e : (3 + (length (wordsOf x) + total p)) - (length (wordsOf x) + total (since startEvent p)) ≡ (3 + total p) - total (since startEvent p) = omega arith in
-    rw (n, m, z, e)
+    rw (n, z, e)
 
 -- ---- one item
 
@@ -177,8 +208,8 @@ marked-alike : (a a′ b b′ c c′ : ℕ) → a ≡ a′ → b ≡ b′ → c 
 marked-alike a a′ b b′ c c′ e f g = λ i. record { opener = e i; first = f i; lead = g i }
 
 -- the opener tells whether the open event began in this frame: a word of the frame's items is at least 3
-pub unopened : (p : List Item) → eqb (openerAfter p) 0 ≡ not (begun p)
-unopened p = go (begun p)
+unopened : (p : List Item) → Own p → inEvent p ≡ true → eqb (openerAfter p) 0 ≡ not (begun p)
+unopened p w o = go (has startEvent p) ∙ ap not (w o)
   where
     go : (b : Bool) → eqb (pick b ((3 + total p) - total (since startEvent p)) 0) 0 ≡ not b
     go true = let l = since-less startEvent p in ne-eqb ((3 + total p) - total (since startEvent p)) 0 (λ (i : (3 + total p) - total (since startEvent p) ≡ 0). omega arith)
@@ -188,22 +219,22 @@ unopened p = go (begun p)
 marks-same : (x : Item) (p : List Item) → same startEvent (classFor x) ≡ false → same endEvent (classFor x) ≡ false → same channel (classFor x) ≡ false
     → marksAfter p ≡ marksAfter (x ∷ p)
 unfolding marksAfter firstAfter leadAfter
-marks-same x p a b c = marked-alike _ _ _ _ _ _ (opener-same x p a b) (rw c) (rw b)
+marks-same x p a b c = marked-alike _ _ _ _ _ _ (opener-same x p a) (rw c) (rw b)
 
-channel-marks : (a b c : ℕ) (p : List Item) → marksChannel (key a b c + 1) (marksAfter p) ≡ marksAfter (Channel a b c ∷ p)
+channel-marks : (a b c : ℕ) (p : List Item) → Own p → inEvent p ≡ true → marksChannel (key a b c + 1) (marksAfter p) ≡ marksAfter (Channel a b c ∷ p)
 unfolding marksAfter firstAfter leadAfter aboveAll
-channel-marks a b c p =
+channel-marks a b c p w o =
     let k : key a b c + 1 ≡ max (suc (key a b c)) 0 = omega arith in
-    marked-alike _ _ _ _ _ _ (opener-same (Channel a b c) p refl refl) (rw (unopened p, k)) refl
+    marked-alike _ _ _ _ _ _ (opener-same (Channel a b c) p refl) (rw (unopened p w o, k)) refl
 
 start-marks : (t ts n : ℕ) (p : List Item) → marksStart (3 + total p) (marksAfter p) ≡ marksAfter (StartEvent t ts n ∷ p)
 unfolding marksAfter firstAfter leadAfter since count total wordsOf
 start-marks t ts n p =
-    marked-alike _ _ _ _ _ _ (sym (rw (le-leb 1 (1 + count startEvent (since endEvent p)) (omega arith)) (omega arith))) refl refl
+    marked-alike _ _ _ _ _ _ (sym (rw (le-leb 1 (1 + count startEvent p) (omega arith)) (omega arith))) refl refl
 
-end-marks : (n : ℕ) (p : List Item) → marksEnd (3 + total p) (marksAfter p) ≡ marksAfter (EndEvent n ∷ p)
+end-marks : (n : ℕ) (p : List Item) → Own p → inEvent p ≡ true → marksEnd (3 + total p) (marksAfter p) ≡ marksAfter (EndEvent n ∷ p)
 unfolding marksAfter firstAfter leadAfter since count
-end-marks n p = marked-alike _ _ _ _ _ _ refl refl (rw (unopened p))
+end-marks n p w o = marked-alike _ _ _ _ _ _ (opener-same (EndEvent n) p refl) refl (rw (unopened p w o))
 
 -- a time that no Time bin and no Sample changes
 time-same : (p : List Item) (n : ℕ) → n ≡ 0 → time p ≡ headOrZero (gather startTime p) + (n + count sample (since timeBin p))
@@ -247,18 +278,18 @@ module _ (p : List Item) where
     after = λ e. alike _ _ _ _ _ _ _ _ (sym (rw (still (LastCell a b) p refl (open-there p lastCell refl refl h)))) refl (time-same p 0 refl) (marks-same (LastCell a b) p refl refl refl);
   }
 
-  channel-turn : (a b c : ℕ) → place dataKind p channel ≡ true → Turn dataKind p (Channel a b c)
+  channel-turn : (a b c : ℕ) → Own p → place dataKind p channel ≡ true → Turn dataKind p (Channel a b c)
   unfolding stateOf since count gather
-  channel-turn a b c h = record {
+  channel-turn a b c w h = record {
     ordered = sym (above-leb (key a b c) (gather channelKey (since startEvent p)));
-    after = λ e. alike _ _ _ _ _ _ _ _ (sym (rw (still (Channel a b c) p refl (open-there p channel refl refl h)))) (above-next (key a b c) (gather channelKey (since startEvent p)) e) (time-same p 0 refl) (channel-marks a b c p);
+    after = λ e. alike _ _ _ _ _ _ _ _ (sym (rw (still (Channel a b c) p refl (open-there p channel refl refl h)))) (above-next (key a b c) (gather channelKey (since startEvent p)) e) (time-same p 0 refl) (channel-marks a b c p w (open-there p channel refl refl h));
   }
 
-  end-turn : (n : ℕ) → Turn dataKind p (EndEvent n)
+  end-turn : (n : ℕ) → Own p → place dataKind p endEvent ≡ true → Turn dataKind p (EndEvent n)
   unfolding stateOf since count gather
-  end-turn n = record {
+  end-turn n w h = record {
     ordered = refl;
-    after = λ e. alike _ _ _ _ _ _ _ _ refl refl (time-same p 0 refl) (end-marks n p);
+    after = λ e. alike _ _ _ _ _ _ _ _ refl refl (time-same p 0 refl) (end-marks n p w (open-there p endEvent refl refl h));
   }
 
   start-turn : (t ts n : ℕ) → Turn dataKind p (StartEvent t ts n)
@@ -312,55 +343,55 @@ module _ (p : List Item) where
   text-turn s = record { ordered = refl; after = λ e. alike _ _ _ _ _ _ _ _ refl refl refl (marks-same (Text s) p refl refl refl) }
 
 -- every item that may stand there
-pub turn-of : (kind : Kind) (p : List Item) (x : Item) → place kind p (classFor x) ≡ true → Turn kind p x
-turn-of dataKind p (Channel a b c) h = channel-turn p a b c h
-turn-of dataKind p (Histogram a b c) h = absurd (not-data p histogram histogram-not h)
-turn-of dataKind p (HitCount a b c) h = hit-turn p a b c h
-turn-of dataKind p (Sample v) h = sample-turn p v h
-turn-of dataKind p (Bin b n) h = absurd (not-data p bin bin-not h)
-turn-of dataKind p (LastCell a b) h = cell-turn p a b h
-turn-of dataKind p (TimeBin t) h = time-turn p t h
-turn-of dataKind p (Text s) h = absurd (not-data p text text-not h)
-turn-of dataKind p (StartEvent t ts n) h = start-turn p t ts n
-turn-of dataKind p (ContinueEvent n) h = continue-turn p n
-turn-of dataKind p (EndEvent n) h = end-turn p n
-turn-of monitorKind p (Channel a b c) h = absurd (not-monitor p channel refl refl h)
-turn-of monitorKind p (Histogram a b c) h = histogram-turn p a b c
-turn-of monitorKind p (HitCount a b c) h = absurd (not-monitor p hitCount refl refl h)
-turn-of monitorKind p (Sample v) h = absurd (not-monitor p sample refl refl h)
-turn-of monitorKind p (Bin b n) h = bin-turn p b n
-turn-of monitorKind p (LastCell a b) h = absurd (not-monitor p lastCell refl refl h)
-turn-of monitorKind p (TimeBin t) h = absurd (not-monitor p timeBin refl refl h)
-turn-of monitorKind p (Text s) h = absurd (not-monitor p text refl refl h)
-turn-of monitorKind p (StartEvent t ts n) h = absurd (not-monitor p startEvent refl refl h)
-turn-of monitorKind p (ContinueEvent n) h = absurd (not-monitor p continueEvent refl refl h)
-turn-of monitorKind p (EndEvent n) h = absurd (not-monitor p endEvent refl refl h)
-turn-of commandKind p (Channel a b c) h = no h
-turn-of commandKind p (Histogram a b c) h = no h
-turn-of commandKind p (HitCount a b c) h = no h
-turn-of commandKind p (Sample v) h = no h
-turn-of commandKind p (Bin b n) h = no h
-turn-of commandKind p (LastCell a b) h = no h
-turn-of commandKind p (TimeBin t) h = no h
-turn-of commandKind p (Text s) h = text-turn p s
-turn-of commandKind p (StartEvent t ts n) h = no h
-turn-of commandKind p (ContinueEvent n) h = no h
-turn-of commandKind p (EndEvent n) h = no h
+pub turn-of : (kind : Kind) (p : List Item) (x : Item) → Own p → place kind p (classFor x) ≡ true → Turn kind p x
+turn-of dataKind p (Channel a b c) w h = channel-turn p a b c w h
+turn-of dataKind p (Histogram a b c) w h = absurd (not-data p histogram histogram-not h)
+turn-of dataKind p (HitCount a b c) w h = hit-turn p a b c h
+turn-of dataKind p (Sample v) w h = sample-turn p v h
+turn-of dataKind p (Bin b n) w h = absurd (not-data p bin bin-not h)
+turn-of dataKind p (LastCell a b) w h = cell-turn p a b h
+turn-of dataKind p (TimeBin t) w h = time-turn p t h
+turn-of dataKind p (Text s) w h = absurd (not-data p text text-not h)
+turn-of dataKind p (StartEvent t ts n) w h = start-turn p t ts n
+turn-of dataKind p (ContinueEvent n) w h = continue-turn p n
+turn-of dataKind p (EndEvent n) w h = end-turn p n w h
+turn-of monitorKind p (Channel a b c) w h = absurd (not-monitor p channel refl refl h)
+turn-of monitorKind p (Histogram a b c) w h = histogram-turn p a b c
+turn-of monitorKind p (HitCount a b c) w h = absurd (not-monitor p hitCount refl refl h)
+turn-of monitorKind p (Sample v) w h = absurd (not-monitor p sample refl refl h)
+turn-of monitorKind p (Bin b n) w h = bin-turn p b n
+turn-of monitorKind p (LastCell a b) w h = absurd (not-monitor p lastCell refl refl h)
+turn-of monitorKind p (TimeBin t) w h = absurd (not-monitor p timeBin refl refl h)
+turn-of monitorKind p (Text s) w h = absurd (not-monitor p text refl refl h)
+turn-of monitorKind p (StartEvent t ts n) w h = absurd (not-monitor p startEvent refl refl h)
+turn-of monitorKind p (ContinueEvent n) w h = absurd (not-monitor p continueEvent refl refl h)
+turn-of monitorKind p (EndEvent n) w h = absurd (not-monitor p endEvent refl refl h)
+turn-of commandKind p (Channel a b c) w h = no h
+turn-of commandKind p (Histogram a b c) w h = no h
+turn-of commandKind p (HitCount a b c) w h = no h
+turn-of commandKind p (Sample v) w h = no h
+turn-of commandKind p (Bin b n) w h = no h
+turn-of commandKind p (LastCell a b) w h = no h
+turn-of commandKind p (TimeBin t) w h = no h
+turn-of commandKind p (Text s) w h = text-turn p s
+turn-of commandKind p (StartEvent t ts n) w h = no h
+turn-of commandKind p (ContinueEvent n) w h = no h
+turn-of commandKind p (EndEvent n) w h = no h
 
 -- the value rules by the state
-value-same : (kind : Kind) (card : ℕ) (p : List Item) (x : Item) → valueBy card (3 + total p) (stateOf kind p) x ≡ value card p x
+value-same : (kind : Kind) (card : ℕ) (p : List Item) (x : Item) → Own p → place kind p (classFor x) ≡ true → valueBy card (3 + total p) (stateOf kind p) x ≡ value card p x
 unfolding stateOf marksAfter
-value-same kind card p (Channel a b c) = refl
-value-same kind card p (Histogram a b c) = refl
-value-same kind card p (HitCount a b c) = refl
-value-same kind card p (Sample v) = refl
-value-same kind card p (Bin b n) = refl
-value-same kind card p (LastCell a b) = refl
-value-same kind card p (TimeBin t) = refl
-value-same kind card p (Text s) = refl
-value-same kind card p (StartEvent t ts n) = refl
-value-same kind card p (ContinueEvent n) = refl
-value-same kind card p (EndEvent n) = ap (λ (b : Bool). inRange card (EndEvent n) && b) (go (begun p))
+value-same kind card p (Channel a b c) w h = refl
+value-same kind card p (Histogram a b c) w h = refl
+value-same kind card p (HitCount a b c) w h = refl
+value-same kind card p (Sample v) w h = refl
+value-same kind card p (Bin b n) w h = refl
+value-same kind card p (LastCell a b) w h = refl
+value-same kind card p (TimeBin t) w h = refl
+value-same kind card p (Text s) w h = refl
+value-same kind card p (StartEvent t ts n) w h = refl
+value-same kind card p (ContinueEvent n) w h = refl
+value-same kind card p (EndEvent n) w h = ap (λ (b : Bool). inRange card (EndEvent n) && b) (go (has startEvent p) ∙ ap (λ (b : Bool). not b || eqb n (eventSize p)) (w (end-place kind p h .1)))
   where
     go : (b : Bool)
         → eqb (pick b ((3 + total p) - total (since startEvent p)) 0) 0 || eqb n (2 * ((3 + total p) - pick b ((3 + total p) - total (since startEvent p)) 0) + 6)
@@ -380,22 +411,21 @@ states-broken : (kind : Kind) (a : Bool) → pick a (bad 9) (bad 8) ≡ states k
 states-broken kind true = refl
 states-broken kind false = refl
 
-states-whole : (kind : Kind) (a b c d : Bool) (q : List Item) (r : ReaderState) → (a ≡ true → d ≡ c) → (a ≡ true → c ≡ true → r ≡ stateOf kind q)
-    → pick a (pick b (pick d (good r) (bad 10)) (bad 9)) (bad 8) ≡ states kind (pick a (pick b (pick c (good q) (bad 10)) (bad 9)) (bad 8))
-states-whole kind false b c d q r e f = refl
-states-whole kind true false c d q r e f = refl
-states-whole kind true true true d q r e f = rw (e refl) (ap good (f refl refl))
-states-whole kind true true false d q r e f = rw (e refl)
+states-whole : (kind : Kind) (a b b′ c d : Bool) (q : List Item) (r : ReaderState) → (a ≡ true → b′ ≡ b) → (a ≡ true → d ≡ c) → (a ≡ true → c ≡ true → r ≡ stateOf kind q)
+    → pick a (pick b′ (pick d (good r) (bad 10)) (bad 9)) (bad 8) ≡ states kind (pick a (pick b (pick c (good q) (bad 10)) (bad 9)) (bad 8))
+states-whole kind false b b′ c d q r v e f = refl
+states-whole kind true false b′ c d q r v e f = rw (v refl)
+states-whole kind true true b′ true d q r v e f = rw (v refl, e refl) (ap good (f refl refl))
+states-whole kind true true b′ false d q r v e f = rw (v refl, e refl)
 
--- THE LAW: a turn by the state is the turn by the list
-pub turn : (kind : Kind) (card : ℕ) (p : List Item) (t : Token) → checkBy card (3 + total p) (stateOf kind p) t ≡ states kind (check kind card p t)
+-- THE LAW: a turn by the state is the turn by the list, behind any items that stand where they may (`own-sound`)
+pub turn : (kind : Kind) (card : ℕ) (p : List Item) (t : Token) → Own p → checkBy card (3 + total p) (stateOf kind p) t ≡ states kind (check kind card p t)
 unfolding checkBy check stateOf
-turn kind card p (flawed n) = refl
-turn kind card p (broken c) = states-broken kind (place kind p c)
-turn kind card p (whole x) =
-    ap (λ (b : Bool). pick (place kind p (classFor x)) (pick b (pick (orderBy (stateOf kind p) x) (good (stateAfter (3 + total p) (stateOf kind p) x)) (bad 10)) (bad 9)) (bad 8)) (value-same kind card p x)
-    ∙ states-whole kind (place kind p (classFor x)) (value card p x) (order p x) (orderBy (stateOf kind p) x) (x ∷ p) (stateAfter (3 + total p) (stateOf kind p) x)
-    (λ h. turn-of kind p x h .ordered) (λ h. turn-of kind p x h .after)
+turn kind card p (flawed n) w = refl
+turn kind card p (broken c) w = states-broken kind (place kind p c)
+turn kind card p (whole x) w =
+    states-whole kind (place kind p (classFor x)) (value card p x) (valueBy card (3 + total p) (stateOf kind p) x) (order p x) (orderBy (stateOf kind p) x) (x ∷ p) (stateAfter (3 + total p) (stateOf kind p) x)
+    (value-same kind card p x w) (λ h. turn-of kind p x w h .ordered) (λ h. turn-of kind p x w h .after)
 
 pub start-state : (kind : Kind) → start kind ≡ stateOf kind []
 unfolding stateOf marksAfter firstAfter leadAfter since count gather total aboveAll

@@ -21,6 +21,7 @@ use Rattle.format.proofs.items.WordLaws.{length-words, word-at}
 use Rattle.format.proofs.items.TextLaws.{TextRead, text-back}
 use Rattle.format.proofs.items.ItemLaws.{tokens-skip, Passed, token-passed}
 use Rattle.format.proofs.verdict.WalkLaws.{not-whole, passed, walk-good, walk-bad}
+use Rattle.format.proofs.rules.SoundLaws.{Own, own-nil, own-further}
 use Rattle.format.proofs.reader.StateLaws.{states, turn, start-state}
 
 -- ---- how many words an item takes
@@ -120,12 +121,13 @@ module _ (s : List ℕ) (last : ℕ) (room : 2 * last ≤ length s + 1) where
       pub count-is : count ≡ length p
       pub index-is : index ≡ indexIn n p
       pub state-is : st ≡ stateOf kind p
+      pub own : Own p
       pub few : count ≤ at
       pub same : walk kind card p at (rest s last at) ≡ walk kind card [] 3 (rest s last 3)
 
     pub going-start : Going 3 0 0 (start kind)
     unfolding total indexIn
-    going-start = record { p = []; at-is = refl; count-is = refl; index-is = refl; state-is = start-state kind; few = omega arith; same = refl }
+    going-start = record { p = []; at-is = refl; count-is = refl; index-is = refl; state-is = start-state kind; own = own-nil; few = omega arith; same = refl }
 
     module _ (at count index : ℕ) (st : ReaderState) (g : Going at count index st) (h : at < last) where
       here : walk kind card (g .p) at (tokenAt s last at ∷ rest s last (nextAt s at)) ≡ walk kind card [] 3 (rest s last 3)
@@ -134,13 +136,14 @@ module _ (s : List ℕ) (last : ℕ) (room : 2 * last ≤ length s + 1) where
       turned : checkBy card at st (tokenAt s last at) ≡ states kind (check kind card (g .p) (tokenAt s last at))
       turned =
           ap₂ (λ (a : ℕ) (r : ReaderState). checkBy card a r (tokenAt s last at)) (g .at-is) (g .state-is)
-          ∙ turn kind card (g .p) (tokenAt s last at)
+          ∙ turn kind card (g .p) (tokenAt s last at) (g .own)
 
       -- what the turn made of the state, as the list has it
       record Moved (st′ : ReaderState) : Type 0 where
         x : Item
         token : tokenAt s last at ≡ whole x
         state : st′ ≡ stateOf kind (x ∷ g .p)
+        own : Own (x ∷ g .p)
         checked : check kind card (g .p) (tokenAt s last at) ≡ good (x ∷ g .p)
 
       good-state : (a b : ReaderState) → good a ≡ good b → a ≡ b
@@ -150,7 +153,7 @@ module _ (s : List ℕ) (last : ℕ) (room : 2 * last ≤ length s + 1) where
       moved-by st′ (good q) e f =
           let (x, t) = not-whole kind card (g .p) (tokenAt s last at) q e in
           let (a, c) = passed kind card (g .p) x q (ap (check kind card (g .p)) (sym t) ∙ e) in
-          record { x = x; token = t; state = good-state _ _ f ∙ ap (stateOf kind) c; checked = e ∙ ap good c }
+          record { x = x; token = t; state = good-state _ _ f ∙ ap (stateOf kind) c; own = own-further kind (g .p) x (a .placed) (g .own); checked = e ∙ ap good c }
       moved-by st′ (bad k) e f = let z : _≡_ {A = ℕ} 0 1 = cc in absurd (omega arith)
 
       marked-good : (o : Checked ReaderState) (st′ : ReaderState) (next : ℕ) → moved st′ next ≡ marked (nextAt s at) o → (good st′ ≡ o) × (next ≡ nextAt s at)
@@ -177,6 +180,7 @@ module _ (s : List ℕ) (last : ℕ) (room : 2 * last ≤ length s + 1) where
               count-is = omega arith;
               index-is = rw (c, a, g .index-is);
               state-is = m .state;
+              own = m .own;
               few = omega (arith, w .further, g .few);
               same = subst (λ (k : ℕ). walk kind card (m .x ∷ g .p) k (rest s last k) ≡ walk kind card [] 3 (rest s last 3)) (sym v) (ap (λ (k : ℕ). walk kind card (m .x ∷ g .p) k (rest s last (nextAt s at))) (sym j) ∙ i);
             },

@@ -10,7 +10,7 @@ use borrow.Author.Tests.{le-leb}
 use Rattle.format.specs.Words.{pick}
 use Rattle.format.specs.Book.{Class, channel, histogram, hitCount, sample, bin, lastCell, timeBin, dataFrame, monitorFrame, commandFrame, text, startEvent, continueEvent, endEvent, frameEnd, unassigned}
 use Rattle.format.specs.Items.{Item, Channel, Histogram, HitCount, Sample, Bin, LastCell, TimeBin, Text, StartEvent, ContinueEvent, EndEvent, classFor, wordsOf}
-use Rattle.format.specs.Rules.{Kind, dataKind, monitorKind, commandKind, same, since, count, latest, total, inEvent, openers, betweenEvents, insideAfter, outside, headed, unheaded, allowed, among, place}
+use Rattle.format.specs.Rules.{Kind, dataKind, monitorKind, commandKind, same, since, count, has, latest, total, inEvent, openers, begun, betweenEvents, insideAfter, outside, headed, unheaded, allowed, among, place}
 use Rattle.format.specs.Frames.{Allowed, Sound, earlierThen, allWords}
 use Rattle.format.specs.Questions.{opens, endSize}
 
@@ -278,6 +278,33 @@ module _ (kind : Kind) (card : ℕ) where
       let a : tally (inEvent p) ≡ 1 = ap (λ (b : Bool). tally b) o in
       let b : tally (inEvent (earlierThen p xs)) ≡ 1 = ap (λ (b : Bool). tally b) (stays-open p xs o n) in
       omega (arith, balance p xs s)
+
+-- an event that is open behind a Start event began in this frame
+abbrev pub Own : List Item → Type 0
+Own p = inEvent p ≡ true → has startEvent p ≡ begun p
+
+pub own-nil : Own []
+unfolding since count
+own-nil o = refl
+
+pub own-further : (kind : Kind) (p : List Item) (x : Item) → place kind p (classFor x) ≡ true → Own p → Own (x ∷ p)
+unfolding since count
+own-further kind p x h w o = go (seen x)
+  where
+    go : Seen x → has startEvent (x ∷ p) ≡ begun (x ∷ p)
+    go (opening (starts t ts n e)) =
+        rw e (le-leb 1 (1 + count startEvent p) (omega arith) ∙ sym (le-leb 1 (1 + count startEvent (since endEvent p)) (omega arith)))
+    go (opening (continues n e)) = rw (e, continue-place kind p (ap (λ (y : Item). place kind p (classFor y)) (sym e) ∙ h) .1)
+    go (ends n e) = absurd (true≢false (sym o ∙ ap (λ (y : Item). inEvent (y ∷ p)) e ∙ open-end n p))
+    go (other d) =
+        let z : 0 + count startEvent p ≡ count startEvent p = omega arith in
+        let y : 0 + count startEvent (since endEvent p) ≡ count startEvent (since endEvent p) = omega arith in
+        rw (d .no-start, d .no-end, z, y) (w (sym (open-other x p d) ∙ o))
+
+pub own-sound : (kind : Kind) (card : ℕ) (p xs : List Item) → Sound kind card p xs → Own p → Own (earlierThen p xs)
+unfolding Sound earlierThen
+own-sound kind card p [] s w = w
+own-sound kind card p (x ∷ xs) s w = own-sound kind card (x ∷ p) xs (s .1) (own-further kind p x (s .0 .placed) w)
 
 -- the words of an event so far: those of its Start event and of what stands behind it
 pub total-since : (p xs : List Item) → count startEvent xs ≡ 0 → total (since startEvent (earlierThen p xs)) ≡ total (since startEvent p) + length (allWords xs)

@@ -8,16 +8,17 @@ use mathlib.Core.Option.{Option, none, some}
 use native.Mathlib.Omega.{arith}
 use lib.Dec.{leb, ltb, eqb}
 use lib.ListN.{length, length-append}
-use borrow.Author.Tests.{leb-true, eq-eqb, ne-eqb}
+use borrow.Author.Tests.{leb-true, le-leb, eq-eqb, ne-eqb}
 use Rattle.format.specs.Words.{pick, wordAt, longAt}
 use Rattle.format.specs.Book.{startEvent, endEvent}
 use Rattle.format.specs.Items.{Item, StartEvent, ContinueEvent, EndEvent, classFor, wordsOf, fits}
-use Rattle.format.specs.Rules.{dataKind, same, since, count, total, gather, channelKey, headOrZero, inEvent, begun}
+use Rattle.format.specs.Rules.{dataKind, same, since, count, total, gather, channelKey, headOrZero, openers, inEvent, begun}
 use Rattle.format.specs.Frames.{Frame, earlierThen, Sound, allWords, encode, Legal}
 use Rattle.format.specs.Steps.{Marks, ReaderState, aboveAll, openerAfter, firstAfter, leadAfter, marksAfter, stateOf}
 use Rattle.format.specs.Questions.{endSize, headOf, until}
 use Rattle.format.proofs.book.PrefixLaws.{and-left, and-right}
-use Rattle.format.proofs.rules.SoundLaws.{Seen, starts, continues, opening, ends, other, seen, open-nil, open-opening, stays-open, sound-head, sound-tail}
+use Rattle.format.proofs.rules.SoundLaws.{Seen, starts, continues, opening, ends, other, seen, open-nil, open-opening, stays-open, sound-head, sound-tail, own-nil, own-sound}
+use Rattle.format.proofs.reader.StateLaws.{open-in}
 use Rattle.format.proofs.questions.ItemQuestions.{no-some, some-is, all-words}
 use Rattle.format.proofs.verdict.WalkLaws.{allowed-fits}
 use Rattle.format.proofs.spots.PutLaws.{length-encode}
@@ -219,6 +220,19 @@ module _ (s : List ℕ) (f : Frame) (legal : Legal f) (written : s ≡ encode f)
   abbrev st : ReaderState
   st = stateOf dataKind p
 
+  not-begun-by : begun p ≡ false → begunBy s st ≡ none
+  unfolding stateOf marksAfter begunBy
+  not-begun-by b = ap (λ (t : Bool). pick (t && not (eqb (openerAfter p) 0)) here none) (open-in p) ∙ go (inEvent p) refl
+    where
+      here : Option Open
+      here = some (record { number = longAt s (openerAfter p + 4); size = length s - 2 - 2 * openerAfter p; key = aboveAll (gather channelKey (since startEvent p)) })
+
+      go : (i : Bool) → inEvent p ≡ i → pick (i && not (eqb (openerAfter p) 0)) here none ≡ none
+      go false i = refl
+      go true i =
+          let o : openerAfter p ≡ 0 = ap (λ (t : Bool). pick t ((3 + total p) - total (since startEvent p)) 0) (own-sound dataKind (f .card) [] xs sound own-nil i ∙ b) in
+          ap (λ (t : Bool). pick (not t) here none) (eq-eqb (openerAfter p) 0 o)
+
   -- where the open event began
   begun-at : begun p ≡ true → (before inside : List Item) × (t ts : ℕ) × (xs ≡ before ++ (StartEvent t ts (headOrZero (gather startNumber p)) ∷ inside))
       × (openerAfter p ≡ 3 + length (allWords before)) × (2 * total (since startEvent p) ≡ length s - 2 - 2 * (3 + length (allWords before)))
@@ -231,8 +245,11 @@ module _ (s : List ℕ) (f : Frame) (legal : Legal f) (written : s ≡ encode f)
       let v : length (allWords xs) ≡ length (allWords (h .before) ++ allWords (StartEvent (h .kind) (h .timestamp) n ∷ h .inside)) =
       ap (λ (l : List Item). length (allWords l)) (h .are) ∙ ap length (all-words (h .before) (StartEvent (h .kind) (h .timestamp) n ∷ h .inside)) in
       let u = length-append (allWords (h .before)) (allWords (StartEvent (h .kind) (h .timestamp) n ∷ h .inside)) in
-      let o : openerAfter p ≡ (3 + total p) - total (since startEvent p) = ap (λ (t : Bool). pick t ((3 + total p) - total (since startEvent p)) 0) b in
+      let o : openerAfter p ≡ (3 + total p) - total (since startEvent p) = ap (λ (t : Bool). pick t ((3 + total p) - total (since startEvent p)) 0) (le-leb 1 (count startEvent p) (begun-count p b)) in
       (h .before, h .inside, h .kind, h .timestamp, h .are, omega (arith, long), omega (arith, long))
+
+  begun-open : begun p ≡ true → inEvent p ≡ true
+  begun-open b = let h = leb-true 1 (count startEvent (since endEvent p)) b in le-leb 1 (openers (since endEvent p)) (omega arith)
 
   begun-by : begun p ≡ true → begunBy s st ≡ some (lastOpen p)
   unfolding stateOf marksAfter begunBy
@@ -240,16 +257,9 @@ module _ (s : List ℕ) (f : Frame) (legal : Legal f) (written : s ≡ encode f)
       let (before, inside, t, ts, e, o, z) = begun-at b in
       let n : longAt s (openerAfter p + 4) ≡ headOrZero (gather startNumber p) = ap (λ (k : ℕ). longAt s (k + 4)) o ∙ start-number s f written before inside t ts _ e in
       let w : length s - 2 - 2 * openerAfter p ≡ 2 * total (since startEvent p) = ap (λ (k : ℕ). length s - 2 - 2 * k) o ∙ sym z in
-      ap (λ (t : Bool). pick t none (some (record { number = longAt s (openerAfter p + 4); size = length s - 2 - 2 * openerAfter p; key = aboveAll (gather channelKey (since startEvent p)) })))
-      (ne-eqb (openerAfter p) 0 (λ j. omega arith))
+      ap₂ (λ (t e : Bool). pick (t && not e) (some (record { number = longAt s (openerAfter p + 4); size = length s - 2 - 2 * openerAfter p; key = aboveAll (gather channelKey (since startEvent p)) })) none)
+      (open-in p ∙ begun-open b) (ne-eqb (openerAfter p) 0 (λ j. omega arith))
       ∙ (λ i. some (record { number = n i; size = w i; key = aboveAll (gather channelKey (since startEvent p)) }))
-
-  not-begun-by : begun p ≡ false → begunBy s st ≡ none
-  unfolding stateOf marksAfter begunBy
-  not-begun-by b =
-      let o : openerAfter p ≡ 0 = ap (λ (t : Bool). pick t ((3 + total p) - total (since startEvent p)) 0) b in
-      ap (λ (t : Bool). pick t none (some (record { number = longAt s (openerAfter p + 4); size = length s - 2 - 2 * openerAfter p; key = aboveAll (gather channelKey (since startEvent p)) })))
-      (eq-eqb (openerAfter p) 0 o)
 
   state-key : st .key ≡ aboveAll (gather channelKey (since startEvent p))
   unfolding stateOf

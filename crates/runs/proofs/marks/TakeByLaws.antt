@@ -13,7 +13,7 @@ use Rattle.format.specs.Words.{pick, Bytes, longAt}
 use Rattle.format.specs.Answers.{Outcome, accepted, refused, andThen}
 use Rattle.format.specs.Book.{startEvent, endEvent}
 use Rattle.format.specs.Items.{Item, classFor, wordsOf}
-use Rattle.format.specs.Rules.{Kind, dataKind, monitorKind, commandKind, same, since, total, begun}
+use Rattle.format.specs.Rules.{Kind, dataKind, monitorKind, commandKind, same, since, has, total, begun}
 use Rattle.format.specs.Frames.{Frame, earlierThen, allWords, encode, Legal, verdict}
 use Rattle.format.specs.Steps.{Marks, openerAfter, leadAfter, marksAfter, stateOf, Overview, overview, readOf}
 use Rattle.format.proofs.book.PrefixLaws.{and-right}
@@ -105,7 +105,7 @@ lead-most (x ∷ p) = go (same endEvent (classFor x) && not (begun p)) (lead-mos
     go false h = omega arith
 
 opener-most : (p : List Item) → openerAfter p ≤ 3 + total p
-opener-most p = go (begun p)
+opener-most p = go (has startEvent p)
   where
     go : (b : Bool) → pick b ((3 + total p) - total (since startEvent p)) 0 ≤ 3 + total p
     go true = omega arith
