@@ -84,9 +84,9 @@ pub(crate) fn low32(x: u64) -> u32
 
 impl Case {
     // The largest argument of 16 bits.
-    const WORD: u64 = 65535;
+    pub(crate) const WORD: u64 = 65535;
     // And of 32 bits.
-    const LONG: u64 = 4294967295;
+    pub(crate) const LONG: u64 = 4294967295;
     // The last row of the word book that an item has.
     const LAST_ROW: u64 = Class::ROW_CONTINUE_EVENT as u64;
 
@@ -116,6 +116,11 @@ impl Case {
             & ((self.a2 == 1) | ((self.a3 == 0) & (self.a4 == 0) & (self.a5 == 0)))
             & (self.a6 == 0)
             & (self.m == 0)
+    }
+
+    // Whether the fields of op 8, a2 to a4, are at most what stands here for them.
+    pub(crate) fn fields(self, a2: u64, a3: u64, a4: u64) -> bool {
+        (self.a2 <= a2) & (self.a3 <= a3) & (self.a4 <= a4)
     }
 
     // Whether the head is whole and has nothing but what its op allows: a row for each op that is there.

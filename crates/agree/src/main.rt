@@ -82,7 +82,7 @@ fn turn(p: &mut [u8], q: &mut [u8], out: &mut [u8], waiting: usize) -> After
         };
     }
     let answer = answered(case, p, q);
-    if answer.many == Reply::RUN {
+    if answer.word == Reply::RUN {
         return After {
             waiting: run_line(out, waiting, case, p),
             more: true,
@@ -90,7 +90,7 @@ fn turn(p: &mut [u8], q: &mut [u8], out: &mut [u8], waiting: usize) -> After
     }
     After {
         waiting: reply::write(out, waiting, answer),
-        more: answer.many != Reply::NO_CASE,
+        more: answer.word != Reply::BAD_CASE,
     }
 }
 

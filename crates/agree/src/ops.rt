@@ -17,18 +17,18 @@ use crate::reply::no_case;
 fn asked(case: Case, p: &[u8]) -> Reply {
     let op = case.op;
     match op {
-        0 => ops_book::class(case.a0),
+        0 => ops_book::class(case),
         1 => ops_frame::read(p),
-        2 => ops_frame::item(p, case.a0),
-        3 => ops_frame::text(p, case.a0),
-        4 => ops_questions::event(p, case.a0),
-        5 => ops_questions::samples(p, case.a0, case.a1, case.a2, case.a3, case.a4),
-        6 => ops_questions::counts(p, case.a0, case.a1, case.a2, case.a3),
-        11 => ops_follower::follow(case.a0, case.a1),
+        2 => ops_frame::item(case, p),
+        3 => ops_frame::text(case, p),
+        4 => ops_questions::event(case, p),
+        5 => ops_questions::samples(case, p),
+        6 => ops_questions::counts(case, p),
+        11 => ops_follower::follow(case),
         12 => ops_record::record(p),
-        13 => ops_record::entry(p, case.a0),
-        18 => ops_questions::sample_word(p, case.a0, case.a1, case.a2, case.a3),
-        19 => ops_questions::bin_word(p, case.a0, case.a1, case.a2),
+        13 => ops_record::entry(case, p),
+        18 => ops_questions::sample_word(case, p),
+        19 => ops_questions::bin_word(case, p),
         20 => ops_runs::run(p),
         21 => ops_runs::step(case, p),
         _ => no_case(),
@@ -39,12 +39,12 @@ fn asked(case: Case, p: &[u8]) -> Reply {
 fn written(case: Case, p: &mut [u8], q: &[u8]) -> Reply {
     let op = case.op;
     match op {
-        7 => ops_writer::begin(p, case.a0, case.a1, case.a2),
-        8 => ops_writer::add(p, case.a0, case.a1, case.a2, case.a3, case.a4),
-        9 => ops_writer::add_text(p, q, case.a0),
-        10 => ops_writer::close(p, case.a0),
+        7 => ops_writer::begin(case, p),
+        8 => ops_writer::add(case, p),
+        9 => ops_writer::add_text(case, p, q),
+        10 => ops_writer::close(case, p),
         14 => ops_editor::open(p, q),
-        15 => ops_editor::edit(p, case.a0, case.a1, case.a2, case.a3),
+        15 => ops_editor::edit(case, p),
         _ => no_case(),
     }
 }
@@ -52,7 +52,7 @@ fn written(case: Case, p: &mut [u8], q: &[u8]) -> Reply {
 // The ops that read p and write q.
 fn read_out(case: Case, p: &[u8], q: &mut [u8]) -> Reply {
     if case.op == 16 {
-        return ops_editor::restore(p, q, case.a0);
+        return ops_editor::restore(case, p, q);
     }
     ops_list::list(p, q)
 }

@@ -1,10 +1,18 @@
 // The op over the word book.
-use crate::cases;
+use crate::cases::Case;
+use crate::cases::low16;
 use crate::reply;
 use crate::reply::Reply;
-use book::class::classify;
+use exports::reading::plane_classify;
 
 // Op 0: the class of the word a0, as its row in document 01's word book.
-pub(crate) fn class(a0: u64) -> Reply {
-    reply::few(1, classify(cases::low16(a0)).row() as u64, 0, 0)
+pub(crate) fn class(case: Case) -> Reply {
+    reply::few(
+        0,
+        0,
+        Reply::ONE,
+        plane_classify(low16(case.a0)) as u64,
+        0,
+        0,
+    )
 }

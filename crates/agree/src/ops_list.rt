@@ -7,7 +7,7 @@ use listing::answers::Listing;
 pub(crate) fn list(p: &[u8], q: &mut [u8]) -> Reply {
     let answer = listing::listing(p, q);
     match answer {
-        Listing::Length(n) => reply::few(1, n as u64, 0, 0),
-        Listing::Refused(r) => reply::refused(r),
+        Listing::Length(n) => reply::few(0, 0, Reply::ONE, n as u64, 0, 0),
+        Listing::Refused(r) => reply::few(r.number, r.place, 0, 0, 0, 0),
     }
 }

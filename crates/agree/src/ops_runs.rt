@@ -1,17 +1,19 @@
 // The ops over the assembler: a run of frames, whose line is written step by step, and one step from any state.
 ghost use Prim.Native.Nat.{_+_, _≤_};
 ghost use lib.ListN.{length};
-use crate::cases;
 use crate::cases::Case;
+use crate::cases::low8;
+use crate::cases::low16;
+use crate::cases::low32;
 use crate::ops_follower::code_of;
 use crate::ops_follower::state_of;
 use crate::reply;
-use crate::reply::Piece;
 use crate::reply::Reply;
-use assembler::Assembler;
-use assembler::Current;
-use assembler::OpenEvent;
-use assembler::Taken;
+use crate::reply::stretch;
+use exports::answers::PlaneAssembler;
+use exports::assembling::plane_give_up;
+use exports::assembling::plane_new_assembler;
+use exports::assembling::plane_take;
 
 // In the place of a step's length: the open event is given up.
 const GIVE_UP: u16 = 65535;
@@ -59,126 +61,48 @@ fn is_run(p: &[u8]) -> bool {
 // Op 20: the line is the run's.
 pub(crate) fn run(p: &[u8]) -> Reply {
     if is_run(p) {
-        return reply::few(Reply::RUN, 0, 0, 0);
+        return reply::line(Reply::RUN, 0, [0; 6]);
     }
     reply::no_case()
 }
 
-// A stretch of the run's line: what it says, and its numbers.
-struct Told {
-    said: u8,
-    a: u64,
-    b: u64,
-}
-
-impl Told {
-    const BEGIN: u8 = 0;
-
-    const LOST: u8 = 1;
-
-    const REFUSED: u8 = 2;
-
-    const GIVEN_UP: u8 = 3;
-
-    const NONE: u8 = 4;
-
-    const OPEN: u8 = 5;
-
-    const END: u8 = 6;
-}
-
-fn tell(said: u8, a: u64, b: u64) -> Told {
-    Told { said, a, b }
-}
-
-// The text that a stretch begins with.
-fn first_piece(said: u8) -> Piece {
-    match said {
-        Told::BEGIN => reply::text(true, 2, 0x6B6F),
-        Told::LOST => reply::text(true, 5, 0x74736F6C20),
-        Told::REFUSED => reply::text(true, 8, 0x6465737566657220),
-        Told::GIVEN_UP => reply::text(true, 6, 0x6E6576696720),
-        Told::NONE => reply::text(true, 5, 0x656E6F6E20),
-        Told::OPEN => reply::text(true, 5, 0x6E65706F20),
-        _ => reply::text(true, 1, 10),
-    }
-}
-
-// Piece k of a stretch.
-fn told_piece(x: Told, k: u8) -> Piece {
-    let said = x.said;
-    match k {
-        0 => first_piece(said),
-        1 => reply::number(
-            (said == Told::LOST) | (said == Told::REFUSED) | (said == Told::OPEN),
-            x.a,
-        ),
-        2 => reply::text(
-            (said == Told::REFUSED) | (said == Told::GIVEN_UP),
-            3,
-            up_or_at(said),
-        ),
-        _ => reply::number((said == Told::REFUSED) | (said == Told::OPEN), x.b),
-    }
-}
-
-// " up", or " at".
-fn up_or_at(said: u8) -> u64 {
-    if said == Told::GIVEN_UP {
-        return 0x707520;
-    }
-    0x746120
-}
-
-fn put_told(out: &mut [u8], at: usize, x: Told) -> usize
-    requires { ⌜ at ≤ length (now out) ⌝ }
-    ensures { λ r. ⌜ r ≤ length (now (out .exit)) ⌝ }
-{
-    let mut end = at;
-    let mut k = 0;
-    while k < 4 {
-        end = reply::put(out, end, told_piece(x, k));
-        k += 1;
-    }
-    end
-}
-
-// A step's stretch, and the assembler behind it.
+// A step's stretch of the line, and the assembler behind it.
 struct Stepped {
-    told: Told,
-    next: Assembler,
+    told: Reply,
+    next: PlaneAssembler,
 }
 
-fn step_to(told: Told, next: Assembler) -> Stepped {
+fn given_up(a: PlaneAssembler) -> Stepped {
+    let told = reply::line(Reply::GIVEN, 0x6, [0; 6]);
+    let next = plane_give_up(a);
     Stepped { told, next }
 }
 
-fn taken(a: Assembler, frame: &[u8]) -> Stepped {
-    let answer = a.take(frame);
-    match answer {
-        Taken::Accepted { lost, next } => step_to(tell(Told::LOST, lost as u64, 0), next),
-        Taken::Refused(r) => step_to(tell(Told::REFUSED, r.number as u64, r.place as u64), a),
-    }
-}
-
 // One step: two bytes of length, and the frame.
-fn step_of(a: Assembler, step: &[u8]) -> Stepped {
+fn step_of(a: PlaneAssembler, step: &[u8]) -> Stepped {
     if step.len() < 2 {
-        return step_to(tell(Told::GIVEN_UP, 0, 0), a);
+        return given_up(a);
     }
     if book::words::word(step, 0) == GIVE_UP {
-        return step_to(tell(Told::GIVEN_UP, 0, 0), a.give_up());
+        return given_up(a);
     }
-    taken(a, &step[2..])
+    let x = plane_take(a, &step[2..]);
+    let lost = [x.lost as u64, 0, 0, 0, 0, 0];
+    let told = reply::answer(x.refused, x.place, Reply::LOST, Reply::ONE, lost);
+    let next = x.next;
+    Stepped { told, next }
 }
 
 // What is open at the end.
-fn open_at_end(a: Assembler) -> Told {
-    let event = a.event;
-    match event {
-        Current::Nothing => tell(Told::NONE, 0, 0),
-        Current::Open(o) => tell(Told::OPEN, o.number as u64, o.size as u64),
+fn at_end(a: PlaneAssembler) -> Reply {
+    if a.open == 0 {
+        return reply::line(Reply::NONE, 0, [0; 6]);
     }
+    reply::line(
+        Reply::OPEN,
+        Reply::TWO,
+        [a.number as u64, a.size as u64, 0, 0, 0, 0],
+    )
 }
 
 // Adds the line of the run: each step, and what is open at the end.
@@ -186,8 +110,8 @@ pub(crate) fn write(out: &mut [u8], at: usize, p: &[u8], card: u16) -> usize
     requires { ⌜ at ≤ length (now out) ⌝ }
     ensures { λ r. ⌜ r ≤ length (now (out .exit)) ⌝ }
 {
-    let mut a = Assembler::new(card);
-    let mut end = put_told(out, at, tell(Told::BEGIN, 0, 0));
+    let mut a = plane_new_assembler(card);
+    let mut end = reply::write(out, at, reply::opening());
     let mut i: usize = 0;
     while i < p.len() {
         let n = step_bytes(p, i);
@@ -197,60 +121,40 @@ pub(crate) fn write(out: &mut [u8], at: usize, p: &[u8], card: u16) -> usize
         let from = i;
         i += n;
         let x = step_of(a, &p[from..i]);
-        let said = x.told;
-        end = put_told(out, end, said);
+        let told = x.told;
+        end = reply::write(out, end, stretch(told));
         a = x.next;
     }
-    end = put_told(out, end, open_at_end(a));
-    put_told(out, end, tell(Told::END, 0, 0))
+    reply::write(out, end, reply::closing(at_end(a)))
 }
 
-// The event that is open in a case's state; its last header as 0, or 1 + 128 chip + channel.
-fn current_of(case: Case) -> Current {
-    if case.a2 == 0 {
-        return Current::Nothing;
-    }
+// The assembler of a case; its event's last header is coded as 0, or 1 + 128 chip + channel.
+fn assembler_of(case: Case) -> PlaneAssembler {
     let mut key = 0;
     if 0 < case.a5 {
-        key = cases::low32(case.a5 % 65536 + 2048 * (case.a0 % 32));
+        key = low32(case.a5 % 65536 + 2048 * (case.a0 % 32));
     }
-    Current::Open(OpenEvent {
-        number: cases::low32(case.a3),
-        size: cases::low32(case.a4),
+    PlaneAssembler {
+        card: low16(case.a0),
+        open: low8(case.a2),
+        follower: state_of(case.a1),
+        number: low32(case.a3),
+        size: low32(case.a4),
         key,
-    })
-}
-
-fn state_reply(lost: u8, next: Assembler) -> Reply {
-    let follower = next.follower;
-    let event = next.event;
-    let code = code_of(follower);
-    match event {
-        Current::Nothing => reply::values(6, lost as u64, code, 0, 0, 0, 0),
-        Current::Open(o) => reply::values(
-            6,
-            lost as u64,
-            code,
-            1,
-            o.number as u64,
-            o.size as u64,
-            (o.key % 2048) as u64,
-        ),
     }
 }
 
 // Op 21: one step, of an assembler in any state, with the frame p.
 pub(crate) fn step(case: Case, p: &[u8]) -> Reply {
-    let follower = state_of(case.a1);
-    let event = current_of(case);
-    let a = Assembler {
-        card: cases::low16(case.a0),
-        follower,
-        event,
-    };
-    let answer = a.take(p);
-    match answer {
-        Taken::Accepted { lost, next } => state_reply(lost, next),
-        Taken::Refused(r) => reply::refused(r),
-    }
+    let x = plane_take(assembler_of(case), p);
+    let next = x.next;
+    let values = [
+        x.lost as u64,
+        code_of(next.follower),
+        next.open as u64,
+        next.number as u64,
+        next.size as u64,
+        (next.key % 2048) as u64,
+    ];
+    reply::answer(x.refused, x.place, Reply::OK, Reply::SIX, values)
 }

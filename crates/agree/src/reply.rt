@@ -3,28 +3,17 @@
 ghost use Prim.Native.Nat.{_≤_};
 ghost use lib.ListN.{length};
 use crate::sums;
-use book::refusal::Refusal;
 
-// The answer of a call: a refusal, or its values; and the lent buffer as the call left it.
+// A line, or a stretch of one: a word, values, and the lent buffer as the call left it.
 pub(crate) struct Reply {
-    // The refusal's number and place; 0 where the call was accepted.
-    pub refused: u32,
-    pub place: usize,
-    // The letter that stands before the values, or 0.
-    pub letter: u8,
-    // How many of the values there are, or that this is no case.
-    pub many: u8,
-    pub a: u64,
-    pub b: u64,
-    pub c: u64,
-    pub d: u64,
-    pub e: u64,
-    pub f: u64,
-    // Values that stand in another frame and are missing: the first two, and the fourth.
-    pub unbegun: bool,
-    pub unended: bool,
-    // The word index of the next item, or 0.
-    pub next: usize,
+    // Whether the line begins here, and whether it ends here.
+    pub opens: bool,
+    pub ends: bool,
+    // At most 8 letters, the first one lowest.
+    pub word: u64,
+    // How each value is written: four bits for each, those of the first lowest.
+    pub styles: u32,
+    pub values: [u64; 6],
     // Whether a buffer was lent to be written, its length in elements and its check sum.
     pub lent: bool,
     pub elements: usize,
@@ -32,50 +21,112 @@ pub(crate) struct Reply {
 }
 
 impl Reply {
-    // In the place of how many values there are: this is no case.
-    pub const NO_CASE: u8 = 255;
-    // And: the line is a run's, which is written step by step.
-    pub const RUN: u8 = 254;
+    // Words that a line or a stretch begins with.
+    pub const OK: u64 = 0x6B6F; // "ok"
+
+    pub const REFUSED: u64 = 0x64657375666572; // "refused"
+
+    pub const BAD_CASE: u64 = 0x6573616320646162; // "bad case"
+
+    pub const LOST: u64 = 0x74736F6C; // "lost"
+
+    pub const GIVEN: u64 = 0x6E65766967; // "given"
+
+    pub const NONE: u64 = 0x656E6F6E; // "none"
+
+    pub const OPEN: u64 = 0x6E65706F; // "open"
+
+    // In the place of a word: the line is a run's, which is written stretch by stretch.
+    pub const RUN: u64 = 0;
+
+    // The styles of so many numbers.
+    pub const ONE: u32 = 0x1;
+
+    pub const TWO: u32 = 0x11;
+
+    pub const THREE: u32 = 0x111;
+
+    pub const SIX: u32 = 0x111111;
+
+    // And of a refusal: its number, then its place behind the word "at".
+    pub const AT_PLACE: u32 = 0x51;
 }
 
-// Accepted, with so many values.
-pub(crate) fn values(many: u8, a: u64, b: u64, c: u64, d: u64, e: u64, f: u64) -> Reply {
+// A style: nothing, a number, a letter, a dash for a value that is missing, a number behind the word "next" or "at", or the word "up" alone.
+const NUMBER: u32 = 1;
+
+const LETTER: u32 = 2;
+
+const MISSING: u32 = 3;
+
+const NEXT: u32 = 4;
+
+const AT: u32 = 5;
+
+const UP: u32 = 6;
+
+// A whole line that lends nothing.
+pub(crate) fn line(word: u64, styles: u32, values: [u64; 6]) -> Reply {
     Reply {
-        refused: 0,
-        place: 0,
-        letter: 0,
-        many,
-        a,
-        b,
-        c,
-        d,
-        e,
-        f,
-        unbegun: false,
-        unended: false,
-        next: 0,
+        opens: true,
+        ends: true,
+        word,
+        styles,
+        values,
         lent: false,
         elements: 0,
         sum: 0,
     }
 }
 
-// Accepted, with at most three values.
-pub(crate) fn few(many: u8, a: u64, b: u64, c: u64) -> Reply {
-    values(many, a, b, c, 0, 0, 0)
+// A stretch inside a line.
+pub(crate) fn stretch(x: Reply) -> Reply {
+    Reply {
+        opens: false,
+        ends: false,
+        ..x
+    }
 }
 
-pub(crate) fn refused(r: Refusal) -> Reply {
+// The stretch that a line begins with, and one that it ends with.
+pub(crate) fn opening() -> Reply {
     Reply {
-        refused: r.number,
-        place: r.place,
-        ..few(0, 0, 0, 0)
+        ends: false,
+        ..line(Reply::OK, 0, [0; 6])
     }
+}
+
+pub(crate) fn closing(x: Reply) -> Reply {
+    Reply { opens: false, ..x }
+}
+
+// What a call answered: the word and the values where it was accepted, else the refusal.
+pub(crate) fn answer(
+    refused: u32,
+    place: usize,
+    word: u64,
+    styles: u32,
+    values: [u64; 6],
+) -> Reply {
+    if refused == 0 {
+        return line(word, styles, values);
+    }
+    let number = refused as u64;
+    line(
+        Reply::REFUSED,
+        Reply::AT_PLACE,
+        [number, place as u64, 0, 0, 0, 0],
+    )
+}
+
+// The same, with "ok" and three numbers at most.
+pub(crate) fn few(refused: u32, place: usize, styles: u32, a: u64, b: u64, c: u64) -> Reply {
+    answer(refused, place, Reply::OK, styles, [a, b, c, 0, 0, 0])
 }
 
 // No listed op, or arguments that no case has.
 pub(crate) fn no_case() -> Reply {
-    few(Reply::NO_CASE, 0, 0, 0)
+    line(Reply::BAD_CASE, 0, [0; 6])
 }
 
 // With a lent buffer, by its length and check sum.
@@ -93,117 +144,116 @@ pub(crate) fn left(x: Reply, bytes: &[u8]) -> Reply {
     with(x, bytes.len(), sums::bytes(bytes))
 }
 
-// A piece of a line: a text of at most 8 bytes, the first one lowest, or where it has no bytes a number; or nothing.
-pub(crate) struct Piece {
+// A piece of a line: a word of at most 8 letters, the first one lowest, or where it has no letters a number; or nothing.
+struct Piece {
     there: bool,
-    bytes: u8,
+    // Whether a space stands before it.
+    spaced: bool,
+    letters: u8,
     value: u64,
 }
 
-pub(crate) fn text(there: bool, bytes: u8, value: u64) -> Piece {
+fn word(there: bool, letters: u8, value: u64) -> Piece {
     Piece {
         there,
-        bytes,
+        spaced: true,
+        letters,
         value,
     }
 }
 
-pub(crate) fn number(there: bool, value: u64) -> Piece {
+fn number(there: bool, value: u64) -> Piece {
+    word(there, 0, value)
+}
+
+// How many letters a word has: up to its highest byte that is not 0.
+fn letters_of(word: u64) -> u8 {
+    match word {
+        0..=255 => 1,
+        256..=65535 => 2,
+        65536..=16777215 => 3,
+        16777216..=4294967295 => 4,
+        4294967296..=1099511627775 => 5,
+        1099511627776..=281474976710655 => 6,
+        281474976710656..=72057594037927935 => 7,
+        _ => 8,
+    }
+}
+
+// The word that a line or a stretch begins with.
+fn first_piece(x: Reply) -> Piece {
     Piece {
-        there,
-        bytes: 0,
-        value,
+        there: true,
+        spaced: !x.opens,
+        letters: letters_of(x.word),
+        value: x.word,
     }
 }
 
-// A value, or a dash where it is missing.
-fn value(there: bool, missing: bool, value: u64) -> Piece {
-    if missing {
-        return text(there, 2, DASH);
-    }
-    number(there, value)
-}
-
-// How many pieces a line has at most.
-const PIECES: u8 = 14;
-
-const AT: u64 = 0x746120; // " at"
-
-const BAD_CASE: u64 = 0x6573616320646162; // "bad case"
-
-const BAR: u64 = 0x7C20; // " |"
-
-const DASH: u64 = 0x2D20; // " -"
-
-const NEXT: u64 = 0x7478656E20; // " next"
-
-const OK: u64 = 0x6B6F; // "ok"
-
-const REFUSED: u64 = 0x64657375666572; // "refused"
-
-// Piece k of what an accepted call answers.
-fn accepted_piece(x: Reply, k: u8) -> Piece {
-    let many = x.many;
-    match k {
-        0 => text(true, 2, OK),
-        1 => text(0 < x.letter, 2, 32 + 256 * (x.letter as u64)),
-        2 => value(1 <= many, x.unbegun, x.a),
-        3 => value(2 <= many, x.unbegun, x.b),
-        4 => number(3 <= many, x.c),
-        5 => value(4 <= many, x.unended, x.d),
-        6 => number(5 <= many, x.e),
-        7 => number(6 <= many, x.f),
-        8 => text(0 < x.next, 5, NEXT),
-        _ => number(0 < x.next, x.next as u64),
-    }
-}
-
-// Piece k of a refusal.
-fn refused_piece(x: Reply, k: u8) -> Piece {
-    match k {
-        0 => text(true, 7, REFUSED),
-        1 => number(true, x.refused as u64),
-        2 => text(true, 3, AT),
-        3 => number(true, x.place as u64),
+// The word before a value of the style, or in its place.
+fn word_piece(style: u32, value: u64) -> Piece {
+    match style {
+        LETTER => word(true, 1, value),
+        MISSING => word(true, 1, 0x2D),
+        NEXT => word(true, 4, 0x7478656E),
+        AT => word(true, 2, 0x7461),
+        UP => word(true, 2, 0x7075),
         _ => number(false, 0),
     }
+}
+
+// Piece k of the values: of each value its word and its number.
+fn value_piece(x: Reply, k: u8) -> Piece {
+    let i = k / 2;
+    if 6 <= i {
+        return number(false, 0);
+    }
+    let value = x.values[i as usize];
+    let style = (x.styles >> (4 * i as u32)) & 15;
+    if k % 2 == 0 {
+        return word_piece(style, value);
+    }
+    number((style == NUMBER) | (style == NEXT) | (style == AT), value)
 }
 
 // Piece k of the lent buffer and of the line's end.
 fn last_piece(x: Reply, k: u8) -> Piece {
     match k {
-        10 => text(x.lent, 2, BAR),
-        11 => number(x.lent, x.elements as u64),
-        12 => number(x.lent, x.sum),
-        _ => text(true, 1, 10),
+        0 => word(x.lent, 1, 0x7C),
+        1 => number(x.lent, x.elements as u64),
+        2 => number(x.lent, x.sum),
+        _ => Piece {
+            there: x.ends,
+            spaced: false,
+            letters: 1,
+            value: 10,
+        },
     }
 }
 
+// How many pieces a line has at most: its word, two for each value, four at its end.
+const PIECES: u8 = 17;
+
 // Piece k of a line.
 fn piece_at(x: Reply, k: u8) -> Piece {
-    if x.many == Reply::NO_CASE {
-        if k == 0 {
-            return text(true, 8, BAD_CASE);
-        }
-        return text(k == PIECES - 1, 1, 10);
+    if k == 0 {
+        return first_piece(x);
     }
-    if 10 <= k {
-        return last_piece(x, k);
+    if k < 13 {
+        return value_piece(x, k - 1);
     }
-    if x.refused == 0 {
-        return accepted_piece(x, k);
-    }
-    refused_piece(x, k)
+    last_piece(x, k - 13)
 }
 
 fn byte(n: u64) -> u8 {
     (n % 256) as u8
 }
 
-// The bytes of a number, the lowest first.
-fn unpacked(n: u64) -> [u8; 8] {
+// A space and the letters of a word.
+fn unpacked(n: u64) -> [u8; 9] {
     let high = n / 4294967296;
     [
+        32,
         byte(n),
         byte(n / 256),
         byte(n / 65536),
@@ -241,24 +291,27 @@ fn put_number(out: &mut [u8], at: usize, n: u64) -> usize
 }
 
 // Adds a piece.
-pub(crate) fn put(out: &mut [u8], at: usize, x: Piece) -> usize
+fn put(out: &mut [u8], at: usize, x: Piece) -> usize
     requires { ⌜ at ≤ length (now out) ⌝ }
     ensures { λ r. ⌜ r ≤ length (now (out .exit)) ⌝ }
 {
     if !x.there {
         return at;
     }
-    if x.bytes == 0 {
+    let n = x.letters as usize;
+    if n == 0 {
         return put_number(out, at, x.value);
     }
-    let n = x.bytes as usize;
     if 8 < n {
         return at;
     }
-    append(out, at, &unpacked(x.value)[0..n])
+    if x.spaced {
+        return append(out, at, &unpacked(x.value)[0..n + 1]);
+    }
+    append(out, at, &unpacked(x.value)[1..n + 1])
 }
 
-// Adds the line of an answer, with its line feed.
+// Adds a line, with its line feed, or a stretch of one.
 pub(crate) fn write(out: &mut [u8], at: usize, x: Reply) -> usize
     requires { ⌜ at ≤ length (now out) ⌝ }
     ensures { λ r. ⌜ r ≤ length (now (out .exit)) ⌝ }

@@ -14,14 +14,14 @@ Inv-loop out₀ at p card a₀ end₀ i₀ out a end i = (length out ≡ length 
 abbrev μ-loop : tie.MeasureT-loop
 μ-loop out₀ at p card a₀ end₀ i₀ out a end i = length p - i
 
-new-requires : tie.Need-new-requires Inv-loop μ-loop
-new-requires c κs = search needs
+plane-new-assembler-requires : tie.Need-plane-new-assembler-requires Inv-loop μ-loop
+plane-new-assembler-requires c κs = search needs
 
-tell-requires : tie.Need-tell-requires Inv-loop μ-loop
-tell-requires c κs = search needs
+opening-requires : tie.Need-opening-requires Inv-loop μ-loop
+opening-requires c κs = search needs
 
-put-told-requires : tie.Need-put-told-requires Inv-loop μ-loop
-put-told-requires c κs = search needs
+write-requires : tie.Need-write-requires Inv-loop μ-loop
+write-requires c κs = search needs
 
 loop-holds : tie.Need-loop-holds Inv-loop μ-loop
 loop-holds c = search needs
@@ -50,8 +50,11 @@ part-step-of-end c = search needs
 step-of-requires : tie.Need-step-of-requires Inv-loop μ-loop
 step-of-requires c κs = search needs
 
-put-told-requires-2 : tie.Need-put-told-requires-2 Inv-loop μ-loop
-put-told-requires-2 c κs = search needs
+stretch-requires : tie.Need-stretch-requires Inv-loop μ-loop
+stretch-requires c κs = search needs
+
+write-requires-2 : tie.Need-write-requires-2 Inv-loop μ-loop
+write-requires-2 c κs = search needs
 
 loop-less : tie.Need-loop-less Inv-loop μ-loop
 loop-less c = search needs
@@ -59,17 +62,14 @@ loop-less c = search needs
 loop-again : tie.Need-loop-again Inv-loop μ-loop
 loop-again c = search needs
 
-open-at-end-requires : tie.Need-open-at-end-requires Inv-loop μ-loop
-open-at-end-requires c κs = search needs
+at-end-requires : tie.Need-at-end-requires Inv-loop μ-loop
+at-end-requires c κs = search needs
 
-put-told-requires-3 : tie.Need-put-told-requires-3 Inv-loop μ-loop
-put-told-requires-3 c κs = search needs
+closing-requires : tie.Need-closing-requires Inv-loop μ-loop
+closing-requires c κs = search needs
 
-tell-requires-2 : tie.Need-tell-requires-2 Inv-loop μ-loop
-tell-requires-2 c κs = search needs
-
-put-told-requires-4 : tie.Need-put-told-requires-4 Inv-loop μ-loop
-put-told-requires-4 c κs = search needs
+write-requires-3 : tie.Need-write-requires-3 Inv-loop μ-loop
+write-requires-3 c κs = search needs
 
 same-length-2 : tie.Need-same-length-2 Inv-loop μ-loop
 same-length-2 c = search needs
@@ -83,9 +83,9 @@ write-spec =
     (tie.spec
     Inv-loop
     μ-loop
-    new-requires
-    tell-requires
-    put-told-requires
+    plane-new-assembler-requires
+    opening-requires
+    write-requires
     loop-holds
     step-bytes-requires
     same-length
@@ -95,12 +95,12 @@ write-spec =
     part-step-of-start
     part-step-of-end
     step-of-requires
-    put-told-requires-2
+    stretch-requires
+    write-requires-2
     loop-less
     loop-again
-    open-at-end-requires
-    put-told-requires-3
-    tell-requires-2
-    put-told-requires-4
+    at-end-requires
+    closing-requires
+    write-requires-3
     same-length-2
     returns-2)
