@@ -141,7 +141,7 @@ module _ (b : List ℕ) (S : Sequence b) where
 fits-inside : (b : List ℕ) → recordVerdict planeFrames versionOne b ≡ accepted tt → totalLength b ≤ length b
 fits-inside b v = by-cases (decLt (length b) (totalLength b)) (λ l. absurd (house3.accepted-record b .0 v .0 (cut l))) (λ h. let n : length b < totalLength b → ⊥ = h in omega arith)
 
-joined : {b m e : List ℕ} {cs ds : List Correction} {rs qs : List code.Done} → Calls b cs rs m → Calls m ds qs e → Calls b (cs ++ ds) (rs ++ qs) e
+pub joined : {b m e : List ℕ} {cs ds : List Correction} {rs qs : List code.Done} → Calls b cs rs m → Calls m ds qs e → Calls b (cs ++ ds) (rs ++ qs) e
 joined done k = k
 joined (then o j) k = then o (joined j k)
 

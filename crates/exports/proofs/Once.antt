@@ -28,9 +28,10 @@ use Rattle.exports.specs.declared.answers.PlaneTaken.{PlaneTaken}
 use Rattle.exports.specs.declared.answers.PlaneRecord.{PlaneRecord}
 use Rattle.exports.specs.declared.answers.PlaneEntry.{PlaneEntry}
 use Rattle.exports.specs.declared.answers.PlaneWritten.{PlaneWritten}
+use Rattle.exports.specs.declared.answers.PlaneStopped.{PlaneStopped}
 use Rattle.exports.specs.Flat.{flatFrame, flatFound, flatEvent, flatWord, flatFollowed, flatAssembler, flatTaken, flatRecord, flatEntry}
 use Rattle.exports.specs.Given.{followerOf, assemblerOf}
-use Rattle.exports.specs.Promises.{ClassNumbered, FrameTold, ItemTold, TextPart, EventTold, SampleWordTold, BinWordTold, FollowTold, AssemblerMade, TakeTold, GivenUpTold, RecordTold, EntryTold, Leaves, Sampled, Counted, Begun, Added, AddedText, Closed, Opened, Edited, Restored}
+use Rattle.exports.specs.Promises.{ClassNumbered, FrameTold, ItemTold, TextPart, EventTold, SampleWordTold, BinWordTold, FollowTold, AssemblerMade, TakeTold, GivenUpTold, RecordTold, EntryTold, Leaves, Sampled, Counted, Begun, Added, AddedText, Closed, Opened, Edited, EditedAll, Restored}
 
 -- ---- an answer alone
 
@@ -109,3 +110,6 @@ module _ (found : List ℕ) (r q : PlaneWritten) (l m : List ℕ) where
 
   pub close-once : (n : ℕ) → Closed found n r l → Closed found n q m → (r ≡ q) × (l ≡ m)
   close-once n = leaves-once _ _ r q l m
+
+pub edit-all-once : (found : List ℕ) (cs : List Correction) (r q : PlaneStopped) (l m : List ℕ) → EditedAll found cs r l → EditedAll found cs q m → (r ≡ q) × (l ≡ m)
+edit-all-once found cs r q l m = leaves-once _ _ r q l m

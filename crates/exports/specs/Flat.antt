@@ -15,6 +15,8 @@ use Rattle.follower.specs.Follow as follow
 use Rattle.runs.specs.Assembly.{Open, Assembler, Taken}
 use Rattle.ledger.specs.Formats as formats
 use Rattle.ledger.specs.Calls.{Summary}
+use Rattle.corrections.specs.Lists as lists
+use Rattle.corrections.specs.Lists.{ListAnswer}
 use Rattle.exports.specs.declared.answers.PlaneDone.{PlaneDone}
 use Rattle.exports.specs.declared.answers.PlaneFrame.{PlaneFrame}
 use Rattle.exports.specs.declared.answers.PlaneItem.{PlaneItem}
@@ -28,6 +30,7 @@ use Rattle.exports.specs.declared.answers.PlaneAssembler.{PlaneAssembler
 use Rattle.exports.specs.declared.answers.PlaneTaken.{PlaneTaken}
 use Rattle.exports.specs.declared.answers.PlaneRecord.{PlaneRecord}
 use Rattle.exports.specs.declared.answers.PlaneEntry.{PlaneEntry}
+use Rattle.exports.specs.declared.answers.PlaneStopped.{PlaneStopped}
 
 abbrev pub kindNumber : Kind → ℕ
 kindNumber dataKind = 1
@@ -150,3 +153,7 @@ flatRecord (answers.refused n p) = record { refused = n; place = p; length = 0; 
 unfoldable pub flatEntry : Outcome formats.Entry → PlaneEntry
 flatEntry (answers.accepted e) = record { refused = 0; place = 0; word = e .word; kind = e .kind; «old_value» = e .old; «new_value» = e .new; «operator_id» = e .operator; reason = e .reason }
 flatEntry (answers.refused n p) = record { refused = n; place = p; word = 0; kind = 0; «old_value» = 0; «new_value» = 0; «operator_id» = 0; reason = 0 }
+
+unfoldable pub flatStopped : ListAnswer → PlaneStopped
+flatStopped lists.done = record { refused = 0; place = 0; position = 0 }
+flatStopped (lists.stopped i n p) = record { refused = n; place = p; position = i }

@@ -1,7 +1,7 @@
--- What is handed to the exports flat: what an edit asks, a follower, an assembler, the kind of a frame, an item.
+-- What is handed to the exports flat: a follower, an assembler, the kind of a frame, an item.
 -- Assumes nothing.
 use Prim.Native.Nat.{ℕ}
-use mathlib.Core.List.{List, []}
+use mathlib.Core.List.{List}
 use mathlib.Core.Option.{Option, none, some}
 use lib.Dec.{eqb}
 use Rattle.format.specs.Words.{pick}
@@ -13,18 +13,12 @@ use Rattle.format.specs.Writing as writing
 use Rattle.format.specs.Writing.{beginAnswer, beginLeft}
 use Rattle.follower.specs.Follow.{State, idle, expecting}
 use Rattle.runs.specs.Assembly.{Open, Assembler}
-use Rattle.ledger.specs.Formats.{Correction}
 use Rattle.book.specs.Views.{viewItem}
 use Rattle.exports.specs.declared.answers.PlaneItem.{PlaneItem}
 use Rattle.exports.specs.declared.answers.PlaneFollower.{PlaneFollower}
 use Rattle.exports.specs.declared.answers.PlaneAssembler.{PlaneAssembler}
-use Rattle.exports.specs.declared.answers.PlaneCorrection.{PlaneCorrection}
 use Rattle.exports.specs.declared.writing.Given.{Given}
 use Rattle.exports.specs.declared.writing.Given.the-variants as given
-
--- document 01's entries hold nothing after the reason
-abbrev pub asked : PlaneCorrection → Correction
-asked c = record { word = c .word; value = c .value; operator = c .«operator_id»; reason = c .reason; extra = [] }
 
 abbrev pub followerOf : PlaneFollower → State
 followerOf x = pick (eqb (x .expecting) 0) idle (expecting (x .number))

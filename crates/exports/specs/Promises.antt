@@ -18,6 +18,7 @@ use Rattle.ledger.specs.Formats.{Correction}
 use Rattle.ledger.specs.Calls.{recordAnswer, entryAnswer, openAnswer, openExit, editAnswer, editExit, restoreAnswer, restoreExit}
 use Rattle.ledger.specs.VersionOne.{versionOne}
 use Rattle.ledger.specs.PlaneFrames.{planeFrames}
+use Rattle.corrections.specs.Lists.{listAnswer, listExit}
 use Rattle.exports.specs.declared.answers.PlaneDone.{PlaneDone}
 use Rattle.exports.specs.declared.answers.PlaneFrame.{PlaneFrame}
 use Rattle.exports.specs.declared.answers.PlaneFound.{PlaneFound}
@@ -32,7 +33,8 @@ use Rattle.exports.specs.declared.answers.PlaneTaken.{PlaneTaken}
 use Rattle.exports.specs.declared.answers.PlaneRecord.{PlaneRecord}
 use Rattle.exports.specs.declared.answers.PlaneEntry.{PlaneEntry}
 use Rattle.exports.specs.declared.answers.PlaneWritten.{PlaneWritten}
-use Rattle.exports.specs.Flat.{flatDone, flatFrame, flatFound, flatEvent, flatWord, flatFollowed, flatAssembler, flatTaken, flatRecord, flatEntry, flatWritten}
+use Rattle.exports.specs.declared.answers.PlaneStopped.{PlaneStopped}
+use Rattle.exports.specs.Flat.{flatDone, flatFrame, flatFound, flatEvent, flatWord, flatFollowed, flatAssembler, flatTaken, flatRecord, flatEntry, flatWritten, flatStopped}
 use Rattle.exports.specs.Given.{followerOf, assemblerOf, kindOf, begun, begunLeft, tokenOf}
 
 -- ---- an answer alone
@@ -108,6 +110,9 @@ Opened f found = Leaves (flatDone (openAnswer planeFrames versionOne f found)) (
 
 abbrev pub Edited : List ℕ → Correction → PlaneDone → List ℕ → Type 0
 Edited found c = Leaves (flatDone (editAnswer planeFrames versionOne found c)) (editExit planeFrames versionOne found c)
+
+abbrev pub EditedAll : List ℕ → List Correction → PlaneStopped → List ℕ → Type 0
+EditedAll found cs = Leaves (flatStopped (listAnswer planeFrames versionOne found cs)) (listExit planeFrames versionOne found cs)
 
 abbrev pub Restored : List ℕ → ℕ → List ℕ → PlaneDone → List ℕ → Type 0
 Restored b k found = Leaves (flatDone (restoreAnswer planeFrames versionOne b k found)) (restoreExit planeFrames versionOne b k found)

@@ -160,11 +160,10 @@ pub struct PlaneEntry {
     pub reason: u16,
 }
 
-// What an edit asks: the item by the index of its first word, its new value, and who corrects it for what reason.
+// Whether a list of corrections was made: where one was refused, its position in the list, from 0.
 #[repr(C)]
-pub struct PlaneCorrection {
-    pub word: usize,
-    pub value: u32,
-    pub operator_id: u32,
-    pub reason: u32,
+pub struct PlaneStopped {
+    pub refused: u32,
+    pub place: usize,
+    pub position: usize,
 }

@@ -1,14 +1,17 @@
 // The calls on a record.
 ghost use mathlib.Core.Path.{_≡_};
+ghost use mathlib.Core.List.{map};
 ghost use Rattle.records.specs.Views.{viewRecord, viewEntry};
-ghost use Rattle.editor.specs.Views.{viewDone};
-ghost use Rattle.exports.specs.Flat.{flatDone, flatRecord, flatEntry};
-ghost use Rattle.exports.specs.Given.{asked};
-ghost use Rattle.exports.specs.Promises.{RecordTold, EntryTold, Opened, Edited, Restored};
-use crate::answers::PlaneCorrection;
+ghost use Rattle.editor.specs.Views.{viewDone, asked};
+ghost use Rattle.corrections.specs.Views.{viewCorrected};
+ghost use Rattle.exports.specs.Flat.{flatDone, flatRecord, flatEntry, flatStopped};
+ghost use Rattle.exports.specs.Promises.{RecordTold, EntryTold, Opened, Edited, EditedAll, Restored};
 use crate::answers::PlaneDone;
 use crate::answers::PlaneEntry;
 use crate::answers::PlaneRecord;
+use crate::answers::PlaneStopped;
+use corrections::Corrected;
+use corrections::edit_all;
 use editor::answers::Done;
 use editor::editing::Correction;
 use editor::editing::edit;
@@ -108,16 +111,35 @@ pub extern "C" fn plane_open(buffer: &mut [u8], frame: &[u8]) -> PlaneDone
 
 // Edits the record in the buffer: `editor::edit`.
 #[no_mangle]
-pub extern "C" fn plane_edit(buffer: &mut [u8], correction: PlaneCorrection) -> PlaneDone
+pub extern "C" fn plane_edit(buffer: &mut [u8], correction: Correction) -> PlaneDone
     ensures { λ r. ⌜ Edited (now (buffer .entry)) (asked correction) r (now (buffer .exit)) ⌝ }
 {
-    let c = Correction {
-        word: correction.word,
-        value: correction.value,
-        operator: correction.operator_id,
-        reason: correction.reason,
-    };
-    flat_done(edit(buffer, c))
+    flat_done(edit(buffer, correction))
+}
+
+fn flat_stopped(answer: Corrected) -> PlaneStopped
+    ensures { λ r. ⌜ r ≡ flatStopped (viewCorrected answer) ⌝ }
+{
+    match answer {
+        Corrected::Done => PlaneStopped {
+            refused: 0,
+            place: 0,
+            position: 0,
+        },
+        Corrected::Stopped(i, r) => PlaneStopped {
+            refused: r.number,
+            place: r.place,
+            position: i,
+        },
+    }
+}
+
+// Makes a list of corrections in the record in the buffer, up to the first that is refused: `corrections::edit_all`.
+#[no_mangle]
+pub extern "C" fn plane_edit_all(buffer: &mut [u8], corrections: &[Correction]) -> PlaneStopped
+    ensures { λ r. ⌜ EditedAll (now (buffer .entry)) (map asked (now (corrections .entry))) r (now (buffer .exit)) ⌝ }
+{
+    flat_stopped(edit_all(buffer, corrections))
 }
 
 // Restores the frame of a record as it stood after its first k edits, to the start of `out`: `editor::restore`.

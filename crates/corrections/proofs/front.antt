@@ -1,0 +1,2 @@
+-- Front page: many corrections in one call.
+pub mod Corrections
