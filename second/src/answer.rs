@@ -2,16 +2,18 @@
 //! `refused NUMBER at PLACE`. Where a call was lent memory to write in, ` | `
 //! follows with the length of that memory and a check sum over it, as the call
 //! left it, refused or not. A value that stands in another frame is `-`. A run
-//! is always `ok`, with what each step came to and what is open at its end.
+//! is always `ok`, with what each step came to and what is open at its end. A
+//! list of corrections that stops is `refused NUMBER at PLACE position K`.
 
 use crate::assembler::{Assembler, Open};
 use crate::book::{classify, Class};
 use crate::cases::*;
+use crate::corrections;
 use crate::follower::{follow, Follower};
 use crate::frame;
 use crate::item::Item;
 use crate::listing::listing;
-use crate::record;
+use crate::record::{self, Stopped};
 use crate::rules::{refuse, Kind, Refusal, ROOM};
 use crate::run::{steps, Step};
 use crate::writer;
@@ -201,6 +203,11 @@ fn record_call(case: &mut Case) -> String {
             let done = record::edit(&mut case.p, a[0], a[1], a[2], a[3]);
             format!("{} | {}", verdict(done.map(|()| vec![])), sum(&case.p))
         }
+        EDIT_ALL => {
+            let list = corrections::read(&case.q).expect("a case that is allowed");
+            let done = record::edit_all(&mut case.p, &list);
+            format!("{} | {}", list_verdict(done), sum(&case.p))
+        }
         LIST => {
             let done = list(&case.p, &mut case.q);
             format!("{} | {}", verdict(done.map(|n| numbers(&[n as u64]))), sum(&case.q))
@@ -209,6 +216,14 @@ fn record_call(case: &mut Case) -> String {
             let done = record::restore(&case.p, a[0], &mut case.q);
             format!("{} | {}", verdict(done.map(|()| vec![])), sum(&case.q))
         }
+    }
+}
+
+/// The refusal of a list is that of one correction, whose position it has.
+fn list_verdict(done: Result<(), Stopped>) -> String {
+    match done {
+        Ok(()) => "ok".to_string(),
+        Err(Stopped { position, refusal }) => format!("{} position {position}", refused(refusal)),
     }
 }
 

@@ -7,9 +7,10 @@
 //! is zero or empty. Anything else is a bad case and ends the input.
 
 use crate::book::Class;
+use crate::corrections;
 use crate::run;
 
-pub const OPS: usize = 22;
+pub const OPS: usize = 23;
 pub const MAX_PAYLOAD: usize = 24_576;
 const FIXED_BYTES: usize = 72;
 
@@ -35,6 +36,7 @@ pub const SAMPLE_WORD: u8 = 18;
 pub const BIN_WORD: u8 = 19;
 pub const RUN: u8 = 20;
 pub const STEP: u8 = 21;
+pub const EDIT_ALL: u8 = 22;
 
 pub const NAMES: [&str; OPS] = [
     "classify",
@@ -59,6 +61,7 @@ pub const NAMES: [&str; OPS] = [
     "bin word",
     "run",
     "step",
+    "edit all",
 ];
 
 /// One call: the op, its arguments, and the payloads P and Q.
@@ -113,6 +116,7 @@ impl Case {
             RUN => run::steps(&self.p).is_some(),
             // With no event open there is nothing to say of it.
             STEP => self.a[2] == 1 || self.a[3..6] == [0, 0, 0],
+            EDIT_ALL => corrections::read(&self.q).is_some(),
             _ => true,
         }
     }
@@ -137,7 +141,7 @@ fn table(case: &Case) -> Option<(Vec<u64>, bool, bool)> {
         ADD => ([vec![ANY, 15], field_limits(case.a[1])?].concat(), true, false),
         ADD_TEXT | RESTORE => (vec![ANY], true, true),
         FOLLOW => (vec![256, U16], false, false),
-        OPEN | LIST => (vec![], true, true),
+        OPEN | LIST | EDIT_ALL => (vec![], true, true),
         EDIT => (vec![U32, U32, U32, U32], true, false),
         RUN => (vec![U16], true, false),
         STEP => (vec![31, 256, 1, U32, U32, 512], true, false),
@@ -233,7 +237,9 @@ mod tests {
         let good = bytes_of(&Case::new(FOLLOW, &[256, 0xFFFF]));
         assert!(!is_bad(&good));
         assert!(is_bad(&good[..71]));
-        for (at, value) in [(0, 17), (1, 1), (7, 1), (10, 1), (18, 1), (24, 1), (66, 1), (71, 1)] {
+        for (at, value) in
+            [(0, 17), (0, OPS as u8), (1, 1), (7, 1), (10, 1), (18, 1), (24, 1), (66, 1), (71, 1)]
+        {
             let mut bytes = good.clone();
             bytes[at] = value;
             assert!(is_bad(&bytes), "byte {at}");
@@ -293,5 +299,29 @@ mod tests {
             assert!(step(&a), "{a:?}");
         }
         assert!(is_bad(&bytes_of(&Case::new(STEP, &[]).q(&[0]))));
+    }
+
+    #[test]
+    fn bad_lists() {
+        let list = |payload: &[u8]| Case::new(EDIT_ALL, &[]).p(&[1, 2, 3]).q(payload);
+        let bad = |case: &Case| is_bad(&bytes_of(case));
+        [0, 24, 48, MAX_PAYLOAD].iter().for_each(|length| assert!(!bad(&list(&vec![0; *length]))));
+        for length in [1, 16, 23, 25, MAX_PAYLOAD - 1, MAX_PAYLOAD + 24] {
+            assert!(bad(&list(&vec![0; length])), "{length}");
+        }
+        // All of 16 bytes may stand, but no time, also behind a correction that
+        // is refused.
+        let full = [[0xFF; 16].as_slice(), &[0; 8]].concat();
+        assert!(!bad(&list(&[full.clone(), full.clone()].concat())));
+        for at in [16, 20, 23, 40, 47] {
+            let mut timed = [full.clone(), full.clone()].concat();
+            timed[at] = 1;
+            assert!(bad(&list(&timed)), "byte {at}");
+        }
+        for at in 0..7 {
+            let mut case = list(&full);
+            case.a[at] = 1;
+            assert!(bad(&case), "a{at}");
+        }
     }
 }

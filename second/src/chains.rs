@@ -1,17 +1,20 @@
 //! Chains of calls: a whole frame written by calls, a record edited by calls.
-//! Each case is given the buffer that the call before it left.
+//! Each case is given the buffer that the call before it left. Edits that were
+//! asked singly are in some chains asked again in lists.
 
 use crate::answer::state_code;
 use crate::assembler::Assembler;
 use crate::cases::*;
+use crate::corrections::payload;
 use crate::draft::{any_card, long, sound, Draft};
 use crate::draft_run::lay_out as lay_out_run;
 use crate::item::Item;
 use crate::make::Sink;
+use crate::make_corrections::correction;
 use crate::make_record::{edit_arguments, history, lay_out, recorded_draft};
 use crate::make_run::any_run;
 use crate::make_writer::{add, aimed_item, aimed_text, begin_case};
-use crate::record::{ENTRY_BYTES, HEADER_BYTES, MAX_ENTRIES};
+use crate::record::{Correction, ENTRY_BYTES, HEADER_BYTES, MAX_ENTRIES};
 use crate::rng::Rng;
 use crate::rules::Kind;
 use crate::run::{steps, Step};
@@ -153,14 +156,46 @@ pub fn recording(rng: &mut Rng, sink: &mut Sink) {
     let room = HEADER_BYTES + frame.len() + ENTRY_BYTES * edits + slack;
     let mut open = Case::new(OPEN, &[]).p(&rng.bytes(room)).q(&frame);
     sink.call(&mut open);
-    let mut record = open.p;
-    for _ in 0..edits + edits / 2 {
+    let (record, tried) = singly(rng, sink, &open.p, edits + edits / 2);
+    if rng.percent(30) {
+        in_lists(sink, &open.p, &tried);
+    }
+    look_back(rng, sink, &record, frame.len());
+}
+
+/// So many edits, one by one; answers what they leave and what they were, the
+/// refused ones too.
+fn singly(
+    rng: &mut Rng,
+    sink: &mut Sink,
+    record: &[u8],
+    edits: usize,
+) -> (Vec<u8>, Vec<Correction>) {
+    let mut record = record.to_vec();
+    let mut tried = Vec::new();
+    for _ in 0..edits {
         let arguments = edit_arguments(rng, &record);
         let mut edit = Case::new(EDIT, &arguments).p(&record);
         sink.call(&mut edit);
         record = edit.p;
+        tried.push(correction(arguments));
     }
-    look_back(rng, sink, &record, frame.len());
+    (record, tried)
+}
+
+/// Where a list stopped.
+fn position(line: &str) -> Option<usize> {
+    line.split(" position ").nth(1)?.split(' ').next()?.parse().ok()
+}
+
+/// The same edits by lists: each takes those behind the one at which the list
+/// before it stopped. Answers what they leave.
+fn in_lists(sink: &mut Sink, record: &[u8], edits: &[Correction]) -> Vec<u8> {
+    let mut list = Case::new(EDIT_ALL, &[]).p(record).q(&payload(edits));
+    match position(&sink.call(&mut list)) {
+        Some(at) => in_lists(sink, &list.p, &edits[at + 1..]),
+        None => list.p,
+    }
 }
 
 /// Judges the record, asks for every entry and restores to every k.
@@ -184,16 +219,36 @@ fn filling(rng: &mut Rng, sink: &mut Sink) {
     let mut record = lay_out(&frame, &entries);
     let more = rng.pick(&[0, 16, 16, 32]);
     record.extend(rng.bytes(more));
-    for _ in 0..3 {
-        let arguments = edit_arguments(rng, &record);
-        let mut edit = Case::new(EDIT, &arguments).p(&record);
-        sink.call(&mut edit);
-        record = edit.p;
-    }
+    let (after, tried) = singly(rng, sink, &record, 3);
+    in_lists(sink, &record, &tried);
     let count = entries.len() as u64;
     let any = rng.within(0, count);
     let k = rng.pick(&[0, 1, count, count + 1, any, any]);
     let q = rng.bytes(frame.len());
-    sink.emit(&Case::new(RESTORE, &[k]).p(&record).q(&q));
-    sink.emit(&Case::new(ENTRY, &[k]).p(&record));
+    sink.emit(&Case::new(RESTORE, &[k]).p(&after).q(&q));
+    sink.emit(&Case::new(ENTRY, &[k]).p(&after));
+}
+
+#[cfg(test)]
+mod tests {
+    use super::*;
+
+    /// What single calls leave, the lists of the same edits leave.
+    #[test]
+    fn lists_leave_what_single_calls_leave() {
+        let mut rng = Rng::new(9);
+        let (mut changed, mut stopped) = (0, 0);
+        for _ in 0..500 {
+            let frame = recorded_draft(&mut rng).frame();
+            let mut record = lay_out(&frame, &[]);
+            let more = rng.below(120);
+            record.extend(rng.bytes(more));
+            let mut sink = Sink::new(&[EDIT_ALL], usize::MAX);
+            let (after, tried) = singly(&mut rng, &mut sink, &record, 8);
+            assert_eq!(in_lists(&mut sink, &record, &tried), after);
+            changed += (after != record) as usize;
+            stopped += (Cases::of(&sink.bytes()).count() > 1) as usize;
+        }
+        assert!(changed > 200 && stopped > 200, "{changed} {stopped}");
+    }
 }

@@ -2,6 +2,7 @@
 
 use crate::book::BOOK;
 use crate::cases::*;
+use crate::corpus_corrections;
 use crate::corpus_list;
 use crate::corpus_record;
 use crate::corpus_run;
@@ -44,6 +45,7 @@ fn all() -> Vec<Case> {
         bin_word_cases(),
         corpus_run::run_cases(),
         corpus_run::step_cases(),
+        corpus_corrections::edit_all_cases(),
     ]
     .concat();
     cases.sort_by_key(|case| case.op);

@@ -17,7 +17,7 @@ fn bin_edit(index: u16, old: u32, new: u32) -> Entry {
 }
 
 /// Case 3 after three edits, two of them of one word.
-fn three_edits() -> (Vec<u8>, Vec<Entry>) {
+pub fn three_edits() -> (Vec<u8>, Vec<Entry>) {
     let mut frame = third();
     put_word(&mut frame, 11, 0x3104);
     put_word(&mut frame, 12, 0x3FFF);
@@ -43,7 +43,7 @@ fn part_edits() -> (Vec<u8>, Vec<Entry>) {
 }
 
 /// Case 3 after so many edits of word 11, to and fro.
-fn many_edits(count: u16) -> Vec<u8> {
+pub fn many_edits(count: u16) -> Vec<u8> {
     let value = |at: u16| if at % 2 == 0 { 250 } else { 1000 };
     let edits: Vec<Entry> =
         (0..count).map(|at| sample_edit(11, value(at), value(at + 1))).collect();
@@ -52,7 +52,7 @@ fn many_edits(count: u16) -> Vec<u8> {
     lay_out(&frame, &edits)
 }
 
-fn extended(record: &[u8], more: usize) -> Vec<u8> {
+pub fn extended(record: &[u8], more: usize) -> Vec<u8> {
     let mut longer = record.to_vec();
     longer.extend((0..more).map(|at| 0x5A ^ at as u8));
     longer
@@ -106,7 +106,7 @@ fn disordered_entries() -> Vec<Vec<u8>> {
 
 /// Headers with one word off, sums that agree on a wrong length, and buffers
 /// about the lengths that count.
-fn faulty_headers() -> Vec<Vec<u8>> {
+pub fn faulty_headers() -> Vec<Vec<u8>> {
     let mut records = Vec::new();
     let (frame, entries) = three_edits();
     let good = lay_out(&frame, &entries);
@@ -135,7 +135,7 @@ fn tried_records(of_each: usize) -> Vec<Vec<u8>> {
     tried_frames(of_each).iter().map(|frame| lay_out(frame, &[])).collect()
 }
 
-fn good_records() -> Vec<Vec<u8>> {
+pub fn good_records() -> Vec<Vec<u8>> {
     let (frame, entries) = three_edits();
     let (other, bins) = two_edits();
     let command = lay_out(&five_texts(), &[]);
@@ -145,7 +145,7 @@ fn good_records() -> Vec<Vec<u8>> {
 }
 
 /// Records with their faults, each kind at least once.
-fn some_faulty() -> Vec<Vec<u8>> {
+pub fn some_faulty() -> Vec<Vec<u8>> {
     let each_tenth = faulty_entries().into_iter().step_by(10);
     let each_fifth = faulty_headers().into_iter().step_by(5);
     let faulty = each_tenth.chain(each_fifth).chain(disordered_entries());

@@ -1,5 +1,5 @@
-//! The independent second program: answers cases by document 01 and request 1 of
-//! document 02, makes fresh ones, and compares another program's lines with its
+//! The independent second program: answers cases by document 01 and requests 1
+//! and 2 of document 02, makes fresh ones, and compares another program's lines with its
 //! own.
 
 mod answer;
@@ -8,10 +8,12 @@ mod book;
 mod cases;
 mod chains;
 mod corpus;
+mod corpus_corrections;
 mod corpus_list;
 mod corpus_record;
 mod corpus_run;
 mod corpus_writer;
+mod corrections;
 mod damage;
 mod damage_run;
 mod draft;
@@ -19,16 +21,20 @@ mod draft_run;
 #[cfg(test)]
 mod figures;
 #[cfg(test)]
+mod figures_corrections;
+#[cfg(test)]
 mod figures_parts;
 mod follower;
 mod frame;
 mod item;
 mod known;
+mod known_corrections;
 mod known_parts;
 mod known_runs;
 mod known_steps;
 mod listing;
 mod make;
+mod make_corrections;
 mod make_record;
 mod make_run;
 mod make_writer;

@@ -9,6 +9,7 @@ use crate::damage::{damaged_frame, edge_word};
 use crate::draft::{small_size, sound};
 use crate::frame::{self, Found};
 use crate::item::Item;
+use crate::make_corrections;
 use crate::make_record;
 use crate::make_run;
 use crate::make_writer;
@@ -75,6 +76,7 @@ fn draw(rng: &mut Rng, op: u8, sink: &mut Sink) {
         RUN => sink.emit(&make_run::run_case(rng)),
         STEP => sink.emit(&make_run::step_case(rng)),
         _ if chain => chains::recording(rng, sink),
+        EDIT_ALL => sink.emit(&make_corrections::edit_all_case(rng)),
         _ => sink.emit(&make_record::record_case(rng, op)),
     }
 }

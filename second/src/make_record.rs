@@ -88,7 +88,7 @@ fn entry_count(rng: &mut Rng) -> usize {
 }
 
 /// A record, sound or damaged.
-fn any_record(rng: &mut Rng) -> Vec<u8> {
+pub fn any_record(rng: &mut Rng) -> Vec<u8> {
     let draft = recorded_draft(rng);
     let mut frame = draft.frame();
     let count = if frame.len() > 1000 { rng.below(4) } else { entry_count(rng) };
@@ -194,7 +194,7 @@ pub fn record_case(rng: &mut Rng, op: u8) -> Case {
 }
 
 /// Buffer length for a record that may grow by `tail` bytes.
-fn record_room(rng: &mut Rng, total: usize, tail: usize) -> usize {
+pub fn record_room(rng: &mut Rng, total: usize, tail: usize) -> usize {
     match rng.below(24) {
         0..=9 => total + tail,
         10..=17 => total + tail + rng.below(40),

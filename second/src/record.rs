@@ -237,6 +237,41 @@ pub fn edit(
     Ok(())
 }
 
+/// One correction of a list.
+#[derive(Clone, Copy, PartialEq, Eq, Debug)]
+pub struct Correction {
+    pub index: u32,
+    pub value: u32,
+    pub operator: u32,
+    pub reason: u32,
+}
+
+impl Correction {
+    /// What the single edit is given for it.
+    pub fn arguments(&self) -> [u64; 4] {
+        [self.index, self.value, self.operator, self.reason].map(u64::from)
+    }
+}
+
+/// Where a list stopped, counted from 0, and why.
+#[derive(Clone, Copy, PartialEq, Eq, Debug)]
+pub struct Stopped {
+    pub position: usize,
+    pub refusal: Refusal,
+}
+
+/// Makes the corrections one after the other, each as a call of its own, up to
+/// the first that is refused. Those before it stand. The record is judged for a
+/// correction only, so an empty list is accepted whatever the buffer holds.
+pub fn edit_all(buffer: &mut [u8], corrections: &[Correction]) -> Result<(), Stopped> {
+    for (position, correction) in corrections.iter().enumerate() {
+        let [index, value, operator, reason] = correction.arguments();
+        edit(buffer, index, value, operator, reason)
+            .map_err(|refusal| Stopped { position, refusal })?;
+    }
+    Ok(())
+}
+
 /// Writes the frame that stood after the k-th edit to the start of `out`.
 pub fn restore(record: &[u8], k: u64, out: &mut [u8]) -> Result<(), Refusal> {
     let (judged, kept) = go_back(record, k)?;

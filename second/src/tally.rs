@@ -18,7 +18,7 @@ pub fn possible(op: u8) -> &'static [u8] {
         RECORD => &[1, 2, 3, 4, 5, 6, 7, 8, 9, 10, 11, 20, 21],
         ENTRY => &[1, 2, 3, 4, 5, 6, 7, 8, 9, 10, 11, 20, 21, 26],
         OPEN => &[1, 2, 3, 4, 5, 6, 7, 8, 9, 10, 11, 12],
-        EDIT => &[1, 2, 3, 4, 5, 6, 7, 8, 9, 10, 11, 12, 20, 21, 22, 23, 24, 25],
+        EDIT | EDIT_ALL => &[1, 2, 3, 4, 5, 6, 7, 8, 9, 10, 11, 12, 20, 21, 22, 23, 24, 25],
         LIST => &[12],
         RESTORE => &[1, 2, 3, 4, 5, 6, 7, 8, 9, 10, 11, 12, 20, 21, 26],
         RUN | STEP => &[1, 2, 3, 4, 5, 6, 7, 8, 9, 10, 11, 14, 15],
@@ -214,6 +214,16 @@ mod tests {
         assert_eq!(twice.get(FOLLOW, 14), 2);
         assert_eq!(twice.get(CLASSIFY, 0), 2);
         assert_eq!(twice.cases(), 4);
+    }
+
+    #[test]
+    fn a_list_counts_by_its_refusal() {
+        let mut tally = Tally::default();
+        tally.count(EDIT_ALL, "refused 23 at 0 position 12 | 82 7");
+        tally.count(EDIT_ALL, "refused 21 at 2 position 0 | 82 7");
+        tally.count(EDIT_ALL, "ok | 82 7");
+        let counts = [23, 21, 0, 12, 2, 7].map(|number| tally.get(EDIT_ALL, number));
+        assert_eq!((counts, tally.cases()), ([1, 1, 1, 0, 0, 0], 3));
     }
 
     #[test]
