@@ -31,6 +31,7 @@ use records::values::put_value;
 
 // What an edit asks: the item by the index of its first word, its new value, and who corrects it for what reason. The numbers are wide
 // enough that every one out of range can be given, and is refused.
+#[repr(C)]
 pub struct Correction {
     pub word: usize,
     pub value: u32,

@@ -160,11 +160,11 @@ pub struct PlaneEntry {
     pub reason: u16,
 }
 
-// What an edit asks: the item by the index of its first word, its new value, and who corrects it for what reason.
+// Where a list of corrections stopped: the refusal of the first that was refused, and its position in the list, from 0. Those before it stand. All
+// is 0 where every correction was made.
 #[repr(C)]
-pub struct PlaneCorrection {
-    pub word: usize,
-    pub value: u32,
-    pub operator_id: u32,
-    pub reason: u32,
+pub struct PlaneStopped {
+    pub refused: u32,
+    pub place: usize,
+    pub position: usize,
 }
