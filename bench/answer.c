@@ -1,5 +1,5 @@
 // answer: cases on standard input (crates/agree has their format), the baseline's lines on standard output, for `second compare`. The ops that
-// are there: 1, 2, 4 to 10, 12 to 16 and 18 to 21.
+// are there: 1, 2, 4 to 10, 12 to 16 and 18 to 22.
 #include "baseline.h"
 #include "cases.h"
 
@@ -154,6 +154,26 @@ static void edit(struct a_case *c) {
     bytes(c->p, c->n);
 }
 
+// A list has whole corrections, with no time yet, and no other argument.
+static int is_list(const struct a_case *c) {
+    u64 other = c->m % CORRECTION;
+    for (u32 i = 0; i < 7; i++) other |= c->a[i];
+    for (usize i = 0; i < c->m / CORRECTION; i++)
+        for (u32 k = 16; k < CORRECTION; k++) other |= c->q[CORRECTION * i + k];
+    return other == 0;
+}
+
+static void edit_all(struct a_case *c) {
+    static struct correction list[MOST_CORRECTIONS];
+    const usize count = c->m / CORRECTION;
+    usize position = 0;
+    for (usize i = 0; i < count; i++) list[i] = correction_at(c, i);
+    const struct refusal r = baseline_edit_all(c->p, c->n, list, count, &position);
+    done(r);
+    if (r.number) printf(" position %lu", position);
+    bytes(c->p, c->n);
+}
+
 static void restore(struct a_case *c) {
     done(baseline_restore(c->p, c->n, c->a[0], c->q, c->m));
     bytes(c->q, c->m);
@@ -209,6 +229,13 @@ int main(void) {
         case 19: bin_word(&c); break;
         case 20: run(&c); break;
         case 21: take(&c); break;
+        case 22:
+            if (!is_list(&c)) {
+                printf("bad case\n");
+                return 1;
+            }
+            edit_all(&c);
+            break;
         default: printf("bad case\n"); return 1;
         }
         printf("\n");

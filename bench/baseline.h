@@ -132,6 +132,8 @@ struct refusal baseline_record(const u8 *b, usize n, struct record *out);
 struct refusal baseline_entry(const u8 *b, usize n, u64 number, struct entry *out);
 struct refusal baseline_open(u8 *b, usize n, const u8 *frame, usize length);
 struct refusal baseline_edit(u8 *b, usize n, struct correction c);
+// Edits in the order of the list, and stops at the first that is refused: its position is told, and those before it stand. 0 where all were made.
+struct refusal baseline_edit_all(u8 *b, usize n, const struct correction *list, usize count, usize *position);
 struct refusal baseline_restore(const u8 *b, usize n, u64 k, u8 *out, usize room);
 
 #endif

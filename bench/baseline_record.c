@@ -122,6 +122,18 @@ struct refusal baseline_edit(u8 *b, usize n, struct correction c) {
     return accepted;
 }
 
+struct refusal baseline_edit_all(u8 *b, usize n, const struct correction *list, usize count, usize *position) {
+    *position = 0;
+    for (usize i = 0; i < count; i++) {
+        const struct refusal r = baseline_edit(b, n, list[i]);
+        if (r.number) {
+            *position = i;
+            return r;
+        }
+    }
+    return accepted;
+}
+
 // The frame after the k-th edit is set aside on the way back: the older entries are still to be tested before anything is written.
 struct refusal baseline_restore(const u8 *b, usize n, u64 k, u8 *out, usize room) {
     struct record x;

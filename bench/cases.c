@@ -36,3 +36,8 @@ int next_step(const struct a_case *c, struct step *s) {
     *s = gives_up ? (struct step){ at, 1, 0, 0 } : (struct step){ at + length, 0, c->p + at, length };
     return 1;
 }
+
+struct correction correction_at(const struct a_case *c, usize position) {
+    const u8 *const s = c->q + CORRECTION * position;
+    return (struct correction){ number(s, 4), (u32)number(s + 4, 4), (u32)number(s + 8, 4), (u32)number(s + 12, 4) };
+}

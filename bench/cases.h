@@ -29,4 +29,10 @@ struct step {
 // The step behind the one that is given, all zeros before the first; 0 at the end.
 int next_step(const struct a_case *c, struct step *s);
 
+// A list of corrections (op 22) stands in the second payload: word, value, operator and reason of 4 bytes each, and 8 bytes of zero.
+enum { CORRECTION = 24, MOST_CORRECTIONS = PAYLOAD / CORRECTION };
+
+// The correction at a position of the list.
+struct correction correction_at(const struct a_case *c, usize position);
+
 #endif

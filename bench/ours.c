@@ -76,6 +76,50 @@ static u64 edit(struct a_case *c, struct lent *out) {
     return told(plane_edit(c->p, c->n, (struct plane_correction){ c->a[0], (u32)c->a[1], (u32)c->a[2], (u32)c->a[3] }));
 }
 
+static struct plane_correction list[MOST_CORRECTIONS];
+static usize listed;
+
+void our_list(const struct a_case *c) {
+    listed = c->m / CORRECTION;
+    for (usize i = 0; i < listed; i++) {
+        const struct correction x = correction_at(c, i);
+        list[i] = (struct plane_correction){ x.word, x.value, x.operator, x.reason };
+    }
+}
+
+static u64 edit_all(struct a_case *c, struct lent *out) {
+    const struct plane_stopped s = plane_edit_all(c->p, c->n, list, listed);
+    out->told[0] = s.position;
+    return s.refused ? refusal_number(s.refused, s.place) : accepted_number(0, 0);
+}
+
+// The same by single edits.
+static u64 edit_singly(struct a_case *c, struct lent *out) {
+    out->told[0] = 0;
+    for (usize i = 0; i < listed; i++) {
+        const struct plane_done done = plane_edit(c->p, c->n, list[i]);
+        if (done.refused) {
+            out->told[0] = i;
+            return told(done);
+        }
+    }
+    return accepted_number(0, 0);
+}
+
+// The same, and the record asked for before each.
+static u64 edit_judged(struct a_case *c, struct lent *out) {
+    out->told[0] = 0;
+    for (usize i = 0; i < listed; i++) {
+        plane_record(c->p, c->n);
+        const struct plane_done done = plane_edit(c->p, c->n, list[i]);
+        if (done.refused) {
+            out->told[0] = i;
+            return told(done);
+        }
+    }
+    return accepted_number(0, 0);
+}
+
 static u64 restore(struct a_case *c, struct lent *out) {
     (void)out;
     return told(plane_restore(c->p, c->n, c->a[0], c->q, c->m));
@@ -133,5 +177,7 @@ static u64 run(struct a_case *c, struct lent *out) {
 
 const side ours[32] = {
     [1] = read_frame, [2] = item, [4] = event, [5] = samples, [6] = counts, [12] = record, [15] = edit, [16] = restore, [18] = sample_word,
-    [19] = bin_word, [20] = run, [21] = take,
+    [19] = bin_word, [20] = run, [21] = take, [22] = edit_all,
 };
+const side singly[32] = { [22] = edit_singly };
+const side judged[32] = { [22] = edit_judged };

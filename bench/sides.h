@@ -20,6 +20,12 @@ static inline u64 refusal_number(u32 number, u64 place) { return (u64)number << 
 
 static inline u64 accepted_number(u64 high, u64 low) { return (u64)1 << 48 | high << 16 | low; }
 
-extern const side ours[32], theirs[32]; // by op; 0 where the call is not measured
+// By op; 0 where the call is not measured. `singly` makes a list of corrections (op 22) by single edits of our own; `judged` does the same, and asks
+// for the record once more before each, so that what is more of it is the cost of judging.
+extern const side ours[32], theirs[32], singly[32], judged[32];
+
+// Lay out the list of a case as the calls take it, before they are made: this is no part of what is counted.
+void our_list(const struct a_case *c);
+void their_list(const struct a_case *c);
 
 #endif

@@ -63,6 +63,21 @@ static u64 edit(struct a_case *c, struct lent *out) {
     return told(baseline_edit(c->p, c->n, (struct correction){ c->a[0], (u32)c->a[1], (u32)c->a[2], (u32)c->a[3] }), 0, 0);
 }
 
+static struct correction list[MOST_CORRECTIONS];
+static usize listed;
+
+void their_list(const struct a_case *c) {
+    listed = c->m / CORRECTION;
+    for (usize i = 0; i < listed; i++) list[i] = correction_at(c, i);
+}
+
+static u64 edit_all(struct a_case *c, struct lent *out) {
+    usize position = 0;
+    const struct refusal r = baseline_edit_all(c->p, c->n, list, listed, &position);
+    out->told[0] = position;
+    return told(r, 0, 0);
+}
+
 static u64 restore(struct a_case *c, struct lent *out) {
     (void)out;
     return told(baseline_restore(c->p, c->n, c->a[0], c->q, c->m), 0, 0);
@@ -118,5 +133,5 @@ static u64 run(struct a_case *c, struct lent *out) {
 
 const side theirs[32] = {
     [1] = read_frame, [2] = item, [4] = event, [5] = samples, [6] = counts, [12] = record, [15] = edit, [16] = restore, [18] = sample_word,
-    [19] = bin_word, [20] = run, [21] = take,
+    [19] = bin_word, [20] = run, [21] = take, [22] = edit_all,
 };

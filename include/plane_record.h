@@ -2,13 +2,15 @@
  * Link libexports.a. docs/FORMAT.md has frames and records byte by byte, and an example of each refusal; documents 01 (the rules) and 02 are the
  * client's papers.
  *
- * Every call is proved to answer, and to leave in the memory lent to it, exactly what document 01 and the first request of document 02 (events over
- * several frames) say, for all bytes and all arguments. It ends, reads and writes nothing but what it is lent, and keeps nothing: no heap, no
- * globals, so threads may call it at once, each on memory of its own. Judging a record takes two arrays of 12 KByte together on the stack.
+ * Every call is proved to answer, and to leave in the memory lent to it, exactly what document 01 and the first two requests of document 02 (events
+ * over several frames, many corrections in one call) say, for all bytes and all arguments. It ends, reads and writes nothing but what it is lent, and
+ * keeps nothing: no heap, no globals, so threads may call it at once, each on memory of its own. Judging a record takes two arrays of 12 KByte
+ * together on the stack.
  *
  * Answers. `refused` is PLANE_ACCEPTED, 0, or the number of a refusal, with its `place`; any field that an answer does not use is 0, on a refusal all
- * but these two (a follower or an assembler alone is given back). A refused call has left all lent memory as it was. A place is a word index (from 0)
- * for 6 to 11, an entry's number (from 1) for 21, else 0; the 9 of plane_begin, which has no item yet, is at 0 too.
+ * but these two (a follower or an assembler is given back, and plane_edit_all tells a position). A refused call has left all lent memory as it was,
+ * but for plane_edit_all, the one exception: the corrections before the one that was refused have been made and stand. A place is a word index (from
+ * 0) for 6 to 11, an entry's number (from 1) for 21, else 0; the 9 of plane_begin, which has no item yet, is at 0 too.
  *
  * What the caller owes. Memory is lent by a pointer and a length, in elements. Where the length is 0 the pointer may be null. Else it is
  * aligned for its elements, and all of them can be read, and written where it is not const; they take at most PTRDIFF_MAX bytes. Until the call
@@ -20,8 +22,9 @@
 #include <stddef.h>
 #include <stdint.h>
 
-/* Raised by one where a program written for the version before has to be changed or compiled again. Header and archive are of one version. */
-#define PLANE_RECORD_VERSION 3
+/* Raised by one where a call is added, and where a program written for the version before has to be changed or compiled again; version 4 adds
+ * plane_edit_all and changes nothing else. Header and archive are of one version. */
+#define PLANE_RECORD_VERSION 4
 
 #ifdef __cplusplus
 extern "C" {
@@ -325,6 +328,19 @@ struct plane_correction {
 
 /* Edits the record: writes the value, the two header words that change and one entry. Refused as plane_record refuses, then by 22, 23, 24, 25, 12. */
 struct plane_done plane_edit(uint8_t *buffer, size_t room, struct plane_correction correction);
+
+struct plane_stopped {
+    uint32_t refused;
+    size_t place;
+    size_t position; /* in the list, from 0, of the correction that was refused */
+};
+
+/* Makes a list of corrections in their order, each as plane_edit makes it, on the record that those before it have left. Stops at the first that is
+ * refused: `refused` and `place` are plane_edit's for that one (as plane_record refuses, then 22, 23, 24, 25, 12), `position` is where it stands in
+ * the list. The corrections before it have been made and stand, the one exception to what is said of refused calls above; it and those behind it have
+ * changed nothing. Where all were made the three fields are 0. An empty list is accepted and changes nothing, whatever the buffer holds: no record
+ * need be there. `corrections` points to `count` structs, which are only read and do not overlap the buffer; it may be null where `count` is 0. */
+struct plane_stopped plane_edit_all(uint8_t *buffer, size_t room, const struct plane_correction *corrections, size_t count);
 
 /* Restores the frame as it stood after its first `k` edits, to the start of `out`; the record is only read. Refused as plane_record refuses, then
  * by 26, then by 12 where `out` is under the frame's length. */

@@ -2,15 +2,16 @@
 //! call. Copy this file into a program of your own; it fits the editions 2021 and 2024 (tried with Rust 1.95). Link libexports.a: build.rs beside this
 //! file has the two lines for cargo, examples/README.md the line for rustc.
 //!
-//! A call that can be refused answers a `Result`, whose `Err` has the refusal and its place; a refused call has left all lent memory as it was.
-//! No call panics, whatever bytes and numbers it is given, and none gives a refusal that is not named at the call. Rust's own rules for `&` and
-//! `&mut` are all that the library asks of lent memory. docs/FORMAT.md has frames and records byte by byte, and an example of each refusal.
+//! A call that can be refused answers a `Result`, whose `Err` has the refusal and its place; a refused call has left all lent memory as it was, but
+//! for `edit_all`, the one exception: the corrections before the one that was refused have been made and stand. No call panics, whatever bytes and
+//! numbers it is given, and none gives a refusal that is not named at the call. Rust's own rules for `&` and `&mut` are all that the library asks of
+//! lent memory. docs/FORMAT.md has frames and records byte by byte, and an example of each refusal.
 #![allow(dead_code)] // a program uses some of it
 
 use std::fmt;
 
 /// That of the header whose layouts these are.
-pub const VERSION: u32 = 3;
+pub const VERSION: u32 = 4;
 
 /// No frame has more bytes.
 pub const MOST_FRAME: usize = 8192;
@@ -331,6 +332,24 @@ pub struct Correction {
     pub reason: u32,
 }
 
+/// Where a list of corrections stopped: the first that was refused. Those before it have been made and stand; it and those behind it have changed
+/// nothing.
+#[derive(Clone, Copy, Debug, PartialEq, Eq, Hash)]
+pub struct Stopped {
+    /// Its position in the list, from 0.
+    pub position: usize,
+    /// What `edit` answers for it.
+    pub refused: Refused,
+}
+
+impl fmt::Display for Stopped {
+    fn fmt(&self, f: &mut fmt::Formatter<'_>) -> fmt::Result {
+        write!(f, "{}, position {}", self.refused, self.position)
+    }
+}
+
+impl std::error::Error for Stopped {}
+
 /// The calls and answers as C has them: include/plane_record.h, field by field in the same order (tests/header/run holds them to it).
 pub mod ffi {
     pub use super::{Assembler, Correction, Follower, Item as ItemFields};
@@ -430,6 +449,13 @@ pub mod ffi {
         pub reason: u16,
     }
 
+    #[repr(C)]
+    pub struct Stopped {
+        pub refused: u32,
+        pub place: usize,
+        pub position: usize,
+    }
+
     unsafe extern "C" {
         pub fn plane_classify(word: u16) -> u32;
         pub fn plane_read(frame: *const u8, length: usize) -> Frame;
@@ -492,6 +518,12 @@ pub mod ffi {
         pub fn plane_entry(buffer: *const u8, room: usize, number: usize) -> EntryFound;
         pub fn plane_open(buffer: *mut u8, room: usize, frame: *const u8, length: usize) -> Done;
         pub fn plane_edit(buffer: *mut u8, room: usize, correction: Correction) -> Done;
+        pub fn plane_edit_all(
+            buffer: *mut u8,
+            room: usize,
+            corrections: *const Correction,
+            count: usize,
+        ) -> Stopped;
         pub fn plane_restore(
             buffer: *const u8,
             room: usize,
@@ -693,6 +725,16 @@ pub fn open(buffer: &mut [u8], frame: &[u8]) -> Answer<()> {
 pub fn edit(buffer: &mut [u8], correction: Correction) -> Answer<()> {
     let r = unsafe { ffi::plane_edit(buffer.as_mut_ptr(), buffer.len(), correction) };
     answer(r.refused, r.place, ())
+}
+
+/// Makes a list of corrections in their order, each as `edit` makes it, on the record that those before it have left. Stops at the first that is
+/// refused: as `record` refuses, then by 22, 23, 24, 25, 12. Those before it then stand; every other call that is refused has changed nothing. An
+/// empty list is accepted and changes nothing, whatever the buffer holds. The list is lent as it is, not copied.
+pub fn edit_all(buffer: &mut [u8], corrections: &[Correction]) -> Result<(), Stopped> {
+    let (room, count) = (buffer.len(), corrections.len());
+    let r = unsafe { ffi::plane_edit_all(buffer.as_mut_ptr(), room, corrections.as_ptr(), count) };
+    let position = r.position;
+    answer(r.refused, r.place, ()).map_err(|refused| Stopped { position, refused })
 }
 
 /// Restores the frame as it stood after its first `k` edits, to the start of `out`; the record is only read. Refused as `record` refuses, then by 26

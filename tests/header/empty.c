@@ -1,4 +1,4 @@
-/* Every call with a null pointer where the length is 0: refused as any empty memory is, or accepted where nothing has to be read. */
+/* Every call with a null pointer where the length is 0: refused as any empty memory is, or accepted where nothing has to be read or made. */
 #include "plane_record.h"
 #include <stdio.h>
 #include <string.h>
@@ -15,7 +15,7 @@ static void wants(const char *call, uint32_t refused, uint32_t wanted) {
 int main(void) {
     const struct plane_item_fields sample = { .item_class = PLANE_SAMPLE };
     const struct plane_correction correction = { 11, 1, 1, 1 };
-    uint8_t buffer[64];
+    uint8_t buffer[64], before[64];
 
     wants("read", plane_read(NULL, 0).refused, PLANE_REFUSED_LENGTH);
     wants("item", plane_item(NULL, 0, 0).refused, PLANE_REFUSED_LENGTH);
@@ -38,9 +38,11 @@ int main(void) {
     wants("open", plane_open(NULL, 0, NULL, 0).refused, PLANE_REFUSED_LENGTH);
     wants("open, no room", plane_open(NULL, 0, command, sizeof command).refused, PLANE_REFUSED_ROOM);
     wants("edit", plane_edit(NULL, 0, correction).refused, PLANE_REFUSED_HEADER);
+    wants("edit all", plane_edit_all(NULL, 0, &correction, 1).refused, PLANE_REFUSED_HEADER);
+    wants("edit all, nothing in nothing", plane_edit_all(NULL, 0, NULL, 0).refused, PLANE_ACCEPTED);
     wants("restore", plane_restore(NULL, 0, 0, NULL, 0).refused, PLANE_REFUSED_HEADER);
 
-    /* An empty text is accepted, and a record is restored to no room. */
+    /* An empty text is accepted, a record is restored to no room, and an empty list changes nothing, of a record or of junk. */
     struct plane_written w = plane_begin(buffer, sizeof buffer, PLANE_COMMAND, 5, 0);
     w = plane_add_text(buffer, sizeof buffer, w.length, NULL, 0);
     wants("an empty text", w.refused, PLANE_ACCEPTED);
@@ -49,6 +51,13 @@ int main(void) {
     memset(buffer, 0, sizeof buffer);
     wants("a record", plane_open(buffer, sizeof buffer, command, sizeof command).refused, PLANE_ACCEPTED);
     wants("restore, no room", plane_restore(buffer, sizeof buffer, 0, NULL, 0).refused, PLANE_REFUSED_ROOM);
+    memcpy(before, buffer, sizeof buffer);
+    wants("an empty list", plane_edit_all(buffer, sizeof buffer, NULL, 0).refused, PLANE_ACCEPTED);
+    if (memcmp(buffer, before, sizeof buffer)) wants("an empty list, the record after it", 1, 0);
+    memset(buffer, 0xA5, sizeof buffer);
+    memset(before, 0xA5, sizeof before);
+    wants("an empty list on junk", plane_edit_all(buffer, sizeof buffer, NULL, 0).refused, PLANE_ACCEPTED);
+    if (memcmp(buffer, before, sizeof buffer)) wants("an empty list, the junk after it", 1, 0);
     if (!faults) printf("a null pointer with length 0: taken by every call\n");
     return faults != 0;
 }

@@ -1,5 +1,6 @@
 #!/usr/bin/env python3
-"""layout.py WHAT: the structs of crates/exports/src/answers.rt, which the archive has, as the header and the binding for Rust have to have them.
+"""layout.py WHAT: the structs of crates/exports/src/answers.rt and the correction of crates/editor/src/editing.rt, which the archive has, as the header
+and the binding for Rust have to have them.
 
 lines    a line `tag field offset size` for each field and `tag size` for each struct, as C lays them out; then the header's numbers, a line
          `NAME number` for each name of an enum, and the refusals by the names of docs/FORMAT.md, a line `number NAME` each
@@ -13,8 +14,13 @@ import re
 import sys
 
 ROOT = os.path.dirname(os.path.dirname(os.path.dirname(os.path.abspath(__file__))))
+# The files that have them. What is laid out as C does it says so by #[repr(C)], and nothing else there is looked at.
+FILES = [("crates", "exports", "src", "answers.rt"), ("crates", "editor", "src", "editing.rt")]
 # A struct's tag is another word than the function of that name, which C++ would hide it behind.
-TAGS = {"PlaneItem": "item_fields", "PlaneText": "text_part", "PlaneEvent": "event_found", "PlaneWord": "word_found", "PlaneRecord": "record_found", "PlaneEntry": "entry_found"}
+TAGS = {"PlaneItem": "item_fields", "PlaneText": "text_part", "PlaneEvent": "event_found", "PlaneWord": "word_found", "PlaneRecord": "record_found",
+        "PlaneEntry": "entry_found", "Correction": "correction"}
+# A field that has another name in C and Rust, since this one is a word of C++.
+FIELDS = {"operator": "operator_id"}
 NUMBERS = {"u8": ctypes.c_uint8, "u16": ctypes.c_uint16, "u32": ctypes.c_uint32, "u64": ctypes.c_uint64, "usize": ctypes.c_size_t}
 
 
@@ -29,8 +35,8 @@ def source(*path):
 def structs():
     """The structs, by their tag without `plane_`: the ctypes of each."""
     types, found = dict(NUMBERS), {}
-    for name, body in re.findall(r"#\[repr\(C\)\]\npub struct (\w+) \{\n(.*?)\n\}", source("crates", "exports", "src", "answers.rt"), re.S):
-        fields = [(field, types[kind]) for field, kind in re.findall(r"^ +pub (\w+): (\w+),$", body, re.M)]
+    for name, body in re.findall(r"#\[repr\(C\)\]\npub struct (\w+) \{\n(.*?)\n\}", "".join(source(*path) for path in FILES), re.S):
+        fields = [(FIELDS.get(field, field), types[kind]) for field, kind in re.findall(r"^ +pub (\w+): (\w+),$", body, re.M)]
         types[name] = type(name, (ctypes.Structure,), {"_fields_": fields})
         found[TAGS.get(name, name[len("Plane"):].lower())] = types[name]
     return found

@@ -2,7 +2,7 @@
 #include "plane_record.h"
 #include "plane_record.h"
 
-#if PLANE_RECORD_VERSION != 3
+#if PLANE_RECORD_VERSION != 4
 #error "the version is not the one that this test was written for"
 #endif
 
@@ -70,13 +70,16 @@ int use_records(uint8_t *buffer, const uint8_t *frame, size_t length, uint8_t *o
 int use_records(uint8_t *buffer, const uint8_t *frame, size_t length, uint8_t *out) {
     const size_t room = PLANE_MOST_RECORD;
     const STRUCT plane_correction correction = { 11, 260, 9, 2 };
+    const STRUCT plane_correction corrections[2] = { { 11, 261, 9, 2 }, { 12, 252, 9, 2 } };
     const STRUCT plane_done opened = plane_open(buffer, room, frame, length);
     const STRUCT plane_done edited = plane_edit(buffer, room, correction);
+    const STRUCT plane_stopped stopped = plane_edit_all(buffer, room, corrections, sizeof corrections / sizeof corrections[0]);
     const STRUCT plane_record_found record = plane_record(buffer, room);
     const STRUCT plane_entry_found entry = plane_entry(buffer, room, record.count);
     const STRUCT plane_done restored = plane_restore(buffer, room, 0, out, PLANE_MOST_FRAME);
     const ENUM plane_corrected kind = PLANE_CORRECTED_SAMPLE;
     const ENUM plane_refusal refusal = PLANE_REFUSED_ROOM;
-    return opened.refused != (uint32_t)refusal && accepted(edited.refused, edited.place) && record.total == PLANE_HEADER_BYTES + length + PLANE_ENTRY_BYTES &&
-           record.count < PLANE_MOST_ENTRIES && entry.kind == kind && accepted(restored.refused, restored.place) && plane_refusal_name(restored.refused) != 0;
+    return opened.refused != (uint32_t)refusal && accepted(edited.refused, edited.place) && accepted(stopped.refused, stopped.place) &&
+           stopped.position == 0 && record.total == PLANE_HEADER_BYTES + length + 3 * PLANE_ENTRY_BYTES && record.count < PLANE_MOST_ENTRIES &&
+           entry.kind == kind && accepted(restored.refused, restored.place) && plane_refusal_name(restored.refused) != 0;
 }

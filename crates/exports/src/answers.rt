@@ -160,7 +160,8 @@ pub struct PlaneEntry {
     pub reason: u16,
 }
 
-// Whether a list of corrections was made: where one was refused, its position in the list, from 0.
+// Where a list of corrections stopped: the refusal of the first that was refused, and its position in the list, from 0. Those before it stand. All
+// is 0 where every correction was made.
 #[repr(C)]
 pub struct PlaneStopped {
     pub refused: u32,
