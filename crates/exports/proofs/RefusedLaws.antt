@@ -1,12 +1,13 @@
--- What an export's `refused` says: where it is not 0, lent memory is as found, since document 01's call leaves it so; and of the follower, where it
--- is 0.
+-- What an export's `refused` says: where it is not 0, lent memory is as found, since document 01's call leaves it so, but for a list of corrections,
+-- whose earlier ones stand; and of the follower, where it is 0.
 -- Assumes nothing.
 use Prim.Native.Nat.{ℕ, _≤_}
-use mathlib.Core.Path.{_≡_, refl, sym, ap, _∙_}
+use mathlib.Core.Path.{_≡_, refl, sym, ap, subst, _∙_}
 use mathlib.Core.Logic.{_↔_}
-use mathlib.Core.List.{List}
+use mathlib.Core.List.{List, map}
 use mathlib.Core.Option.{Option, none, some}
 use native.Mathlib.Omega.{arith}
+use Rattle.format.specs.Words.{Bytes}
 use Rattle.format.specs.Answers.{Outcome, accepted, refused}
 use Rattle.format.specs.Items.{Item}
 use Rattle.format.specs.Rules.{Kind}
@@ -14,13 +15,23 @@ use Rattle.format.specs.Questions.{samplesLeft, countsLeft, done}
 use Rattle.format.proofs.front.Writing.{begin-refused-leaves}
 use Rattle.follower.specs.Follow as follow
 use Rattle.follower.proofs.front.Sequence.{refusals}
+use Rattle.ledger.specs.VersionOne.{versionOne}
+use Rattle.ledger.specs.PlaneFrames.{planeFrames}
+use Rattle.editor.specs.declared.editing.Correction.{Correction}
+use Rattle.editor.specs.Views.{asked}
+use Rattle.corrections.specs.Lists as lists
+use Rattle.corrections.specs.Lists.{ListAnswer, listAnswer}
+use Rattle.corrections.specs.Singly.{StoppedAt}
+use Rattle.corrections.proofs.front.Corrections.{stopped-exactly}
 use Rattle.exports.specs.declared.answers.PlaneFollower.{PlaneFollower}
 use Rattle.exports.specs.declared.answers.PlaneFollowed.{PlaneFollowed}
+use Rattle.exports.specs.declared.answers.PlaneStopped.{PlaneStopped}
 use Rattle.exports.specs.Flat.{flatFollowed}
 use Rattle.exports.specs.Given.{followerOf, begun, begunLeft}
-use Rattle.exports.specs.Promises.{Leaves}
+use Rattle.exports.specs.Promises.{Leaves, EditedAll}
 use Rattle.exports.specs.FlatTells.{Tells}
-use Rattle.exports.proofs.Unique.{refuses}
+use Rattle.exports.proofs.NumberLaws.{edit-all-numbered}
+use Rattle.exports.proofs.Unique.{refuses, stopped-told, all-told}
 
 -- of any call: what document 01's call leaves where it is refused, the export leaves
 pub kept : {A B R : Type 0} (seen : A → B) (flat : Outcome A → R) (number place : R → ℕ) (content : R → B) → Tells seen flat number place content
@@ -59,3 +70,26 @@ follow-accepts x word r e =
     go : (a : follow.Answer) → follow.follow (followerOf x) word ≡ a → flatFollowed x a .refused ≡ 0 → (lost : ℕ) × (next : follow.State) × (a ≡ follow.accepted lost next)
     go (follow.accepted lost next) i z = (lost, next, refl)
     go (follow.refused n p) i z = absurd (from-one _ _ n p (refusals (followerOf x) word n p .0 i) z)
+
+-- ---- a list of corrections
+
+module _ (b : List ℕ) (cs : List Correction) (r : PlaneStopped) (left : List ℕ) (w : EditedAll b (map asked cs) r left) where
+  pub edit-all-accepts : Bytes b → (r .refused ≡ 0) ↔ (listAnswer planeFrames versionOne b (map asked cs) ≡ lists.done)
+  edit-all-accepts bs = ((λ z. go (listAnswer planeFrames versionOne b (map asked cs)) refl z), (λ e. ap (λ (q : PlaneStopped). q .refused) (w .answered) ∙ all-told _ e))
+    where
+      go : (x : ListAnswer) → listAnswer planeFrames versionOne b (map asked cs) ≡ x → r .refused ≡ 0 → x ≡ lists.done
+      go lists.done e z = refl
+      go (lists.stopped i n p) e z =
+          let h : 1 ≤ n = edit-all-numbered cs 0 b bs i n p e in
+          let k : r .refused ≡ n = ap (λ (q : PlaneStopped). q .refused) (w .answered ∙ stopped-told _ i n p e) in
+          absurd (omega arith)
+
+  pub edit-all-leaves : 1 ≤ r .refused → StoppedAt b cs (r .position) (record { number = r .refused; place = r .place }) left
+  edit-all-leaves l = go (listAnswer planeFrames versionOne b (map asked cs)) refl
+    where
+      go : (x : ListAnswer) → listAnswer planeFrames versionOne b (map asked cs) ≡ x → StoppedAt b cs (r .position) (record { number = r .refused; place = r .place }) left
+      go lists.done e = let z : r .refused ≡ 0 = ap (λ (q : PlaneStopped). q .refused) (w .answered) ∙ all-told _ e in absurd (omega arith)
+      go (lists.stopped i n p) e =
+          let s : record { refused = n; place = p; position = i } ≡ r = sym (w .answered ∙ stopped-told _ i n p e) in
+          subst (λ (q : PlaneStopped). StoppedAt b cs (q .position) (record { number = q .refused; place = q .place }) left) s
+          (stopped-exactly b cs left i (record { number = n; place = p }) .0 (record { answered = sym e; left = w .written }))

@@ -18,7 +18,8 @@ use Rattle.format.specs.Questions.{IndexedShown, Began, Event}
 use Rattle.format.specs.Writing.{given}
 use Rattle.follower.specs.Follow as follow
 use Rattle.runs.specs.Assembly.{Open, Assembler, Taken, after}
-use Rattle.ledger.specs.Formats.{Correction}
+use Rattle.corrections.specs.Lists as lists
+use Rattle.corrections.specs.Lists.{ListAnswer, stopped}
 use Rattle.book.proofs.Unique.{undone}
 use Rattle.exports.specs.declared.answers.PlaneFrame.{PlaneFrame}
 use Rattle.exports.specs.declared.answers.PlaneItem.{PlaneItem}
@@ -26,9 +27,8 @@ use Rattle.exports.specs.declared.answers.PlaneFound.{PlaneFound}
 use Rattle.exports.specs.declared.answers.PlaneEvent.{PlaneEvent}
 use Rattle.exports.specs.declared.answers.PlaneFollower.{PlaneFollower}
 use Rattle.exports.specs.declared.answers.PlaneAssembler.{PlaneAssembler}
-use Rattle.exports.specs.declared.answers.PlaneCorrection.{PlaneCorrection}
-use Rattle.exports.specs.Flat.{kindNumber, flatDone, flatFrame, flatItem, flatFound, isThere, kindTold, timestampTold, sizeTold, flatEvent, flatWord, flatWritten, flatFollower, flatFollowed, flatAssemblerBy, flatAssembler, flatTaken, flatRecord, flatEntry}
-use Rattle.exports.specs.Given.{asked, followerOf, currentOf, assemblerOf, kindOf, tokenOf}
+use Rattle.exports.specs.Flat.{kindNumber, flatDone, flatFrame, flatItem, flatFound, isThere, kindTold, timestampTold, sizeTold, flatEvent, flatWord, flatWritten, flatFollower, flatFollowed, flatAssemblerBy, flatAssembler, flatTaken, flatRecord, flatEntry, flatStopped}
+use Rattle.exports.specs.Given.{followerOf, currentOf, assemblerOf, kindOf, tokenOf}
 use Rattle.exports.specs.FlatTells.{Numbered, Tells, FrameSeen, seenFrame, seenEntry}
 
 -- ---- numbers of classes and kinds
@@ -216,8 +216,14 @@ pub entry-tells : Tells seenEntry flatEntry (λ r. r .refused) (λ r. r .place)
 unfolding flatEntry
 entry-tells = record { accepts = λ a. refl; contains = λ a. refl; numbers = λ n p. refl; places = λ n p. refl }
 
-pub same-asked : (c d : PlaneCorrection) → asked c ≡ asked d → c ≡ d
-same-asked = undone asked (λ (c : Correction). record { word = c .word; value = c .value; «operator_id» = c .operator; reason = c .reason }) (λ c. refl)
+-- where a list stopped can be read off its flat form, and that it did not
+pub stopped-told : (x : ListAnswer) (i n p : ℕ) → x ≡ stopped i n p → flatStopped x ≡ record { refused = n; place = p; position = i }
+unfolding flatStopped
+stopped-told x i n p e = ap flatStopped e
+
+pub all-told : (x : ListAnswer) → x ≡ lists.done → flatStopped x .refused ≡ 0
+unfolding flatStopped
+all-told x e = ap (λ (a : ListAnswer). flatStopped a .refused) e
 
 -- ---- the follower: the one answered goes on where the one given left off, and on a refusal stays as it was
 

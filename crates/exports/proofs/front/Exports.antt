@@ -1,11 +1,12 @@
 -- The front page of the static library: what a caller may go by. Each export's promise is its contract in src/; here is what the promise says of
--- `refused`: it is 0 exactly where document 01's call is accepted, and where it is not 0, all lent memory is as found. That a promise has one
--- answer is Unique.antt. Each theorem cites one law: `exactly`, `kept` or `law.follow-accepts`, at what the call is.
+-- `refused`: it is 0 exactly where the documents' call is accepted, and where it is not 0, all lent memory is as found. To this there is one exception,
+-- document 02's own: a list of corrections that stops leaves those before its position standing, and has changed nothing else (`edit-all-leaves`).
+-- That a promise has one answer is Unique.antt. Each theorem cites one law, at what the call is.
 -- Assumes nothing.
 use Prim.Native.Nat.{ℕ, _≤_}
 use mathlib.Core.Path.{_≡_}
 use mathlib.Core.Logic.{_↔_}
-use mathlib.Core.List.{List}
+use mathlib.Core.List.{List, map}
 use mathlib.Core.Option.{Option}
 use lib.ListN.{length}
 use Rattle.format.specs.Words.{Bytes}
@@ -23,6 +24,11 @@ use Rattle.ledger.specs.Calls.{Summary, recordAnswer, entryAnswer, openAnswer, 
 use Rattle.ledger.specs.VersionOne.{versionOne}
 use Rattle.ledger.specs.PlaneFrames.{planeFrames}
 use Rattle.ledger.proofs.calls.Writes.{open-found, edit-found, restore-found}
+use Rattle.editor.specs.declared.editing.Correction.{Correction}
+use Rattle.editor.specs.Views.{asked}
+use Rattle.corrections.specs.Lists as lists
+use Rattle.corrections.specs.Lists.{listAnswer}
+use Rattle.corrections.specs.Singly.{StoppedAt}
 use Rattle.exports.specs.declared.answers.PlaneDone.{PlaneDone}
 use Rattle.exports.specs.declared.answers.PlaneFrame.{PlaneFrame}
 use Rattle.exports.specs.declared.answers.PlaneItem.{PlaneItem}
@@ -36,10 +42,10 @@ use Rattle.exports.specs.declared.answers.PlaneAssembler.{PlaneAssembler
 use Rattle.exports.specs.declared.answers.PlaneTaken.{PlaneTaken}
 use Rattle.exports.specs.declared.answers.PlaneRecord.{PlaneRecord}
 use Rattle.exports.specs.declared.answers.PlaneEntry.{PlaneEntry}
-use Rattle.exports.specs.declared.answers.PlaneCorrection.{PlaneCorrection}
+use Rattle.exports.specs.declared.answers.PlaneStopped.{PlaneStopped}
 use Rattle.exports.specs.Flat.{flatFrame, flatFound, flatEvent, flatWord, flatWritten, flatFollowed, flatTaken, flatRecord, flatEntry}
-use Rattle.exports.specs.Given.{asked, followerOf, assemblerOf, begun, begunLeft, tokenOf}
-use Rattle.exports.specs.Promises.{Leaves, Sampled, Counted, Opened, Edited, Restored}
+use Rattle.exports.specs.Given.{followerOf, assemblerOf, begun, begunLeft, tokenOf}
+use Rattle.exports.specs.Promises.{Leaves, Sampled, Counted, Opened, Edited, EditedAll, Restored}
 use Rattle.exports.proofs.NumberLaws as numbers
 use Rattle.exports.proofs.RefusedLaws as law
 use Rattle.exports.proofs.RefusedLaws.{kept, samples-found, counts-found, begin-found}
@@ -138,7 +144,7 @@ module _ (b : List ℕ) (bs : Bytes b) where
     pub open-accepts : (buf : List ℕ) → Opened b buf r left → (r .refused ≡ 0) ↔ ((u : Unit {0}) × (openAnswer planeFrames versionOne b buf ≡ accepted u))
     open-accepts buf w = exactly _ _ _ _ _ done-tells _ (numbers.open-numbered b bs buf) r (w .answered)
 
-    pub edit-accepts : (c : PlaneCorrection) → Edited b (asked c) r left → (r .refused ≡ 0) ↔ ((u : Unit {0}) × (editAnswer planeFrames versionOne b (asked c) ≡ accepted u))
+    pub edit-accepts : (c : Correction) → Edited b (asked c) r left → (r .refused ≡ 0) ↔ ((u : Unit {0}) × (editAnswer planeFrames versionOne b (asked c) ≡ accepted u))
     edit-accepts c w = exactly _ _ _ _ _ done-tells _ (numbers.edit-numbered b bs c) r (w .answered)
 
     pub restore-accepts : (k : ℕ) (out : List ℕ) → Restored b k out r left → (r .refused ≡ 0) ↔ ((u : Unit {0}) × (restoreAnswer planeFrames versionOne b k out ≡ accepted u))
@@ -149,8 +155,18 @@ module _ (b : List ℕ) (r : PlaneDone) (left : List ℕ) (l : 1 ≤ r .refused)
   pub open-leaves : (f : List ℕ) → Opened f b r left → left ≡ b
   open-leaves f w = kept _ _ _ _ _ done-tells _ _ b (open-found planeFrames versionOne f b) r left w l
 
-  pub edit-leaves : (c : PlaneCorrection) → Edited b (asked c) r left → left ≡ b
+  pub edit-leaves : (c : Correction) → Edited b (asked c) r left → left ≡ b
   edit-leaves c w = kept _ _ _ _ _ done-tells _ _ b (edit-found planeFrames versionOne b (asked c)) r left w l
 
   pub restore-leaves : (k : ℕ) (out : List ℕ) → Restored b k out r left → left ≡ out
   restore-leaves k out w = kept _ _ _ _ _ done-tells _ _ out (restore-found planeFrames versionOne b k out) r left w l
+
+-- ---- a list of corrections: where it stops, the corrections before its position were made, one by one, and the one there is refused on what they left
+-- (corrections' specs/Singly.antt, `StoppedAt`)
+
+module _ (b : List ℕ) (cs : List Correction) (r : PlaneStopped) (left : List ℕ) (w : EditedAll b (map asked cs) r left) where
+  pub edit-all-accepts : Bytes b → (r .refused ≡ 0) ↔ (listAnswer planeFrames versionOne b (map asked cs) ≡ lists.done)
+  edit-all-accepts = law.edit-all-accepts b cs r left w
+
+  pub edit-all-leaves : 1 ≤ r .refused → StoppedAt b cs (r .position) (record { number = r .refused; place = r .place }) left
+  edit-all-leaves = law.edit-all-leaves b cs r left w

@@ -16,7 +16,7 @@ same-length : tie.Need-same-length
 same-length c = search needs
 
 returns : tie.Need-returns
-returns c = record { answered = c .flat-done .ensures ∙ ap flatDone (c .before .before .edit .ensures .answered); written = c .before .before .edit .ensures .left }
+returns c = record { answered = c .flat-done .ensures ∙ ap flatDone (c .before .before .before .edit .ensures .answered); written = c .before .before .before .edit .ensures .left }
 
 pub plane-edit-spec : {M : Type 1} → statement M
 plane-edit-spec = tie.close (tie.spec edit-requires flat-done-requires same-length returns)
