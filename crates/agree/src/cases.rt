@@ -173,6 +173,7 @@ impl Case {
             19 => self.within(Case::WORD, Case::WORD, Case::WORD, 0, 0, true, false),
             20 => self.within(Case::WORD, 0, 0, 0, 0, true, false),
             21 => self.is_state(),
+            22 => self.within(0, 0, 0, 0, 0, true, true),
             _ => false,
         }
     }

@@ -2,10 +2,11 @@
 // standard input and writes one line for each. README.md says what a case and its line look like, and how an op is added.
 //
 // The ops that are there: 0 classify, 1 read, 2 item, 3 text, 4 event, 5 samples, 6 counts, 7 begin, 8 add, 9 add text, 10 close, 11 follow, 12 record, 13 entry, 14 open, 15 edit,
-// 16 restore, 17 list, 18 sample word, 19 bin word, 20 a run, 21 one step of an assembler. Any other is a bad case.
+// 16 restore, 17 list, 18 sample word, 19 bin word, 20 a run, 21 one step of an assembler, 22 edit all. Any other is a bad case.
 mod cases;
 mod ops;
 mod ops_book;
+mod ops_corrections;
 mod ops_editor;
 mod ops_follower;
 mod ops_frame;

@@ -1,6 +1,7 @@
 // The list of ops, by what is lent to be written.
 use crate::cases::Case;
 use crate::ops_book;
+use crate::ops_corrections;
 use crate::ops_editor;
 use crate::ops_follower;
 use crate::ops_frame;
@@ -45,6 +46,7 @@ fn written(case: Case, p: &mut [u8], q: &[u8]) -> Reply {
         10 => ops_writer::close(case, p),
         14 => ops_editor::open(p, q),
         15 => ops_editor::edit(case, p),
+        22 => ops_corrections::edit_all(p, q),
         _ => no_case(),
     }
 }
@@ -64,7 +66,7 @@ pub(crate) fn answer(case: Case, p: &mut [u8], q: &mut [u8]) -> Reply {
     }
     let op = case.op;
     match op {
-        7..=10 | 14..=15 => {
+        7..=10 | 14..=15 | 22 => {
             let answer = written(case, p, q);
             reply::left(answer, p)
         }

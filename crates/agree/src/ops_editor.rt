@@ -3,7 +3,7 @@ use crate::cases::Case;
 use crate::cases::low32;
 use crate::reply;
 use crate::reply::Reply;
-use exports::answers::PlaneCorrection;
+use editor::editing::Correction;
 use exports::answers::PlaneDone;
 use exports::recording::plane_edit;
 use exports::recording::plane_open;
@@ -20,10 +20,10 @@ pub(crate) fn open(p: &mut [u8], q: &[u8]) -> Reply {
 
 // Op 15: edits p: word a0, value a1, operator a2, reason a3.
 pub(crate) fn edit(case: Case, p: &mut [u8]) -> Reply {
-    let c = PlaneCorrection {
+    let c = Correction {
         word: case.a0 as usize,
         value: low32(case.a1),
-        operator_id: low32(case.a2),
+        operator: low32(case.a2),
         reason: low32(case.a3),
     };
     done(plane_edit(p, c))

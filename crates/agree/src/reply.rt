@@ -50,9 +50,12 @@ impl Reply {
 
     // And of a refusal: its number, then its place behind the word "at".
     pub const AT_PLACE: u32 = 0x51;
+
+    // The same of one in a list, and its position behind the word "position".
+    pub const AT_POSITION: u32 = 0x751;
 }
 
-// A style: nothing, a number, a letter, a dash for a value that is missing, a number behind the word "next" or "at", or the word "up" alone.
+// A style: nothing, a number, a letter, a dash for a value that is missing, a number behind the word "next", "at" or "position", or the word "up" alone.
 const NUMBER: u32 = 1;
 
 const LETTER: u32 = 2;
@@ -64,6 +67,8 @@ const NEXT: u32 = 4;
 const AT: u32 = 5;
 
 const UP: u32 = 6;
+
+const POSITION: u32 = 7;
 
 // A whole line that lends nothing.
 pub(crate) fn line(word: u64, styles: u32, values: [u64; 6]) -> Reply {
@@ -198,6 +203,7 @@ fn word_piece(style: u32, value: u64) -> Piece {
         NEXT => word(true, 4, 0x7478656E),
         AT => word(true, 2, 0x7461),
         UP => word(true, 2, 0x7075),
+        POSITION => word(true, 8, 0x6E6F697469736F70),
         _ => number(false, 0),
     }
 }
@@ -213,7 +219,10 @@ fn value_piece(x: Reply, k: u8) -> Piece {
     if k % 2 == 0 {
         return word_piece(style, value);
     }
-    number((style == NUMBER) | (style == NEXT) | (style == AT), value)
+    number(
+        (style == NUMBER) | (style == NEXT) | (style == AT) | (style == POSITION),
+        value,
+    )
 }
 
 // Piece k of the lent buffer and of the line's end.
