@@ -7,13 +7,20 @@ use mathlib.Core.List.{List, [], _∷_, _++_, map, append-assoc, append-nil}
 use native.Mathlib.Omega.{arith}
 use native.Mathlib.Numerals.{add-one}
 use lib.ListN.{length, take}
+use Rattle.format.specs.Words.{Bytes}
 use Rattle.format.specs.Answers as answers
 use Rattle.format.specs.Answers.{accepted, refused}
 use Rattle.book.specs.declared.refusal.Refusal.{Refusal}
+use Rattle.ledger.specs.Tests.{Plain}
+use Rattle.ledger.specs.Records.{recordVerdict}
 use Rattle.ledger.specs.Calls.{editAnswer, editExit}
 use Rattle.ledger.specs.VersionOne.{versionOne}
 use Rattle.ledger.specs.PlaneFrames.{planeFrames}
 use Rattle.ledger.proofs.calls.Writes.{edit-found}
+use Rattle.ledger.proofs.calls.Editing.{edit-judged}
+use Rattle.ledger.proofs.calls.Changing.{edit-accepted, edit-bytes}
+use Rattle.ledger.proofs.answers.Refusals.{edit-refusals}
+use Rattle.ledger.proofs.plane.PlaneFrames.{plane-frames-version-one}
 use Rattle.editor.specs.declared.answers.Done.{Done}
 use Rattle.editor.specs.declared.answers.Done.the-variants as answer
 use Rattle.editor.specs.declared.editing.Correction.{Correction}
@@ -272,3 +279,38 @@ no-calls done = refl
 
 pub stopped-first : (b : List ℕ) (cs : List Correction) (q : Refusal) (e : List ℕ) → CorrectedAll b (map asked cs) (viewCorrected (corrected.Stopped 0 q)) e → e ≡ b
 stopped-first b cs q e w = no-calls (to-stopped b cs e 0 q w .calls)
+
+-- ---- behind a correction that was made the record is accepted, so that no refusal of the record itself can come there
+sound-on : {b e : List ℕ} {cs : List Correction} {rs : List Done} → Calls b cs rs e → rs ≡ accepts (length cs) → Bytes b → recordVerdict planeFrames versionOne b ≡ accepted tt
+    → recordVerdict planeFrames versionOne e ≡ accepted tt
+sound-on done h y v = v
+sound-on {b = b} (then {m = m} {c = c} {r = r} {cs = cs} {rs = rs} o k) h y v =
+    let first : r ≡ answer.Accepted = cc in
+    let rest : rs ≡ accepts (length cs) = cc in
+    let made : editAnswer planeFrames versionOne b (asked c) ≡ accepted tt = sym (o .answered) ∙ ap viewDone first in
+    sound-on k rest
+    (subst Bytes (sym (o .left)) (edit-bytes planeFrames versionOne plane-frames-version-one b (asked c) y made))
+    (ap (recordVerdict planeFrames versionOne) (o .left) ∙ edit-accepted planeFrames versionOne plane-frames-version-one b (asked c) y made)
+
+sound-behind : {b e : List ℕ} (cs : List Correction) (i : ℕ) → length cs ≡ suc i → Calls b cs (accepts (suc i)) e → Bytes b → recordVerdict planeFrames versionOne e ≡ accepted tt
+sound-behind {b = b} [] i l k y = absurd (omega arith)
+sound-behind {b = b} {e = e} (c ∷ cs) i l k y = sound-on k (ap accepts (sym l)) y (edit-judged planeFrames versionOne b (asked c) (first-accepted k))
+  where
+    first-accepted : Calls b (c ∷ cs) (accepts (suc i)) e → editAnswer planeFrames versionOne b (asked c) ≡ accepted tt
+    first-accepted (then o j) = sym (o .answered)
+
+-- of an accepted record, an edit is refused by one of its own reasons
+own-reason : (b : List ℕ) (c : Correction) (n p : ℕ) → recordVerdict planeFrames versionOne b ≡ accepted tt → editAnswer planeFrames versionOne b (asked c) ≡ refused n p
+    → Plain 22 n p ⊎ (Plain 23 n p ⊎ (Plain 24 n p ⊎ (Plain 25 n p ⊎ Plain 12 n p)))
+unfolding versionOne
+own-reason b c n p v e =
+    ⊎-elim (λ w. absurd (clash (sym v ∙ w))) (λ rest. ⊎-elim (λ w. absurd (clash w)) (λ own. own) rest) (edit-refusals planeFrames versionOne b (asked c) n p e)
+  where
+    clash : _≡_ {A = answers.Done} (accepted tt) (refused n p) → ⊥
+    clash h = let z : _≡_ {A = ℕ} 0 1 = cc in omega arith
+
+pub later-refusals : (b : List ℕ) → Bytes b → (cs : List Correction) (i : ℕ) (q : Refusal) (e : List ℕ) → CorrectedAll b (map asked cs) (viewCorrected (corrected.Stopped (suc i) q)) e
+    → Plain 22 (q .number) (q .place) ⊎ (Plain 23 (q .number) (q .place) ⊎ (Plain 24 (q .number) (q .place) ⊎ (Plain 25 (q .number) (q .place) ⊎ Plain 12 (q .number) (q .place))))
+later-refusals b y cs i q e w =
+    let S = to-stopped b cs e (suc i) q w in
+    own-reason e (S .wrong) (q .number) (q .place) (sound-behind (S .earlier) i (S .position) (S .calls) y) (sym (S .refused .answered))

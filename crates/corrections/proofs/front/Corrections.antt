@@ -2,13 +2,14 @@
 -- calls of `edit` made singly. `CorrectedAll` (specs/Promises.antt) is what the function's contract says, `Edited`, `Opened`, `Restored` and `Calls`
 -- are editor's.
 -- Assumes nothing.
-use Prim.Native.Nat.{ℕ, _+_, _*_, _≤_}
+use Prim.Native.Nat.{ℕ, suc, _+_, _*_, _≤_}
 use mathlib.Core.Path.{_≡_}
-use mathlib.Core.Logic.{_↔_}
+use mathlib.Core.Logic.{_↔_, _⊎_}
 use mathlib.Core.List.{List, [], _++_, map}
 use lib.ListN.{length, take, drop}
 use Rattle.format.specs.Words.{Bytes}
 use Rattle.book.specs.declared.refusal.Refusal.{Refusal}
+use Rattle.ledger.specs.Tests.{Plain}
 use Rattle.ledger.specs.Records.{entriesIn}
 use Rattle.ledger.specs.Histories.{oldestFirst}
 use Rattle.ledger.specs.VersionOne.{versionOne}
@@ -59,6 +60,12 @@ made-of-list = law.standing-made
 -- > "An empty list is accepted and changes nothing, whatever the record holds."
 pub empty-list : (b : List ℕ) (r : Corrected) (e : List ℕ) → CorrectedAll b [] (viewCorrected r) e → (r ≡ all.Done) × (e ≡ b)
 empty-list = law.empty-list
+
+-- > "Refusals: those of a single edit."
+-- at the first correction any of them; behind it, since a correction that was made leaves an accepted record, only those of the correction itself, at place 0
+pub later-refusals : (b : List ℕ) → Bytes b → (cs : List Correction) (i : ℕ) (q : Refusal) (e : List ℕ) → CorrectedAll b (map asked cs) (viewCorrected (all.Stopped (suc i) q)) e
+    → Plain 22 (q .number) (q .place) ⊎ (Plain 23 (q .number) (q .place) ⊎ (Plain 24 (q .number) (q .place) ⊎ (Plain 25 (q .number) (q .place) ⊎ Plain 12 (q .number) (q .place))))
+later-refusals = law.later-refusals
 
 -- a list in two halves: behind a first half that was made the second does what it does alone, its positions counted on; behind one that stopped nothing
 -- of it is done
