@@ -14,9 +14,7 @@ use Rattle.ledger.specs.Calls.{editAnswer, editExit}
 use Rattle.ledger.specs.VersionOne.{versionOne}
 use Rattle.ledger.specs.PlaneFrames.{planeFrames}
 use Rattle.ledger.proofs.calls.Writes.{edit-found}
-use Rattle.book.specs.declared.refusal.Refusal.{Refusal}
 use Rattle.editor.specs.declared.answers.Done as code
-use Rattle.editor.specs.declared.answers.Done.the-variants as answer
 use Rattle.editor.specs.declared.editing.Correction.{Correction}
 use Rattle.editor.specs.Views.{viewDone, asked}
 use Rattle.editor.specs.Promises.{Edited}
@@ -56,12 +54,8 @@ module _ (B : FrameBook) (F : Format) where
   exit-refused b c cs n p e = rw e
 
 -- ---- one correction, by what the single edit answered
-module _ (i : ℕ) (b z : List ℕ) (c : formats.Correction) (r : code.Done) where
-  pub at-made : r ≡ answer.Accepted → Edited b c (viewDone r) z → CorrectedAt b c i done z
-  at-made e o = record { answered = ap (λ (d : code.Done). atPosition i (viewDone d)) (sym e) ∙ ap (atPosition i) (o .answered); left = o .left }
-
-  pub at-refused : (q : Refusal) → r ≡ answer.Refused q → Edited b c (viewDone r) z → CorrectedAt b c i (stopped i (q .number) (q .place)) z
-  at-refused q e o = record { answered = ap (λ (d : code.Done). atPosition i (viewDone d)) (sym e) ∙ ap (atPosition i) (o .answered); left = o .left }
+pub at-position : (i : ℕ) (b z : List ℕ) (c : formats.Correction) (r d : code.Done) → r ≡ d → Edited b c (viewDone r) z → CorrectedAt b c i (atPosition i (viewDone d)) z
+at-position i b z c r d e o = record { answered = ap (λ (x : code.Done). atPosition i (viewDone x)) (sym e) ∙ ap (atPosition i) (o .answered); left = o .left }
 
 -- ---- a turn of the loop
 -- the buffer after a correction that was answered so: what the later ones leave, or what it left itself
