@@ -31,9 +31,8 @@ def crates():
     return rows
 
 
-def errors(text):
-    """The errors of a log in their order, each whole: its line and the indented ones behind it. One that only says that another proof is
-    missing is left out."""
+def all_errors(text):
+    """The errors of a log in their order, each whole: its line and the indented ones behind it."""
     found, inside = [], False
     for line in text.split("\n"):
         if re.search(r": error\b|^error\b", line):
@@ -43,7 +42,17 @@ def errors(text):
             found[-1] += "\n" + line
         else:
             inside = False
-    return [error for error in found if "was not admitted" not in error] or found
+    return found
+
+
+def errors(text):
+    """The errors of a log, without those that only say that another proof is missing."""
+    found = all_errors(text)
+    return [error for error in found if not is_consequence(error)] or found
+
+
+def is_consequence(error):
+    return "was not admitted" in error
 
 
 def first_error(text):
