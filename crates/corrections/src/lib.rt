@@ -26,7 +26,7 @@ fn edit_at(buf: &mut [u8], c: Correction, i: usize) -> Corrected
 }
 
 // Makes the corrections of a list in order, each as `edit` does on what the one before it left, and stops at the first that is refused: it answers
-// that position and that refusal. The corrections before it stand, the refused one and those behind it have changed nothing. No correction is
+// that position and that refusal. The corrections before it stand, the refused one and those behind it have changed nothing. An empty list is
 // Done, and changes nothing, whatever the buffer holds.
 pub fn edit_all(buf: &mut [u8], list: &[Correction]) -> Corrected
     ensures { λ r. ⌜ CorrectedAll (now (buf .entry)) (map asked (now (list .entry))) (viewCorrected r) (now (buf .exit)) ⌝ }
