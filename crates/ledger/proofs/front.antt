@@ -3,3 +3,4 @@ pub mod Demand3
 pub mod Figures
 pub mod PlaneDemand3
 pub mod PlaneFigures
+pub mod Versions

@@ -1,4 +1,6 @@
--- Document 01's own frames and entries as a lawful book and format.
-pub mod VersionOneLaws
+-- The frames of document 01 and the entries of both versions as a lawful book and lawful formats.
+pub mod StampLaws
+pub mod VersionLaws
 pub mod PlaneFrames
+pub mod OneJudge
 pub mod PlaneEdits

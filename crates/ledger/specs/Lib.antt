@@ -6,6 +6,8 @@ pub mod Calls
 pub mod Chains
 pub mod Histories
 pub mod VersionOne
+pub mod VersionTwo
+pub mod Versions
 pub mod PlaneFrames
 pub mod Judged
 pub mod Layout

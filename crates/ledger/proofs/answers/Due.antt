@@ -53,10 +53,11 @@ module _ (Broken : ℕ → Type 0) where
   unfolding firstOf
   no-more = record { due = λ n p e. absurd (not-both (firstOf []) tt n p refl e); given = λ n f. absurd (not-there [] n f refl) }
 
-  -- an answer that never refuses has no number
-  pub asked-first : (os : List Done) (ms : List ℕ) → Agrees Broken os ms → Agrees Broken (accepted tt ∷ os) ms
+  -- an answer that does not refuse has no number
+  pub asked-first : (o : Done) (os : List Done) (ms : List ℕ) → o ≡ accepted tt → Agrees Broken os ms → Agrees Broken (o ∷ os) ms
   unfolding firstOf
-  asked-first os ms a = record { due = a .due; given = a .given }
+  asked-first (accepted u) os ms e a = record { due = a .due; given = a .given }
+  asked-first (refused n p) os ms e a = absurd (not-both (refused n p) tt n p e refl)
 
   -- the head of an order is not broken, so the rest of it decides
   passed : (m n : ℕ) (ms : List ℕ) → (Broken m → ⊥) → FirstIn Broken (m ∷ ms) n → FirstIn Broken ms n

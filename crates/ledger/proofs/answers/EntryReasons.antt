@@ -1,32 +1,38 @@
 -- What makes a value illegal, a signer none, a header wrong and an entry unfit (specs/Reasons.antt), against the tests that say so.
 -- Assumes nothing.
-use Prim.Native.Nat.{ℕ, _<_}
-use mathlib.Core.Path.{_≡_, refl, sym, ap, _∙_}
+use Prim.Native.Nat.{ℕ, _+_, _*_, _<_}
+use mathlib.Core.Path.{_≡_, refl, sym, ap, ap₂, _∙_}
 use mathlib.Core.Logic.{_⊎_, inl, inr, ⊎-elim, by-cases}
 use mathlib.Core.Bool.{Bool, true, false, true≢false}
 use mathlib.Core.List.{List}
 use mathlib.Core.Option.{Option, none, some}
 use native.Mathlib.Omega.{arith}
 use native.Mathlib.Decide.{decLt}
-use lib.ListN.{length}
+use lib.ListN.{length, drop}
+use lib.Seq.{getD-drop}
 use lib.Dec.{eqb}
 use borrow.Author.Tests.{leb-false, eqb-true, eqb-false, not-false}
 use Rattle.format.specs.Items.{Item, Channel, Histogram, HitCount, Sample, Bin, LastCell, TimeBin, Text, StartEvent, ContinueEvent, EndEvent}
-use Rattle.format.specs.Words.{wordAt, longAt}
+use Rattle.format.specs.Words.{Bytes, wordAt, longAt}
 use Rattle.format.specs.Spots.{Spot, spotOf, spot, legalValue}
 use Rattle.format.specs.Spots as spots
 use Rattle.format.proofs.questions.ItemQuestions.{no-some, some-is}
 use Rattle.format.proofs.spots.PutLaws.{stands}
 use Rattle.format.proofs.front.Stability as stability
-use Rattle.ledger.specs.Records.{lengthIn, countIn, entryOf, entriesTo, length-entries, headerRight, signed, atSpot, fitsItem, fits}
+use Rattle.format.proofs.items.WordLaws.{below-drop}
+use Rattle.ledger.specs.Records.{lengthIn, countIn, totalIn, entryOf, entriesTo, length-entries, headerRight, signed, atSpot, fitsItem, fits}
 use Rattle.ledger.specs.Chains.{Header, Fits}
 use Rattle.ledger.specs.VersionOne.{versionOne}
+use Rattle.ledger.specs.VersionTwo.{versionTwo}
+use Rattle.ledger.specs.Versions.{Version, v1, v2, formatOf}
+use Rattle.ledger.specs.Layout.{numberOf, totalLength}
 use Rattle.ledger.specs.PlaneFrames.{planeFrames}
-use Rattle.ledger.specs.Reasons.{Illegal, over, nought, wide, NotSigned, noOperator, highOperator, noReason, highReason, HeaderBroken, short, version, frames, offset, history, count, total, zero, cut, Unfit, noItem, otherKind, otherValue, oldIllegal, unchanged, signer}
+use Rattle.ledger.specs.Reasons.{Illegal, over, nought, wide, NotSigned, noOperator, highOperator, noReason, highReason, HeaderBroken, short, version, frames, offset, history, count, total, zero, cut, Unfit, noItem, otherKind, otherValue, oldIllegal, unchanged, signer, desk}
 use Rattle.ledger.proofs.answers.Due.{caught}
 use Rattle.ledger.proofs.records.Headers.{header-words}
 use Rattle.ledger.proofs.records.Judging.{signed-right, right-signed, fits-right}
-use Rattle.ledger.proofs.plane.VersionOneLaws.{count-limit}
+use Rattle.ledger.proofs.plane.VersionLaws.{number-is, size-is, limit-is, count-limit}
+use Rattle.ledger.proofs.plane.StampLaws.{read-fits}
 use Rattle.ledger.proofs.plane.PlaneFrames.{stands-there}
 
 -- ---- values: the kind of an item is 1 or 2
@@ -79,73 +85,100 @@ signed-not o r e (noReason h) = let s = signed-right o r e .1 in omega arith
 signed-not o r e (highReason h) = let s = signed-right o r e .1 in omega arith
 
 -- ---- headers
-pub broken-header : (b : List ℕ) → headerRight versionOne b ≡ false → HeaderBroken b
-unfolding headerRight lengthIn countIn versionOne
-broken-header b e =
-    caught (HeaderBroken b) _ e
-    (λ h. short (leb-false 16 (length b) h))
-    (λ h. version (eqb-false _ _ h))
-    (λ h. frames (eqb-false _ _ h))
-    (λ h. offset (eqb-false _ _ h))
-    (λ h. history (eqb-false _ _ h))
-    (λ h. total (eqb-false _ _ h))
-    (λ h. zero (eqb-false _ _ h))
-    (λ h. cut (leb-false _ (length b) h))
-    (λ h. count (rw (length-entries versionOne b (wordAt b 5)) at (leb-false (length (entriesTo versionOne b (wordAt b 5))) 512 h)))
+module _ (v : Version) (b : List ℕ) where
+  total-is : totalIn (formatOf v) b ≡ totalLength v b
+  unfolding lengthIn countIn
+  total-is = ap (λ (n : ℕ). 16 + wordAt b 3 + n * wordAt b 5) (size-is v)
 
-pub header-broken : (b : List ℕ) → Header versionOne b → HeaderBroken b → ⊥
-unfolding lengthIn countIn versionOne
-header-broken b r (short h) = let l = r .long in omega arith
-header-broken b r (version h) = h (r .version)
-header-broken b r (frames h) = h (r .one)
-header-broken b r (offset h) = h (r .sixteen)
-header-broken b r (history h) = h (r .history)
-header-broken b r (count h) = let l = count-limit b .0 (r .limit) in omega arith
-header-broken b r (total h) = h (r .total)
-header-broken b r (zero h) = h (r .nought)
-header-broken b r (cut h) = let l = r .room in omega arith
+  pub broken-header : headerRight (formatOf v) b ≡ false → HeaderBroken v b
+  unfolding headerRight lengthIn countIn
+  broken-header e =
+      caught (HeaderBroken v b) _ e
+      (λ h. short (leb-false 16 (length b) h))
+      (λ h. version (λ q. eqb-false _ _ h (q ∙ sym (number-is v))))
+      (λ h. frames (eqb-false _ _ h))
+      (λ h. offset (eqb-false _ _ h))
+      (λ h. history (eqb-false _ _ h))
+      (λ h. total (λ q. eqb-false _ _ h (q ∙ sym total-is)))
+      (λ h. zero (eqb-false _ _ h))
+      (λ h. cut (let l = leb-false _ (length b) h in let t = total-is in omega arith))
+      (λ h. count (rw (length-entries (formatOf v) b (wordAt b 5)) at (leb-false (length (entriesTo (formatOf v) b (wordAt b 5))) 512 (sym (limit-is v _) ∙ h))))
 
--- a header that is not broken is right
-pub whole-header : (b : List ℕ) → (HeaderBroken b → ⊥) → Header versionOne b
-whole-header b h = go (headerRight versionOne b) refl
+  pub header-broken : Header (formatOf v) b → HeaderBroken v b → ⊥
+  unfolding lengthIn countIn
+  header-broken r (short h) = let l = r .long in omega arith
+  header-broken r (version h) = h (r .version ∙ number-is v)
+  header-broken r (frames h) = h (r .one)
+  header-broken r (offset h) = h (r .sixteen)
+  header-broken r (history h) = h (r .history)
+  header-broken r (count h) = let l = count-limit v b .0 (r .limit) in omega arith
+  header-broken r (total h) = h (r .total ∙ total-is)
+  header-broken r (zero h) = h (r .nought)
+  header-broken r (cut h) = let l = r .room in let t = total-is in omega arith
+
+  -- a header that is not broken is right
+  pub whole-header : (HeaderBroken v b → ⊥) → Header (formatOf v) b
+  whole-header h = go (headerRight (formatOf v) b) refl
+    where
+      go : (t : Bool) → headerRight (formatOf v) b ≡ t → Header (formatOf v) b
+      go true q = header-words (formatOf v) b q
+      go false q = absurd (h (broken-header q))
+
+-- ---- what a version adds to an entry: nothing, or a time and a desk
+desk-word : (e : List ℕ) → wordAt (drop 16 e) 3 ≡ wordAt e 11
+desk-word e = ap₂ (λ (a b : ℕ). a + 256 * b) (getD-drop 16 e 6 0) (getD-drop 16 e 7 0)
+
+read-good : (v : Version) (e : List ℕ) → Bytes e → formatOf v .good (formatOf v .read (drop 16 e)) ≡ true
+unfolding versionOne versionTwo
+read-good v1 e y = refl
+read-good v2 e y = read-fits (drop 16 e) (below-drop 16 e 256 y)
+
+desk-wrong : (v : Version) (f e : List ℕ) (s : Spot) → formatOf v .suits (formatOf v .read (drop 16 e)) s ≡ false → Unfit v f e
+unfolding versionOne versionTwo
+desk-wrong v1 f e s h = absurd (true≢false h)
+desk-wrong v2 f e s h = desk refl (λ q. eqb-false _ _ h (desk-word e ∙ q))
+
+desk-right : (v : Version) (e : List ℕ) (s : Spot) → v ≡ v2 → formatOf v .suits (formatOf v .read (drop 16 e)) s ≡ true → wordAt e 11 ≡ 0
+unfolding versionOne versionTwo
+desk-right v1 e s q h = absurd (versions q)
   where
-    go : (t : Bool) → headerRight versionOne b ≡ t → Header versionOne b
-    go true q = header-words versionOne b q
-    go false q = absurd (h (broken-header b q))
+    versions : v1 ≡ v2 → ⊥
+    versions q = let z : _≡_ {A = ℕ} 1 2 = ap numberOf q in omega arith
+desk-right v2 e s q h = sym (desk-word e) ∙ eqb-true _ _ h
 
 -- ---- entries
-module _ (f e : List ℕ) where
-  item-unfit : (p : Spot) → spot f (wordAt e 0) ≡ some p → fitsItem planeFrames versionOne (entryOf versionOne e) p ≡ false → Unfit f e
-  unfolding fitsItem entryOf planeFrames versionOne
-  item-unfit p s h =
-      caught (Unfit f e) _ h
+module _ (v : Version) (f e : List ℕ) where
+  item-unfit : Bytes e → (p : Spot) → spot f (wordAt e 0) ≡ some p → fitsItem planeFrames (formatOf v) (entryOf (formatOf v) e) p ≡ false → Unfit v f e
+  unfolding fitsItem entryOf planeFrames
+  item-unfit y p s h =
+      caught (Unfit v f e) _ h
       (λ q. otherKind p s (eqb-false _ _ q))
       (λ q. otherValue p s (eqb-false _ _ q))
       old
       (λ q. unchanged (eqb-true _ _ (not-false _ q)))
       (λ q. signer (unsigned _ _ q))
-      (λ q. absurd (true≢false q))
-      (λ q. absurd (true≢false q))
+      (λ q. absurd (true≢false (sym (read-good v e y) ∙ q)))
+      (λ q. desk-wrong v f e p q)
     where
       -- an item's kind is 1 or 2, and so is that of an entry that has it
-      old : legalValue (wordAt e 1) (longAt e 2) ≡ false → Unfit f e
+      old : legalValue (wordAt e 1) (longAt e 2) ≡ false → Unfit v f e
       old q = go (eqb (p .kind) (wordAt e 1)) refl
         where
-          go : (t : Bool) → eqb (p .kind) (wordAt e 1) ≡ t → Unfit f e
+          go : (t : Bool) → eqb (p .kind) (wordAt e 1) ≡ t → Unfit v f e
           go true k =
               let same = eqb-true (p .kind) (wordAt e 1) k in
               oldIllegal (illegal-value (wordAt e 1) (longAt e 2) (⊎-elim (λ i. inl (sym same ∙ i)) (λ i. inr (sym same ∙ i)) (spot-kind f (wordAt e 0) p s)) q)
           go false k = otherKind p s (eqb-false (p .kind) (wordAt e 1) k)
 
-  not-fits : fits planeFrames versionOne f (entryOf versionOne e) ≡ false → Unfit f e
+  not-fits : Bytes e → fits planeFrames (formatOf v) f (entryOf (formatOf v) e) ≡ false → Unfit v f e
   unfolding fits entryOf planeFrames
-  not-fits h = go (spot f (wordAt e 0)) refl h
+  not-fits y h = go (spot f (wordAt e 0)) refl h
     where
-      go : (o : Option Spot) → spot f (wordAt e 0) ≡ o → atSpot o (fitsItem planeFrames versionOne (entryOf versionOne e)) ≡ false → Unfit f e
+      go : (o : Option Spot) → spot f (wordAt e 0) ≡ o → atSpot o (fitsItem planeFrames (formatOf v) (entryOf (formatOf v) e)) ≡ false → Unfit v f e
       go none q k = noItem (λ p s. no-some p (sym q ∙ s))
-      go (some p) q k = item-unfit p q k
+      go (some p) q k = item-unfit y p q k
 
-  module _ (r : Fits planeFrames versionOne f (entryOf versionOne e)) where
+  module _ (r : Fits planeFrames (formatOf v) f (entryOf (formatOf v) e)) where
     there : spot f (wordAt e 0) ≡ some (r .spot)
     unfolding entryOf
     there = stands-there f (wordAt e 0) (r .spot) (r .stands)
@@ -153,7 +186,7 @@ module _ (f e : List ℕ) where
     one : (p : Spot) → spot f (wordAt e 0) ≡ some p → r .spot ≡ p
     one p s = some-is (r .spot) p (sym there ∙ s)
 
-    pub unfit-not : Unfit f e → ⊥
+    pub unfit-not : Unfit v f e → ⊥
     unfolding entryOf planeFrames
     unfit-not (noItem h) = h (r .spot) there
     unfit-not (otherKind p s h) = h (sym (ap (λ (q : Spot). q .kind) (one p s)) ∙ r .kind)
@@ -161,11 +194,12 @@ module _ (f e : List ℕ) where
     unfit-not (oldIllegal h) = value-illegal (wordAt e 1) (longAt e 2) (r .old) h
     unfit-not (unchanged h) = r .changed h
     unfit-not (signer h) = signed-not (wordAt e 6) (wordAt e 7) (right-signed _ _ (r .operator) (r .reason)) h
+    unfit-not (desk q h) = h (desk-right v e (r .spot) q (r .suits))
 
   -- one of the two
-  pub fit-or-unfit : Fits planeFrames versionOne f (entryOf versionOne e) ⊎ Unfit f e
-  fit-or-unfit = go (fits planeFrames versionOne f (entryOf versionOne e)) refl
+  pub fit-or-unfit : Bytes e → Fits planeFrames (formatOf v) f (entryOf (formatOf v) e) ⊎ Unfit v f e
+  fit-or-unfit y = go (fits planeFrames (formatOf v) f (entryOf (formatOf v) e)) refl
     where
-      go : (t : Bool) → fits planeFrames versionOne f (entryOf versionOne e) ≡ t → Fits planeFrames versionOne f (entryOf versionOne e) ⊎ Unfit f e
-      go true q = inl (fits-right planeFrames versionOne f (entryOf versionOne e) q)
-      go false q = inr (not-fits q)
+      go : (t : Bool) → fits planeFrames (formatOf v) f (entryOf (formatOf v) e) ≡ t → Fits planeFrames (formatOf v) f (entryOf (formatOf v) e) ⊎ Unfit v f e
+      go true q = inl (fits-right planeFrames (formatOf v) f (entryOf (formatOf v) e) q)
+      go false q = inr (not-fits y q)

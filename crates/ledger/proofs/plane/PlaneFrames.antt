@@ -17,9 +17,9 @@ use Rattle.format.proofs.spots.PutLaws.{stands}
 use Rattle.format.proofs.front.Stability as stability
 use Rattle.ledger.specs.Frames.{Accepted, Settable, LawfulBook}
 use Rattle.ledger.specs.Formats.{Lawful}
-use Rattle.ledger.specs.VersionOne.{versionOne}
+use Rattle.ledger.specs.Versions.{Version, formatOf, formatFor}
 use Rattle.ledger.specs.PlaneFrames.{planeFrames, plane-frames-judge}
-use Rattle.ledger.proofs.plane.VersionOneLaws.{version-one-lawful}
+use Rattle.ledger.proofs.plane.VersionLaws.{format-lawful, for-lawful}
 
 -- the verdict accepts a frame exactly where the book judges it right
 pub judges : (f : List ℕ) (g : Frame) → verdict f ≡ accepted g → planeFrames .judge f ≡ accepted tt
@@ -90,6 +90,9 @@ plane-frames-lawful = record {
       stability.put-apart f (h .frame .bytes) w s (there f w s v h) v (lawful-value f w s v h) u t (there f u t x i) x (lawful-value f u t x i) n;
 }
 
--- what demand 3's theorems ask, at document 01's frames and entries
-pub plane-frames-version-one : Lawful planeFrames versionOne
-plane-frames-version-one = record { book = plane-frames-lawful; format = version-one-lawful }
+-- what demand 3's theorems ask, at the entries of each version, and at those that a number stands for
+pub plane-lawful : (v : Version) → Lawful planeFrames (formatOf v)
+plane-lawful v = record { book = plane-frames-lawful; format = format-lawful v }
+
+pub plane-lawful-for : (n : ℕ) → Lawful planeFrames (formatFor n)
+plane-lawful-for n = record { book = plane-frames-lawful; format = for-lawful n }
