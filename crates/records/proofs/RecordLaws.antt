@@ -2,14 +2,15 @@
 -- Assumes nothing.
 use Prim.Native.Nat.{ℕ, zero, suc, _+_, _-_, _*_, _<_, _≤_}
 use mathlib.Core.Path.{_≡_, refl, sym, ap, ap₂, _∙_}
-use mathlib.Core.List.{List, []}
-use mathlib.Core.Bool.{Bool, true, false, _&&_}
+use mathlib.Core.List.{List, [], _∷_}
+use mathlib.Core.Bool.{Bool, true, false, _&&_, _||_}
+use mathlib.Core.Logic.{⊎-elim}
 use mathlib.Core.Option.{Option, none}
-use native.Mathlib.Nat.{add-sub-cancel-left}
+use native.Mathlib.Nat.{add-sub-cancel-left, mul-le-mul, mul-suc}
 use native.Mathlib.Omega.{arith}
 use lib.Dec.{eqb, leb}
 use lib.ListN.{length, getD, take, drop, length-drop, replicate}
-use lib.Seq.{take-all, length-take-le}
+use lib.Seq.{take-all, length-take-le, getD-drop}
 use borrow.Author.Tests.{leb-true, eq-eqb, ne-eqb, lt-ltb}
 use Rattle.format.specs.Words.{Bytes, wordAt, longAt}
 use Rattle.format.specs.Answers.{Outcome, accepted, refused, Done, andThen, firstOf}
@@ -22,16 +23,18 @@ use Rattle.format.proofs.items.WordLaws.{below-drop, below-take}
 use Rattle.format.proofs.spots.PutLaws.{spot-refused}
 use Rattle.ledger.specs.Tests.{all}
 use Rattle.ledger.specs.Frames.{Accepted}
-use Rattle.ledger.specs.Formats.{Entry}
-use Rattle.ledger.specs.Records.{lengthIn, countIn, totalIn, frameIn, entryOf, numbered, entriesTo, length-entries, headerRight, historyVerdict, recordVerdict}
+use Rattle.ledger.specs.Formats.{Entry, Format, size}
+use Rattle.ledger.specs.Records.{lengthIn, countIn, totalIn, frameIn, entryOf, numbered, entriesTo, entriesIn, length-entries, headerRight, historyVerdict, recordVerdict}
 use Rattle.ledger.specs.Calls.{Summary, recordAnswer, entryAnswer}
 use Rattle.ledger.specs.Judged.{Judged, judgedAt}
 use Rattle.ledger.specs.VersionOne.{versionOne}
+use Rattle.ledger.specs.VersionTwo.{versionTwo}
+use Rattle.ledger.specs.Versions.{versionFor, formatFor, formatIn, format-for}
 use Rattle.ledger.specs.PlaneFrames.{planeFrames, plane-frames-judge}
 use Rattle.ledger.proofs.records.Headers.{header-words}
+use Rattle.ledger.proofs.plane.VersionLaws.{limit-is, for-one, for-other, for-which, for-lawful}
 use Rattle.ledger.proofs.records.Judging.{verdict-parts, parts-verdict, frame-refused}
 use Rattle.records.specs.Views.{unfit, historyJudged}
-use Rattle.records.specs.Stored.{stored, storedOld}
 
 -- ---- the tests of the code, as the rules have them
 
@@ -47,27 +50,68 @@ legal-bin k v n h = rw (ne-eqb k 1 n, lt-ltb v 4294967296 h) (sym (and-true (eqb
     and-true true = refl
     and-true false = refl
 
-pub header-tests : (b : List ℕ) (a c d len e n t z : ℕ) → a ≡ wordAt b 0 → c ≡ wordAt b 1 → d ≡ wordAt b 2 → len ≡ wordAt b 3 → e ≡ wordAt b 4 → n ≡ wordAt b 5
-    → t ≡ wordAt b 6 → z ≡ wordAt b 7
-    → ((((((((leb 16 (length b) && eqb a 1) && eqb c 1) && eqb d 16) && eqb e (16 + len)) && eqb t (16 + len + 16 * n)) && eqb z 0) && leb (16 + len + 16 * n) (length b)) && leb n 512)
-    ≡ headerRight versionOne b
-unfolding headerRight all versionOne lengthIn countIn
-header-tests b a c d len e n t z ea ec ed el ee en et ez = rw (ea, ec, ed, el, ee, en, et, ez, length-entries versionOne b (wordAt b 5))
+-- the version is one that there is
+two-versions : (a : ℕ) → (eqb a 1 || eqb a 2) ≡ eqb a (formatFor a .version)
+unfolding versionOne versionTwo
+two-versions a = ⊎-elim (λ w. rw (w .1, w .0)) (λ w. rw (w .1, ne-eqb a 1 (w .0))) (for-which a)
 
--- an entry, read from the slice that it begins
-pub entry-read : (s : List ℕ) (w k old new o r : ℕ) → w ≡ wordAt s 0 → k ≡ wordAt s 1 → old ≡ longAt s 2 → new ≡ longAt s 4 → o ≡ wordAt s 6 → r ≡ wordAt s 7
-    → record { word = w; kind = k; old = old; new = new; operator = o; reason = r; extra = [] } ≡ entryOf versionOne s
-unfolding entryOf versionOne
-entry-read s w k old new o r ew ek eo en ep er = rw (ew, ek, eo, en, ep, er)
+limit-for : (a : ℕ) (es : List Entry) → formatFor a .limit es ≡ leb (length es) 512
+limit-for a es = ap (λ (F : Format). F .limit es) (format-for a) ∙ limit-is (versionFor a) es
 
--- of which its old value is put back
-pub old-put : (s f g : List ℕ) (k w old : ℕ) → k ≡ wordAt s 1 → w ≡ wordAt s 0 → old ≡ longAt s 2 → g ≡ stored f k w old → g ≡ storedOld f (entryOf versionOne s)
-unfolding entryOf versionOne
-old-put s f g k w old ek ew eo e = rw (e, ek, ew, eo)
+pub header-tests : (b : List ℕ) (a c d len e n t z size′ : ℕ) → a ≡ wordAt b 0 → c ≡ wordAt b 1 → d ≡ wordAt b 2 → len ≡ wordAt b 3 → e ≡ wordAt b 4 → n ≡ wordAt b 5
+    → t ≡ wordAt b 6 → z ≡ wordAt b 7 → size′ ≡ size (formatFor a)
+    → ((((((((leb 16 (length b) && (eqb a 1 || eqb a 2)) && eqb c 1) && eqb d 16) && eqb e (16 + len)) && eqb t (16 + len + size′ * n)) && eqb z 0) && leb (16 + len + size′ * n) (length b)) && leb n 512)
+    ≡ headerRight (formatIn b) b
+unfolding headerRight all lengthIn countIn
+header-tests b a c d len e n t z size′ ea ec ed el ee en et ez es =
+    rw (two-versions a, es, ea, ec, ed, el, ee, en, et, ez, limit-for (wordAt b 0) (entriesTo (formatFor (wordAt b 0)) b (wordAt b 5)), length-entries (formatFor (wordAt b 0)) b (wordAt b 5))
+
+-- an entry has at most 24 bytes, so that products with a count are small
+size-small : (version : ℕ) → size (formatFor version) ≤ 24
+size-small version = let x = for-lawful version .extra-small in omega arith
+
+pub product-small : (version s n : ℕ) → s ≡ size (formatFor version) → n < 65536 → s * n ≤ 1572864
+product-small version s n e h =
+    let k = size-small version in
+    let m : s * n ≤ 24 * 65536 = mul-le-mul (let l : s ≤ 24 = omega arith in l) (let l : n ≤ 65536 = omega arith in l) in
+    omega arith
+
+-- ---- an entry, read from the slice that it begins
+pub entry-read : (s x : List ℕ) (version w k old new o r : ℕ) → w ≡ wordAt s 0 → k ≡ wordAt s 1 → old ≡ longAt s 2 → new ≡ longAt s 4 → o ≡ wordAt s 6 → r ≡ wordAt s 7
+    → x ≡ formatFor version .read (drop 16 s)
+    → record { word = w; kind = k; old = old; new = new; operator = o; reason = r; extra = x } ≡ entryOf (formatFor version) s
+unfolding entryOf
+entry-read s x version w k old new o r ew ek eo en ep er ex = rw (ew, ek, eo, en, ep, er, ex)
+
+pub size-one : (version : ℕ) → version ≡ 1 → 16 ≡ size (formatFor version)
+unfolding versionOne
+size-one version e = sym (ap (λ (F : Format). size F) (for-one version e))
+
+pub size-two : (version : ℕ) → (version ≡ 1 → ⊥) → 24 ≡ size (formatFor version)
+unfolding versionTwo
+size-two version e = sym (ap (λ (F : Format). size F) (for-other version e))
+
+pub size-least : (version : ℕ) → 16 ≤ size (formatFor version)
+size-least version = omega arith
+
+-- what it keeps after the reason
+pub nothing-kept : (s : List ℕ) (version : ℕ) → version ≡ 1 → [] ≡ formatFor version .read (drop 16 s)
+unfolding versionOne
+nothing-kept s version e = sym (ap (λ (F : Format). F .read (drop 16 s)) (for-one version e))
+
+word-behind : (s : List ℕ) (i : ℕ) → wordAt (drop 16 s) i ≡ wordAt s (8 + i)
+word-behind s i = ap₂ (λ (a b : ℕ). a + 256 * b) (getD-drop 16 s (2 * i) 0 ∙ ap (λ (k : ℕ). getD s k 0) (let q : 16 + 2 * i ≡ 2 * (8 + i) = omega arith in q)) (getD-drop 16 s (2 * i + 1) 0 ∙ ap (λ (k : ℕ). getD s k 0) (let q : 16 + (2 * i + 1) ≡ 2 * (8 + i) + 1 = omega arith in q))
+
+pub stamp-kept : (s : List ℕ) (version low high time desk : ℕ) → (version ≡ 1 → ⊥) → low ≡ longAt s 8 → high ≡ wordAt s 10 → desk ≡ wordAt s 11 → time ≡ low + 4294967296 * high
+    → time ∷ desk ∷ [] ≡ formatFor version .read (drop 16 s)
+unfolding versionTwo
+stamp-kept s version low high time desk n el eh ed et =
+    ap₂ (λ (t d : ℕ). t ∷ d ∷ []) (et ∙ rw (el, eh, word-behind s 0, word-behind s 1, word-behind s 2)) (ed ∙ sym (word-behind s 3))
+    ∙ sym (ap (λ (F : Format). F .read (drop 16 s)) (for-other version n))
 
 -- and from the part of a buffer that begins at byte `at`
-pub entry-from : (b : List ℕ) (at : ℕ) (e : Entry) → e ≡ entryOf versionOne (take (length b - at) (drop at b)) → at ≤ length b → e ≡ entryOf versionOne (drop at b)
-entry-from b at e i h = i ∙ ap (entryOf versionOne) (take-all (length b - at) (drop at b) (rw (length-drop at b) (omega arith)))
+pub entry-from : (F : Format) (b : List ℕ) (at : ℕ) (e : Entry) → e ≡ entryOf F (take (length b - at) (drop at b)) → at ≤ length b → e ≡ entryOf F (drop at b)
+entry-from F b at e i h = i ∙ ap (entryOf F) (take-all (length b - at) (drop at b) (rw (length-drop at b) (omega arith)))
 
 -- ---- the frame's verdict
 
@@ -109,86 +153,87 @@ frame-part b len e = rw (add-sub-cancel-left 16 len, e)
 pub frame-bytes : (b : List ℕ) → Bytes b → Bytes (frameIn b)
 frame-bytes b y = below-take (lengthIn b) (drop 16 b) 256 (omega arith) (below-drop 16 b 256 y)
 
-pub record Room (b : List ℕ) : Type 0 where
-  pub within : 16 + lengthIn b + 16 * countIn b ≤ length b
+pub record Room (F : Format) (b : List ℕ) : Type 0 where
+  pub total : wordAt b 6 ≡ totalIn F b
+  pub within : totalIn F b ≤ length b
+  pub few : F .limit (entriesIn F b) ≡ true
   pub frame : length (frameIn b) ≡ lengthIn b
 
-pub room : (b : List ℕ) → headerRight versionOne b ≡ true → Room b
-unfolding versionOne
-room b h =
-    let w = header-words versionOne b h in
-    let r : 16 + lengthIn b + 16 * countIn b ≤ length b = w .room in
-    record { within = r; frame = length-take-le (lengthIn b) (drop 16 b) (rw (length-drop 16 b) (omega arith)) }
+pub room : (F : Format) (b : List ℕ) → headerRight F b ≡ true → Room F b
+room F b h =
+    let w = header-words F b h in
+    let r : totalIn F b ≤ length b = w .room in
+    record { total = w .total; within = r; few = w .limit; frame = length-take-le (lengthIn b) (drop 16 b) (rw (length-drop 16 b) (omega arith)) }
 
 -- ---- answers
 
 abbrev pub lengths : Judged → Summary
 lengths j = record { length = j .length; count = j .count; total = j .total }
 
-module _ (b : List ℕ) (w : ℕ) where
-  pub wrong-header : headerRight versionOne b ≡ false → refused 20 0 ≡ judgedAt planeFrames versionOne b w
+module _ (F : Format) (b : List ℕ) (w : ℕ) where
+  pub wrong-header : headerRight F b ≡ false → refused 20 0 ≡ judgedAt planeFrames F b w
   unfolding judgedAt recordVerdict firstOf
   wrong-header h = rw h
 
-  pub wrong-frame : (n p : ℕ) → headerRight versionOne b ≡ true → planeFrames .judge (frameIn b) ≡ refused n p → refused n p ≡ judgedAt planeFrames versionOne b w
+  pub wrong-frame : (n p : ℕ) → headerRight F b ≡ true → planeFrames .judge (frameIn b) ≡ refused n p → refused n p ≡ judgedAt planeFrames F b w
   unfolding judgedAt
-  wrong-frame n p h j = rw (frame-refused planeFrames versionOne b n p (header-words versionOne b h) j)
+  wrong-frame n p h j = rw (frame-refused planeFrames F b n p (header-words F b h) j)
 
-  pub right-frame : headerRight versionOne b ≡ true → planeFrames .judge (frameIn b) ≡ accepted tt
-      → (len n total : ℕ) → len ≡ lengthIn b → n ≡ countIn b → total ≡ 16 + len + 16 * n → (f : List ℕ) → f ≡ frameIn b
-      → (o : Outcome Judged) → o ≡ historyJudged f b (record { length = len; count = n; total = total }) w → o ≡ judgedAt planeFrames versionOne b w
-  unfolding judgedAt historyJudged versionOne
-  right-frame h j len n total el en et f ef o eo = eo ∙ rw (parts-verdict planeFrames versionOne b h j, et, ef, el, en)
+  pub right-frame : headerRight F b ≡ true → planeFrames .judge (frameIn b) ≡ accepted tt
+      → (len n total : ℕ) → len ≡ lengthIn b → n ≡ countIn b → total ≡ totalIn F b → (f : List ℕ) → f ≡ frameIn b
+      → (o : Outcome Judged) → o ≡ historyJudged F f b (record { length = len; count = n; total = total }) w → o ≡ judgedAt planeFrames F b w
+  unfolding judgedAt historyJudged
+  right-frame h j len n total el en et f ef o eo = eo ∙ rw (parts-verdict planeFrames F b h j, et, ef, el, en)
 
   -- the record's answer is what is told, without what stands at the word
-  judged-told : andThen (judgedAt planeFrames versionOne b w) (λ j. accepted (lengths j)) ≡ recordAnswer planeFrames versionOne b
+  judged-told : andThen (judgedAt planeFrames F b w) (λ j. accepted (lengths j)) ≡ recordAnswer planeFrames F b
   unfolding judgedAt recordAnswer
-  judged-told = go (recordVerdict planeFrames versionOne b)
+  judged-told = go (recordVerdict planeFrames F b)
     where
       here : Judged
-      here = record { length = lengthIn b; count = countIn b; total = totalIn versionOne b; spot = planeFrames .spot (frameIn b) w }
+      here = record { length = lengthIn b; count = countIn b; total = totalIn F b; spot = planeFrames .spot (frameIn b) w }
 
       go : (v : Done) → andThen (andThen v (λ u. accepted here)) (λ j. accepted (lengths j)) ≡ andThen v (λ u. accepted (lengths here))
       go (accepted u) = refl
       go (refused n p) = refl
 
-  pub record-told : (o : Outcome Judged) → o ≡ judgedAt planeFrames versionOne b w → andThen o (λ j. accepted (lengths j)) ≡ recordAnswer planeFrames versionOne b
+  pub record-told : (o : Outcome Judged) → o ≡ judgedAt planeFrames F b w → andThen o (λ j. accepted (lengths j)) ≡ recordAnswer planeFrames F b
   record-told o e = ap (λ (i : Outcome Judged). andThen i (λ j. accepted (lengths j))) e ∙ judged-told
 
 -- the walk back over the entries, and what stands at the word
-module _ (f b : List ℕ) (x : Summary) (w bad : ℕ) (e : unfit bad ≡ historyVerdict planeFrames versionOne f (entriesTo versionOne b (x .count))) where
-  pub told-accepted : bad ≡ 0 → (o : Option Spot) → o ≡ planeFrames .spot f w → accepted (record { length = x .length; count = x .count; total = x .total; spot = o }) ≡ historyJudged f b x w
+module _ (F : Format) (f b : List ℕ) (x : Summary) (w bad : ℕ) (e : unfit bad ≡ historyVerdict planeFrames F f (entriesTo F b (x .count))) where
+  pub told-accepted : bad ≡ 0 → (o : Option Spot) → o ≡ planeFrames .spot f w → accepted (record { length = x .length; count = x .count; total = x .total; spot = o }) ≡ historyJudged F f b x w
   unfolding historyJudged
   told-accepted z o q =
-      let v : historyVerdict planeFrames versionOne f (entriesTo versionOne b (x .count)) ≡ accepted tt = sym e ∙ rw (eq-eqb bad 0 z) in
+      let v : historyVerdict planeFrames F f (entriesTo F b (x .count)) ≡ accepted tt = sym e ∙ rw (eq-eqb bad 0 z) in
       rw (v, q)
 
-  pub told-refused : (bad ≡ 0 → ⊥) → refused 21 bad ≡ historyJudged f b x w
+  pub told-refused : (bad ≡ 0 → ⊥) → refused 21 bad ≡ historyJudged F f b x w
   unfolding historyJudged
   told-refused n =
-      let v : historyVerdict planeFrames versionOne f (entriesTo versionOne b (x .count)) ≡ refused 21 bad = sym e ∙ rw (ne-eqb bad 0 n) in
+      let v : historyVerdict planeFrames F f (entriesTo F b (x .count)) ≡ refused 21 bad = sym e ∙ rw (ne-eqb bad 0 n) in
       rw v
 
 -- what an accepted record tells
-pub record RecordKnown (b : List ℕ) (x : Summary) : Type 0 where
-  pub verdict : recordVerdict planeFrames versionOne b ≡ accepted tt
-  pub header : headerRight versionOne b ≡ true
+pub record RecordKnown (F : Format) (b : List ℕ) (x : Summary) : Type 0 where
+  pub verdict : recordVerdict planeFrames F b ≡ accepted tt
+  pub header : headerRight F b ≡ true
   pub judged : planeFrames .judge (frameIn b) ≡ accepted tt
   pub length : x .length ≡ lengthIn b
   pub count : x .count ≡ countIn b
-  pub total : x .total ≡ totalIn versionOne b
+  pub total : x .total ≡ totalIn F b
 
-pub record-known : (b : List ℕ) (x : Summary) → accepted x ≡ recordAnswer planeFrames versionOne b → RecordKnown b x
+pub record-known : (F : Format) (b : List ℕ) (x : Summary) → accepted x ≡ recordAnswer planeFrames F b → RecordKnown F b x
 unfolding recordAnswer
-record-known b x e = go (recordVerdict planeFrames versionOne b) refl e
+record-known F b x e = go (recordVerdict planeFrames F b) refl e
   where
     inner : (x y : Summary) → accepted x ≡ accepted y → x ≡ y
     inner x y q = cc
 
-    go : (o : Done) → recordVerdict planeFrames versionOne b ≡ o → accepted x ≡ andThen o (λ u. accepted (record { length = lengthIn b; count = countIn b; total = totalIn versionOne b })) → RecordKnown b x
+    go : (o : Done) → recordVerdict planeFrames F b ≡ o → accepted x ≡ andThen o (λ u. accepted (record { length = lengthIn b; count = countIn b; total = totalIn F b })) → RecordKnown F b x
     go (accepted u) v q =
         let i = inner _ _ q in
-        let p = verdict-parts planeFrames versionOne b v in
+        let p = verdict-parts planeFrames F b v in
         record { verdict = v; header = p .0; judged = p .1; length = ap (λ (y : Summary). y .length) i; count = ap (λ (y : Summary). y .count) i; total = ap (λ (y : Summary). y .total) i }
     go (refused n p) v q = let z : _≡_ {A = ℕ} 0 1 = cc in absurd (omega arith)
 
@@ -203,24 +248,46 @@ verdict-refused (refused m q) y n p e = let f : refused n p ≡ refused m q = e 
     place : (m q n p : ℕ) → _≡_ {A = Outcome Summary} (refused m q) (refused n p) → p ≡ q
     place m q n p f = cc
 
-module _ (b : List ℕ) (n p : ℕ) (e : refused n p ≡ recordAnswer planeFrames versionOne b) where
-  refused-there : recordVerdict planeFrames versionOne b ≡ refused n p
+module _ (F : Format) (b : List ℕ) (n p : ℕ) (e : refused n p ≡ recordAnswer planeFrames F b) where
+  refused-there : recordVerdict planeFrames F b ≡ refused n p
   unfolding recordAnswer
-  refused-there = verdict-refused (recordVerdict planeFrames versionOne b) _ n p e
+  refused-there = verdict-refused (recordVerdict planeFrames F b) _ n p e
 
-  pub entry-refused : (j : ℕ) → refused n p ≡ entryAnswer planeFrames versionOne b j
+  pub entry-refused : (j : ℕ) → refused n p ≡ entryAnswer planeFrames F b j
   unfolding entryAnswer
   entry-refused j = rw refused-there
 
-module _ (b : List ℕ) (x : Summary) (t : RecordKnown b x) where
-  pub entry-none : (j : ℕ) → (leb 1 j && leb j (x .count)) ≡ false → refused 26 0 ≡ entryAnswer planeFrames versionOne b j
+module _ (F : Format) (b : List ℕ) (x : Summary) (t : RecordKnown F b x) where
+  -- an entry that is numbered lies in the buffer
+  pub entry-inside : (j : ℕ) → 1 ≤ j → j ≤ x .count → 16 + x .length + size F * (j - 1) + size F ≤ length b
+  entry-inside zero l h = absurd (omega arith)
+  entry-inside (suc p) l h =
+      let n : suc p - 1 ≡ p = omega arith in
+      let k = mul-suc (size F) p in
+      let c = t .count in
+      let len = t .length in
+      let r = room F b (t .header) .within in
+      let s : size F ≤ size F = omega arith in
+      let q : suc p ≤ countIn b = omega arith in
+      let m : size F * suc p ≤ size F * countIn b = mul-le-mul s q in
+      rw n (let g : 16 + x .length + size F * p + size F ≤ length b = omega arith in g)
+
+  pub entry-none : (j : ℕ) → (leb 1 j && leb j (x .count)) ≡ false → refused 26 0 ≡ entryAnswer planeFrames F b j
   unfolding entryAnswer
   entry-none j h = let g : (leb 1 j && leb j (countIn b)) ≡ false = rw (t .count) at h in rw (t .verdict, g)
 
-  pub entry-there : (j : ℕ) (e : Entry) → (leb 1 j && leb j (x .count)) ≡ true → e ≡ entryOf versionOne (drop (16 + x .length + 16 * (j - 1)) b)
-      → accepted e ≡ entryAnswer planeFrames versionOne b j
-  unfolding entryAnswer numbered versionOne
+  pub entry-there : (j : ℕ) (e : Entry) → (leb 1 j && leb j (x .count)) ≡ true → e ≡ entryOf F (drop (16 + x .length + size F * (j - 1)) b)
+      → accepted e ≡ entryAnswer planeFrames F b j
+  unfolding entryAnswer numbered
   entry-there j e h i = let g : (leb 1 j && leb j (countIn b)) ≡ true = rw (t .count) at h in rw (t .verdict, g, i, t .length)
+
+-- the same where the version was read from the buffer, and the size of an entry found by it
+pub entry-numbered : (b : List ℕ) (x : Summary) → RecordKnown (formatIn b) b x → (j version s : ℕ) (e : Entry) → (leb 1 j && leb j (x .count)) ≡ true
+    → version ≡ wordAt b 0 → s ≡ size (formatFor version)
+    → e ≡ entryOf (formatFor version) (take (length b - (16 + x .length + s * (j - 1))) (drop (16 + x .length + s * (j - 1)) b)) → 16 + x .length + s * (j - 1) ≤ length b
+    → accepted e ≡ entryAnswer planeFrames (formatIn b) b j
+entry-numbered b x t j version s e h v z i l =
+    entry-there (formatIn b) b x t j e h (entry-from (formatFor version) b (16 + x .length + s * (j - 1)) e i l ∙ rw (z, v))
 
 -- ---- what the words of a right header tell
 
@@ -242,6 +309,13 @@ module _ (b : List ℕ) (len : ℕ) where
 -- an entry number from 1 to the count
 pub numbers : (j n : ℕ) → (leb 1 j && leb j n) ≡ true → (1 ≤ j) × (j ≤ n)
 numbers j n e = (leb-true 1 j (and-left (leb 1 j) (leb j n) e), leb-true j n (and-right (leb 1 j) (leb j n) e))
+
+-- at most 512 entries stand
+pub few-entries : (b : List ℕ) → headerRight (formatIn b) b ≡ true → countIn b ≤ 512
+few-entries b h =
+    let l = leb-true (length (entriesIn (formatIn b) b)) 512 (sym (limit-for (wordAt b 0) (entriesIn (formatIn b) b)) ∙ room (formatIn b) b h .few) in
+    let n = length-entries (formatIn b) b (countIn b) in
+    omega arith
 
 -- a part of a list of zeros
 pub zeros : (n i : ℕ) → _≡_ {A = ℕ} (getD (replicate n 0) i 0) 0

@@ -3,14 +3,17 @@
 -- Assumes nothing.
 use Prim.Native.Nat.{ℕ, zero, suc, _+_, _-_, _*_, _<_, _≤_}
 use mathlib.Core.Path.{_≡_, refl, sym, ap, subst, _∙_}
-use mathlib.Core.List.{List, []}
+use mathlib.Core.List.{List, [], _∷_}
 use mathlib.Core.Bool.{Bool, true, false, not, _&&_}
+use mathlib.Core.Logic.{⊎-elim, by-cases}
 use mathlib.Core.Option.{Option, none, some}
 use native.Mathlib.Omega.{arith}
-use lib.Dec.{eqb}
+use native.Mathlib.Nat.{mul-suc}
+use native.Mathlib.Decide.{decLt}
+use lib.Dec.{eqb, leb, ltb}
 use lib.ListN.{length, getD, take, drop, length-drop}
 use lib.Seq.{sets, length-take-le}
-use borrow.Author.Tests.{eqb-true, ne-eqb}
+use borrow.Author.Tests.{eqb-true, ne-eqb, lt-ltb, le-ltb, le-leb, lt-leb}
 use Rattle.format.specs.Words.{Bytes, bytes}
 use Rattle.format.specs.Answers.{Done}
 use Rattle.format.specs.Items.{ItemOf, Item, Channel, Histogram, HitCount, Sample, Bin, LastCell, TimeBin, Text, StartEvent, ContinueEvent, EndEvent, wordsOf}
@@ -24,13 +27,17 @@ use Rattle.format.proofs.reader.CursorLaws.{next-there}
 use Rattle.format.proofs.spots.ScanLaws.{spot-by, by-noted, no-spot, noted-there, put-heads}
 use Rattle.ledger.specs.Tests.{all}
 use Rattle.ledger.specs.Frames.{Accepted, Settable}
-use Rattle.ledger.specs.Formats.{Entry}
+use Rattle.ledger.specs.Formats.{Entry, Format, size}
 use Rattle.ledger.specs.Records.{lengthIn, entryOf, numbered, entriesTo, signed, before, fitsItem, fits, historyVerdict}
 use Rattle.ledger.specs.Chains.{Fits}
 use Rattle.ledger.specs.VersionOne.{versionOne}
+use Rattle.ledger.specs.VersionTwo.{versionTwo}
+use Rattle.ledger.specs.Versions.{formatFor}
 use Rattle.ledger.specs.PlaneFrames.{planeFrames, plane-frames-spot}
 use Rattle.ledger.proofs.records.Judging.{fits-right}
 use Rattle.format.proofs.items.StoringLaws.{sets-whole}
+use Rattle.ledger.proofs.records.Codecs.{numbered-suc}
+use Rattle.ledger.proofs.plane.VersionLaws.{for-which}
 use Rattle.ledger.proofs.records.Walking.{judge-none, judge-back, judge-stop}
 use Rattle.ledger.proofs.plane.PlaneFrames.{stands-there, plane-frames-lawful}
 use Rattle.records.specs.Views.{unfit}
@@ -38,9 +45,9 @@ use Rattle.records.specs.Stored.{stored, Inside}
 use Rattle.records.specs.Undoing.{Heads, Undoing}
 use Rattle.records.proofs.RecordLaws.{entry-from}
 
-and-true : (a : Bool) → (a && true) ≡ a
-and-true true = refl
-and-true false = refl
+and-split : (a b c : Bool) → (a && (b && c)) ≡ ((a && b) && c)
+and-split true b c = refl
+and-split false b c = refl
 
 -- the words of an item that stands there lie in the frame
 item-inside : (s : List ℕ) → Bytes s → (w : ℕ) (p : Spot) → spot s w ≡ some p → Inside (p .kind) w s
@@ -69,10 +76,6 @@ item-inside s y w p e =
     by-item (ContinueEvent i) k q b = no-some p q
     by-item (EndEvent i) k q b = no-some p q
 
--- an entry with nothing after the reason
-abbrev plain : ℕ → ℕ → ℕ → ℕ → ℕ → ℕ → Entry
-plain w k old new o r = record { word = w; kind = k; old = old; new = new; operator = o; reason = r; extra = [] }
-
 -- what the map and the item answered there tell of word w
 module _ (map f : List ℕ) (g : Undoing map f) (w : ℕ) where
   -- the item that begins there lies between the first three words and the last
@@ -97,35 +100,56 @@ module _ (map f : List ℕ) (g : Undoing map f) (w : ℕ) where
     pub spot-told : (h : ℕ) → h ≡ getD map w 0 → (k : Header) → k ≡ headerAt f h → (o : Option Spot) → o ≡ spotOf k z → o ≡ planeFrames .spot f w
     spot-told h i k j o q = q ∙ ap (λ (k : Header). spotOf k z) (j ∙ ap (headerAt f) i) ∙ sym stands-here
 
-  module _ (k old new o r : ℕ) where
-    pub unnoted-fits : getD map w 0 ≡ 0 → false ≡ fits planeFrames versionOne f (plain w k old new o r)
+  module _ (F : Format) (e : Entry) (at : e .word ≡ w) where
+    pub unnoted-fits : getD map w 0 ≡ 0 → false ≡ fits planeFrames F f e
     unfolding fits
-    unnoted-fits z = rw (← none-noted z)
+    unnoted-fits z = rw (at, ← none-noted z)
 
-    pub nothing-fits : none ≡ shownBy (standingAt f w) → false ≡ fits planeFrames versionOne f (plain w k old new o r)
+    pub nothing-fits : none ≡ shownBy (standingAt f w) → false ≡ fits planeFrames F f e
     unfolding fits
-    nothing-fits e = rw (← none-stands e)
+    nothing-fits i = rw (at, ← none-stands i)
 
-    module _ (n : 1 ≤ getD map w 0) (z : ItemOf ℕ) (next : ℕ) (e : some (record { item = z; next = next }) ≡ shownBy (standingAt f w)) where
-      pub other-fits : ((h : Header) → none ≡ spotOf h z) → false ≡ fits planeFrames versionOne f (plain w k old new o r)
+    module _ (n : 1 ≤ getD map w 0) (z : ItemOf ℕ) (next : ℕ) (shown : some (record { item = z; next = next }) ≡ shownBy (standingAt f w)) where
+      pub other-fits : ((h : Header) → none ≡ spotOf h z) → false ≡ fits planeFrames F f e
       unfolding fits
-      other-fits i = rw (stands-here n z next e, ← i (headerAt f (getD map w 0)))
+      other-fits i = rw (at, stands-here n z next shown, ← i (headerAt f (getD map w 0)))
 
       pub item-fits : (t : Bool) (kind value : ℕ) → ((h : Header) → some (record { kind = kind; value = value; header = h }) ≡ spotOf h z)
-          → ((h : Header) → t ≡ fitsItem planeFrames versionOne (plain w k old new o r) (record { kind = kind; value = value; header = h })) → t ≡ fits planeFrames versionOne f (plain w k old new o r)
+          → ((h : Header) → t ≡ fitsItem planeFrames F e (record { kind = kind; value = value; header = h })) → t ≡ fits planeFrames F f e
       unfolding fits
-      item-fits t kind value i q = q (headerAt f (getD map w 0)) ∙ sym (rw (stands-here n z next e, ← i (headerAt f (getD map w 0))))
+      item-fits t kind value i q = q (headerAt f (getD map w 0)) ∙ sym (rw (at, stands-here n z next shown, ← i (headerAt f (getD map w 0))))
 
 -- the tests of an entry at an item: its kind is asked first, so that its legal values may be asked of either kind
-pub item-tests : (w k old new o r kind value : ℕ) (lawful named : Bool) → lawful ≡ legalValue kind old → named ≡ signed o r → (h : Header)
-    → ((((eqb kind k && eqb value new) && lawful) && not (eqb old new)) && named) ≡ fitsItem planeFrames versionOne (plain w k old new o r) (record { kind = kind; value = value; header = h })
-unfolding fitsItem all versionOne planeFrames
-item-tests w k old new o r kind value lawful named l i h = go (eqb kind k) refl
+pub item-tests : (F : Format) (e : Entry) (kind value : ℕ) (lawful named kept : Bool) → lawful ≡ legalValue kind (e .old) → named ≡ signed (e .operator) (e .reason)
+    → ((s : Spot) → kept ≡ (F .good (e .extra) && F .suits (e .extra) s)) → (h : Header)
+    → (((((eqb kind (e .kind) && eqb value (e .new)) && lawful) && not (eqb (e .old) (e .new))) && named) && kept) ≡ fitsItem planeFrames F e (record { kind = kind; value = value; header = h })
+unfolding fitsItem all planeFrames
+item-tests F e kind value lawful named kept l i k h = go (eqb kind (e .kind)) refl
   where
-    go : (b : Bool) → eqb kind k ≡ b
-        → ((((eqb kind k && eqb value new) && lawful) && not (eqb old new)) && named) ≡ fitsItem planeFrames versionOne (plain w k old new o r) (record { kind = kind; value = value; header = h })
-    go true e = let m : lawful ≡ legalValue k old = l ∙ ap (λ (x : ℕ). legalValue x old) (eqb-true kind k e) in rw (m, i) (sym (and-true _ ∙ and-true _))
-    go false e = rw e
+    go : (b : Bool) → eqb kind (e .kind) ≡ b
+        → (((((eqb kind (e .kind) && eqb value (e .new)) && lawful) && not (eqb (e .old) (e .new))) && named) && kept) ≡ fitsItem planeFrames F e (record { kind = kind; value = value; header = h })
+    go true q =
+        let m : lawful ≡ legalValue (e .kind) (e .old) = l ∙ ap (λ (x : ℕ). legalValue x (e .old)) (eqb-true kind (e .kind) q) in
+        rw (m, i, k (record { kind = kind; value = value; header = h }))
+        (and-split ((((eqb kind (e .kind) && eqb value (e .new)) && legalValue (e .kind) (e .old)) && not (eqb (e .old) (e .new))) && signed (e .operator) (e .reason)) (F .good (e .extra)) (F .suits (e .extra) (record { kind = kind; value = value; header = h })))
+    go false q = rw q
+
+-- what an entry keeps: nothing in version 1, a time and desk 0 in version 2
+pub stamp-missing : (version : ℕ) (s : Spot) → eqb version 1 ≡ (formatFor version .good [] && formatFor version .suits [] s)
+unfolding versionOne versionTwo
+stamp-missing version s = ⊎-elim (λ w. rw (w .1, w .0)) (λ w. rw (w .1, ne-eqb version 1 (w .0))) (for-which version)
+
+pub stamp-given : (version time desk : ℕ) → desk < 65536 → (s : Spot)
+    → ((not (eqb version 1) && leb time 281474976710655) && eqb desk 0) ≡ (formatFor version .good (time ∷ desk ∷ []) && formatFor version .suits (time ∷ desk ∷ []) s)
+unfolding versionOne versionTwo
+stamp-given version time desk d s = ⊎-elim (λ w. rw (w .1, w .0)) (λ w. rw (w .1, ne-eqb version 1 (w .0), lt-ltb desk 65536 d, below time) (and-mid (leb time 281474976710655) (eqb desk 0))) (for-which version)
+  where
+    below : (t : ℕ) → ltb t 281474976710656 ≡ leb t 281474976710655
+    below t = by-cases (decLt t 281474976710656) (λ h. lt-ltb t 281474976710656 h ∙ sym (le-leb t 281474976710655 (omega arith))) (λ h. let n : t < 281474976710656 → ⊥ = h in le-ltb t 281474976710656 (omega arith) ∙ sym (lt-leb t 281474976710655 (omega arith)))
+
+    and-mid : (a b : Bool) → (a && b) ≡ ((a && true) && b)
+    and-mid true b = refl
+    and-mid false b = refl
 
 -- ---- undoing
 
@@ -134,9 +158,9 @@ pub stored-put : (f : List ℕ) (w v : ℕ) (s : Spot) → Settable planeFrames 
 unfolding stored planeFrames
 stored-put f w v s h = rw (h .legal) (sym (put-stores f w v s (stands-there f w s (h .stands))))
 
-module _ (f : List ℕ) (a : Accepted planeFrames f) (e : Entry) (h : fits planeFrames versionOne f e ≡ true) where
-  fitting : Fits planeFrames versionOne f e
-  fitting = fits-right planeFrames versionOne f e h
+module _ (F : Format) (f : List ℕ) (a : Accepted planeFrames f) (e : Entry) (h : fits planeFrames F f e ≡ true) where
+  fitting : Fits planeFrames F f e
+  fitting = fits-right planeFrames F f e h
 
   settable : Settable planeFrames f (e .word) (e .old) (fitting .spot)
   settable = record { frame = a; stands = fitting .stands; legal = ap (λ (k : ℕ). planeFrames .legal k (e .old)) (fitting .kind) ∙ fitting .old }
@@ -170,27 +194,40 @@ module _ (f : List ℕ) (a : Accepted planeFrames f) (e : Entry) (h : fits plane
 pub part-long : (b : List ℕ) (at : ℕ) → length (take (length b - at) (drop at b)) ≡ length b - at
 part-long b at = length-take-le (length b - at) (drop at b) (rw (length-drop at b) (omega arith))
 
-numbered-at : (b : List ℕ) (h p at : ℕ) → h ≡ 16 + lengthIn b → at ≡ h + 16 * (suc p - 1) → entryOf versionOne (drop at b) ≡ numbered versionOne b (suc p)
-unfolding numbered versionOne
-numbered-at b h p at e q = rw (q, e)
+numbered-at : (F : Format) (b : List ℕ) (p at : ℕ) → at ≡ 16 + lengthIn b + size F * p → entryOf F (drop at b) ≡ numbered F b (suc p)
+numbered-at F b p at q = sym (numbered-suc F b p ∙ ap (λ (i : ℕ). entryOf F (drop i b)) (sym q))
 
-module _ (f b : List ℕ) (h : ℕ) (k : h ≡ 16 + lengthIn b) (e : Entry) where
-  pub turn-back : (m at : ℕ) → 0 < m → e ≡ entryOf versionOne (take (length b - at) (drop at b)) → at ≤ length b → at ≡ h + 16 * (m - 1) → fits planeFrames versionOne f e ≡ true → (g : List ℕ) → g ≡ before planeFrames f e
-      → historyVerdict planeFrames versionOne g (entriesTo versionOne b (m - 1)) ≡ historyVerdict planeFrames versionOne f (entriesTo versionOne b m)
+-- the newest of m entries that end at byte `at` begins its own size lower
+pub record Lower (F : Format) (b : List ℕ) (m s at : ℕ) : Type 0 where
+  pub least : s ≤ at
+  pub begins : at - s ≡ 16 + lengthIn b + size F * (m - 1)
+  pub whole : size F ≤ length b - (at - s)
+
+pub lower : (F : Format) (b : List ℕ) (m s at : ℕ) → 0 < m → at ≡ 16 + lengthIn b + size F * m → at ≤ length b → s ≡ size F → Lower F b m s at
+lower F b zero s at l q r z = absurd (omega arith)
+lower F b (suc p) s at l q r z =
+    let n : suc p - 1 ≡ p = omega arith in
+    let k = mul-suc (size F) p in
+    record { least = omega arith; begins = rw n (let g : at - s ≡ 16 + lengthIn b + size F * p = omega arith in g); whole = omega arith }
+
+module _ (F : Format) (f b : List ℕ) (e : Entry) where
+  pub turn-back : (m at : ℕ) → 0 < m → e ≡ entryOf F (take (length b - at) (drop at b)) → at ≤ length b → at ≡ 16 + lengthIn b + size F * (m - 1) → fits planeFrames F f e ≡ true → (g : List ℕ) → g ≡ before planeFrames f e
+      → historyVerdict planeFrames F g (entriesTo F b (m - 1)) ≡ historyVerdict planeFrames F f (entriesTo F b m)
   turn-back zero at l i v w t g q = absurd (omega arith)
   turn-back (suc p) at l i v w t g q =
       let n : suc p - 1 ≡ p = omega arith in
-      let j : e ≡ numbered versionOne b (suc p) = entry-from b at e i v ∙ numbered-at b h p at k w in
-      rw (n, q, j) (sym (judge-back planeFrames versionOne f b p (rw j at t)))
+      let j : e ≡ numbered F b (suc p) = entry-from F b at e i v ∙ numbered-at F b p at (rw n at w) in
+      rw (n, q, j) (sym (judge-back planeFrames F f b p (rw j at t)))
 
-  pub turn-stop : (m at : ℕ) → 0 < m → e ≡ entryOf versionOne (take (length b - at) (drop at b)) → at ≤ length b → at ≡ h + 16 * (m - 1) → fits planeFrames versionOne f e ≡ false → unfit m ≡ historyVerdict planeFrames versionOne f (entriesTo versionOne b m)
+  pub turn-stop : (m at : ℕ) → 0 < m → e ≡ entryOf F (take (length b - at) (drop at b)) → at ≤ length b → at ≡ 16 + lengthIn b + size F * (m - 1) → fits planeFrames F f e ≡ false → unfit m ≡ historyVerdict planeFrames F f (entriesTo F b m)
   turn-stop zero at l i v w t = absurd (omega arith)
   turn-stop (suc p) at l i v w t =
-      let j : e ≡ numbered versionOne b (suc p) = entry-from b at e i v ∙ numbered-at b h p at k w in
-      rw (ne-eqb (suc p) 0 (λ z. omega arith)) (sym (judge-stop planeFrames versionOne f b p (rw j at t)))
+      let n : suc p - 1 ≡ p = omega arith in
+      let j : e ≡ numbered F b (suc p) = entry-from F b at e i v ∙ numbered-at F b p at (rw n at w) in
+      rw (ne-eqb (suc p) 0 (λ z. omega arith)) (sym (judge-stop planeFrames F f b p (rw j at t)))
 
-pub turn-done : (f b : List ℕ) (m : ℕ) → m ≤ 0 → unfit 0 ≡ historyVerdict planeFrames versionOne f (entriesTo versionOne b m)
-turn-done f b m l = let z : m ≡ 0 = omega arith in rw z (sym (judge-none planeFrames versionOne f b))
+pub turn-done : (F : Format) (f b : List ℕ) (m : ℕ) → m ≤ 0 → unfit 0 ≡ historyVerdict planeFrames F f (entriesTo F b m)
+turn-done F f b m l = let z : m ≡ 0 = omega arith in rw z (sym (judge-none planeFrames F f b))
 
 -- ---- a copy of the frame
 
@@ -201,5 +238,5 @@ module _ (frame found g : List ℕ) (l : length found ≡ length frame) (e : g �
   pub undoing-start : Accepted planeFrames frame → (map : List ℕ) → Heads frame map → Undoing map g
   undoing-start a map k = subst (Undoing map) (sym copied) (record { frame = a; heads = k })
 
-  pub same-history : (es : List Entry) (o : Done) → o ≡ historyVerdict planeFrames versionOne g es → o ≡ historyVerdict planeFrames versionOne frame es
-  same-history es o q = q ∙ ap (λ (s : List ℕ). historyVerdict planeFrames versionOne s es) copied
+  pub same-history : (F : Format) (es : List Entry) (o : Done) → o ≡ historyVerdict planeFrames F g es → o ≡ historyVerdict planeFrames F frame es
+  same-history F es o q = q ∙ ap (λ (s : List ℕ). historyVerdict planeFrames F s es) copied

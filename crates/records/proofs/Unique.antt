@@ -1,11 +1,11 @@
 -- T39, T40. What an answer says on paper fixes the answer: each view is injective, so each promise of this crate has one answer.
 -- Assumes nothing.
 use Prim.Native.Nat.{ℕ}
-use mathlib.Core.Path.{_≡_, refl}
+use mathlib.Core.Path.{_≡_, refl, ap}
 use mathlib.Core.Bool.{Bool}
 use mathlib.Core.List.{List, [], _∷_}
 use lib.Seq.{sets}
-use Rattle.format.specs.Words.{bytes}
+use Rattle.format.specs.Words.{bytes, wordAt, longAt}
 use mathlib.Core.Option.{Option, none, some}
 use Rattle.format.specs.Answers.{Outcome, accepted, refused}
 use Rattle.format.specs.Spots as spots
@@ -16,7 +16,9 @@ use Rattle.ledger.specs.Records as ledger
 use Rattle.ledger.specs.Records.{entryOf, entryBytes}
 use Rattle.ledger.specs.Calls.{Summary, recordAnswer, entryAnswer}
 use Rattle.ledger.specs.Judged as judged
-use Rattle.ledger.specs.VersionOne.{versionOne}
+use Rattle.ledger.specs.Formats.{size}
+use Rattle.ledger.specs.VersionTwo.{versionTwo}
+use Rattle.ledger.specs.Versions.{formatFor, formatIn}
 use Rattle.ledger.specs.PlaneFrames.{planeFrames}
 use Rattle.records.specs.declared.answers.Header.{Header}
 use Rattle.records.specs.declared.answers.SpotFound.{SpotFound}
@@ -25,12 +27,14 @@ use Rattle.records.specs.declared.answers.RecordFound.{RecordFound}
 use Rattle.records.specs.declared.answers.RecordFound.the-variants as records
 use Rattle.records.specs.declared.answers.Judged.{Judged}
 use Rattle.records.specs.declared.answers.Judged.the-variants as judging
+use Rattle.records.specs.declared.answers.Stamp.{Stamp}
+use Rattle.records.specs.declared.answers.Stamp.the-variants as stamps
 use Rattle.records.specs.declared.answers.Entry.{Entry}
 use Rattle.records.specs.declared.answers.EntryFound.{EntryFound}
 use Rattle.records.specs.declared.answers.EntryFound.the-variants as entries
-use Rattle.records.specs.Views.{viewSpot, viewRecord, viewJudged, asEntry, viewEntry}
-use Rattle.records.specs.Stored.{stored, storedOld}
-use Rattle.records.specs.Promises.{SpotTold, Recorded, JudgedTo, EntryTold, EntryRead, EntryPut, SignedBy, Undone, UndoneFrom, MayHold, WordPut, ValuePut}
+use Rattle.records.specs.Views.{viewSpot, viewRecord, viewJudged, viewStamp, asEntry, viewEntry}
+use Rattle.records.specs.Stored.{stored}
+use Rattle.records.specs.Promises.{SpotTold, Recorded, JudgedTo, EntryTold, EntrySized, EntryRead, EntryPut, SignedBy, UndoneFrom, MayHold, WordPut, ValuePut}
 
 -- T40: the way back from each answer on paper
 
@@ -71,22 +75,35 @@ judged-back (judging.Refused x) = refl
 pub same-judged : (r q : Judged) → viewJudged r ≡ viewJudged q → r ≡ q
 same-judged = undone viewJudged judgedBack judged-back
 
+abbrev stampBack : List ℕ → Stamp
+stampBack [] = stamps.Missing
+stampBack (t ∷ []) = stamps.Missing
+stampBack (t ∷ d ∷ x) = stamps.Given t d
+
+stamp-back : (r : Stamp) → stampBack (viewStamp r) ≡ r
+stamp-back stamps.Missing = refl
+stamp-back (stamps.Given t d) = refl
+
+abbrev plainBack : formats.Entry → Entry
+plainBack e = record { word = e .word; kind = e .kind; old = e .old; new = e .new; operator = e .operator; reason = e .reason; stamp = stampBack (e .extra) }
+
+plain-back : (e : Entry) → plainBack (asEntry e) ≡ e
+plain-back e =
+    ap (λ (s : Stamp). record { word = e .word; kind = e .kind; old = e .old; new = e .new; operator = e .operator; reason = e .reason; stamp = s }) (stamp-back (e .stamp))
+
 abbrev entryBack : Outcome formats.Entry → EntryFound
-entryBack (accepted e) = entries.Entry (record { word = e .word; kind = e .kind; old = e .old; new = e .new; operator = e .operator; reason = e .reason })
+entryBack (accepted e) = entries.Entry (plainBack e)
 entryBack (refused n p) = entries.Refused (record { number = n; place = p })
 
 entry-back : (r : EntryFound) → entryBack (viewEntry r) ≡ r
-entry-back (entries.Entry e) = refl
+entry-back (entries.Entry e) = ap entries.Entry (plain-back e)
 entry-back (entries.Refused x) = refl
 
 pub same-entry : (r q : EntryFound) → viewEntry r ≡ viewEntry q → r ≡ q
 same-entry = undone viewEntry entryBack entry-back
 
-abbrev plainBack : formats.Entry → Entry
-plainBack e = record { word = e .word; kind = e .kind; old = e .old; new = e .new; operator = e .operator; reason = e .reason }
-
 pub same-plain : (r q : Entry) → asEntry r ≡ asEntry q → r ≡ q
-same-plain = undone asEntry plainBack (λ e. refl)
+same-plain = undone asEntry plainBack plain-back
 
 -- T39: no second result, function by function; each is over the promise that the function's contract names (specs/Promises.antt). `spot`,
 -- `record`, `judge` and `entry` lend no memory to write
@@ -95,29 +112,29 @@ pub spot-once : (f : List ℕ) (w : ℕ) (r q : SpotFound) → SpotTold f w r �
 spot-once f w = one viewSpot same-spot (spots.spot f w)
 
 pub record-once : (b : List ℕ) (r q : RecordFound) → Recorded b r → Recorded b q → r ≡ q
-record-once b = one viewRecord same-record (recordAnswer planeFrames versionOne b)
+record-once b = one viewRecord same-record (recordAnswer planeFrames (formatIn b) b)
 
 pub judge-once : (b : List ℕ) (w : ℕ) (r q : Judged) → JudgedTo b w r → JudgedTo b w q → r ≡ q
-judge-once b w = one viewJudged same-judged (judged.judgedAt planeFrames versionOne b w)
+judge-once b w = one viewJudged same-judged (judged.judgedAt planeFrames (formatIn b) b w)
 
 pub entry-once : (b : List ℕ) (j : ℕ) (r q : EntryFound) → EntryTold b j r → EntryTold b j q → r ≡ q
-entry-once b j = one viewEntry same-entry (entryAnswer planeFrames versionOne b j)
+entry-once b j = one viewEntry same-entry (entryAnswer planeFrames (formatIn b) b j)
 
-pub entry-of-once : (s : List ℕ) (r q : Entry) → EntryRead s r → EntryRead s q → r ≡ q
-entry-of-once s = one asEntry same-plain (entryOf versionOne s)
+pub entry-size-once : (version r q : ℕ) → EntrySized version r → EntrySized version q → r ≡ q
+entry-size-once version = equal-once (size (formatFor version))
+
+pub entry-of-once : (s : List ℕ) (version : ℕ) (r q : Entry) → EntryRead s version r → EntryRead s version q → r ≡ q
+entry-of-once s version = one asEntry same-plain (entryOf (formatFor version) s)
 
 pub signed-once : (operator reason : ℕ) (r q : Bool) → SignedBy operator reason r → SignedBy operator reason q → r ≡ q
 signed-once operator reason = equal-once (ledger.signed operator reason)
 
 -- of the functions that answer nothing, the list that they leave, whole
 pub put-entry-once : (f : List ℕ) (at : ℕ) (e : Entry) (r q : List ℕ) → EntryPut f at e r → EntryPut f at e q → r ≡ q
-put-entry-once f at e = equal-once (sets f at (entryBytes versionOne (asEntry e)))
-
-pub undo-once : (f : List ℕ) (e : Entry) (r q : List ℕ) → Undone f e r → Undone f e q → r ≡ q
-undo-once f e = equal-once (stored f (e .kind) (e .word) (e .old))
+put-entry-once f at e = equal-once (sets f at (entryBytes versionTwo (asEntry e)))
 
 pub undo-from-once : (f s r q : List ℕ) → UndoneFrom f s r → UndoneFrom f s q → r ≡ q
-undo-from-once f s = equal-once (storedOld f (entryOf versionOne s))
+undo-from-once f s = equal-once (stored f (wordAt s 1) (wordAt s 0) (longAt s 2))
 
 pub legal-once : (kind value : ℕ) (r q : Bool) → MayHold kind value r → MayHold kind value q → r ≡ q
 legal-once kind value = equal-once (legalValue kind value)

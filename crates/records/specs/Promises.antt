@@ -6,14 +6,16 @@ use mathlib.Core.Path.{_≡_}
 use mathlib.Core.Bool.{Bool}
 use mathlib.Core.List.{List, [], _∷_}
 use lib.Seq.{sets}
-use Rattle.format.specs.Words.{bytes}
+use Rattle.format.specs.Words.{bytes, wordAt, longAt}
 use Rattle.format.specs.Spots as spots
 use Rattle.format.specs.Spots.{legalValue}
 use Rattle.ledger.specs.Records as records
 use Rattle.ledger.specs.Records.{entryOf, entryBytes}
 use Rattle.ledger.specs.Calls.{recordAnswer, entryAnswer}
 use Rattle.ledger.specs.Judged.{judgedAt}
-use Rattle.ledger.specs.VersionOne.{versionOne}
+use Rattle.ledger.specs.Formats.{size}
+use Rattle.ledger.specs.VersionTwo.{versionTwo}
+use Rattle.ledger.specs.Versions.{formatFor, formatIn}
 use Rattle.ledger.specs.PlaneFrames.{planeFrames}
 use Rattle.records.specs.declared.answers.SpotFound.{SpotFound}
 use Rattle.records.specs.declared.answers.RecordFound.{RecordFound}
@@ -21,7 +23,7 @@ use Rattle.records.specs.declared.answers.Judged.{Judged}
 use Rattle.records.specs.declared.answers.Entry.{Entry}
 use Rattle.records.specs.declared.answers.EntryFound.{EntryFound}
 use Rattle.records.specs.Views.{viewSpot, viewRecord, viewJudged, asEntry, viewEntry}
-use Rattle.records.specs.Stored.{stored, storedOld}
+use Rattle.records.specs.Stored.{stored}
 
 -- ---- the questions
 
@@ -29,37 +31,38 @@ use Rattle.records.specs.Stored.{stored, storedOld}
 abbrev pub SpotTold : List ℕ → ℕ → SpotFound → Type 0
 SpotTold f w r = viewSpot r ≡ spots.spot f w
 
--- whether a buffer begins with a record, and of what lengths and count
+-- whether a buffer begins with a record of the version that its first word names, and of what lengths and count
 abbrev pub Recorded : List ℕ → RecordFound → Type 0
-Recorded b r = viewRecord r ≡ recordAnswer planeFrames versionOne b
+Recorded b r = viewRecord r ≡ recordAnswer planeFrames (formatIn b) b
 
 -- the same, and what stands at word w of its frame
 abbrev pub JudgedTo : List ℕ → ℕ → Judged → Type 0
-JudgedTo b w r = viewJudged r ≡ judgedAt planeFrames versionOne b w
+JudgedTo b w r = viewJudged r ≡ judgedAt planeFrames (formatIn b) b w
 
 -- entry j of a record
 abbrev pub EntryTold : List ℕ → ℕ → EntryFound → Type 0
-EntryTold b j r = viewEntry r ≡ entryAnswer planeFrames versionOne b j
+EntryTold b j r = viewEntry r ≡ entryAnswer planeFrames (formatIn b) b j
 
 -- ---- entries
 
--- the entry that a slice begins with
-abbrev pub EntryRead : List ℕ → Entry → Type 0
-EntryRead s r = asEntry r ≡ entryOf versionOne s
+-- the bytes of one in a record of that version
+abbrev pub EntrySized : ℕ → ℕ → Type 0
+EntrySized version r = r ≡ size (formatFor version)
 
--- and an entry stored at byte `at`, as far as there is room
+-- the entry that a slice begins with, in a record of that version
+abbrev pub EntryRead : List ℕ → ℕ → Entry → Type 0
+EntryRead s version r = asEntry r ≡ entryOf (formatFor version) s
+
+-- and an entry of version 2 stored at byte `at`, as far as there is room
 abbrev pub EntryPut : List ℕ → ℕ → Entry → List ℕ → Type 0
-EntryPut found at e exit = exit ≡ sets found at (entryBytes versionOne (asEntry e))
+EntryPut found at e exit = exit ≡ sets found at (entryBytes versionTwo (asEntry e))
 
 abbrev pub SignedBy : ℕ → ℕ → Bool → Type 0
 SignedBy operator reason r = r ≡ records.signed operator reason
 
--- an entry undone in the bytes of a frame, and the one that a slice begins with
-abbrev pub Undone : List ℕ → Entry → List ℕ → Type 0
-Undone found e exit = exit ≡ stored found (e .kind) (e .word) (e .old)
-
+-- the entry that a slice begins with undone in the bytes of a frame: word index, kind and old value stand at the same words in every version
 abbrev pub UndoneFrom : List ℕ → List ℕ → List ℕ → Type 0
-UndoneFrom found s exit = exit ≡ storedOld found (entryOf versionOne s)
+UndoneFrom found s exit = exit ≡ stored found (wordAt s 1) (wordAt s 0) (longAt s 2)
 
 -- ---- values
 

@@ -1,7 +1,7 @@
--- What the answers of this crate say in document 01.
+-- What the answers of this crate say in the documents.
 -- Assumes nothing.
 use Prim.Native.Nat.{ℕ}
-use mathlib.Core.List.{List, []}
+use mathlib.Core.List.{List, [], _∷_}
 use mathlib.Core.Option.{Option, none, some}
 use lib.Dec.{eqb}
 use Rattle.format.specs.Answers.{Outcome, accepted, refused, Done, need, andThen}
@@ -11,7 +11,6 @@ use Rattle.ledger.specs.Formats as formats
 use Rattle.ledger.specs.Calls.{Summary}
 use Rattle.ledger.specs.Judged as judged
 use Rattle.ledger.specs.Records.{entriesTo, historyVerdict}
-use Rattle.ledger.specs.VersionOne.{versionOne}
 use Rattle.ledger.specs.PlaneFrames.{planeFrames}
 use Rattle.records.specs.declared.answers.Header.{Header}
 use Rattle.records.specs.declared.answers.SpotFound.{SpotFound}
@@ -21,6 +20,8 @@ use Rattle.records.specs.declared.answers.RecordFound.{RecordFound}
 use Rattle.records.specs.declared.answers.RecordFound.the-variants as records
 use Rattle.records.specs.declared.answers.Judged.{Judged}
 use Rattle.records.specs.declared.answers.Judged.the-variants as judging
+use Rattle.records.specs.declared.answers.Stamp.{Stamp}
+use Rattle.records.specs.declared.answers.Stamp.the-variants as stamps
 use Rattle.records.specs.declared.answers.Entry.{Entry}
 use Rattle.records.specs.declared.answers.EntryFound.{EntryFound}
 use Rattle.records.specs.declared.answers.EntryFound.the-variants as entries
@@ -43,9 +44,13 @@ abbrev pub viewJudged : Judged → Outcome judged.Judged
 viewJudged (judging.Accepted r p) = accepted (record { length = r .length; count = r .count; total = r .total; spot = viewSpot p })
 viewJudged (judging.Refused r) = refusal r
 
--- document 01's entries hold nothing after the reason
+-- after the reason stands nothing, or a time and a desk
+abbrev pub viewStamp : Stamp → List ℕ
+viewStamp stamps.Missing = []
+viewStamp (stamps.Given time desk) = time ∷ desk ∷ []
+
 abbrev pub asEntry : Entry → formats.Entry
-asEntry e = record { word = e .word; kind = e .kind; old = e .old; new = e .new; operator = e .operator; reason = e .reason; extra = [] }
+asEntry e = record { word = e .word; kind = e .kind; old = e .old; new = e .new; operator = e .operator; reason = e .reason; extra = viewStamp (e .stamp) }
 
 abbrev pub viewEntry : EntryFound → Outcome formats.Entry
 viewEntry (entries.Entry e) = accepted (asEntry e)
@@ -55,8 +60,8 @@ viewEntry (entries.Refused r) = refusal r
 abbrev pub unfit : ℕ → Done
 unfit n = need (eqb n 0) 21 n
 
--- what is told of a record with these lengths and this count whose header and frame f are right
-unfoldable pub historyJudged : List ℕ → List ℕ → Summary → ℕ → Outcome judged.Judged
-historyJudged f b x w =
-    andThen (historyVerdict planeFrames versionOne f (entriesTo versionOne b (x .count)))
+-- what is told of a record of a format, with these lengths and this count, whose header and frame f are right
+unfoldable pub historyJudged : formats.Format → List ℕ → List ℕ → Summary → ℕ → Outcome judged.Judged
+historyJudged F f b x w =
+    andThen (historyVerdict planeFrames F f (entriesTo F b (x .count)))
     (λ u. accepted (record { length = x .length; count = x .count; total = x .total; spot = planeFrames .spot f w }))

@@ -36,7 +36,10 @@ pub struct Record {
 }
 
 impl Record {
-    pub const VERSION: u16 = 1;
+    // The version that is opened and edited, and the one before it, which is read, restored and listed.
+    pub const VERSION: u16 = 2;
+
+    pub const FIRST_VERSION: u16 = 1;
 
     // How many frames a record has.
     pub const FRAMES: u16 = 1;
@@ -77,6 +80,12 @@ pub enum Judged {
     Refused(Refusal),
 }
 
+// What an entry keeps after the reason: nothing in version 1; in version 2 the time that was given with the correction, and a desk number, 0 for now.
+pub enum Stamp {
+    Missing,
+    Given(u64, u16),
+}
+
 // An entry of the history: the value at a word was changed from old to new.
 pub struct Entry {
     pub word: u16,
@@ -85,13 +94,17 @@ pub struct Entry {
     pub new: u32,
     pub operator: u16,
     pub reason: u16,
+    pub stamp: Stamp,
 }
 
 impl Entry {
-    // The bytes of an entry.
-    pub const SIZE: usize = 16;
+    // The bytes of an entry, and of one of version 1.
+    pub const SIZE: usize = 24;
 
-    // Its words, by their index: that of the item's word index, of its kind, the low words of the old and of the new value, who signed and why.
+    pub const FIRST_SIZE: usize = 16;
+
+    // Its words, by their index: that of the item's word index, of its kind, the low words of the old and of the new value, who signed and why; in
+    // version 2 the low word of the time, and the desk.
     pub const INDEX_WORD: usize = 0;
 
     pub const KIND_WORD: usize = 1;
@@ -104,10 +117,19 @@ impl Entry {
 
     pub const REASON_WORD: usize = 7;
 
+    pub const TIME_WORD: usize = 8;
+
+    pub const DESK_WORD: usize = 11;
+
     // Who may sign, and the reasons there are: from 1 on.
     pub const LAST_OPERATOR: u32 = 65535;
 
     pub const LAST_REASON: u32 = 5;
+
+    // The last time that 6 bytes hold, and the one desk there is.
+    pub const LAST_TIME: u64 = 281474976710655;
+
+    pub const DESK: u16 = 0;
 }
 
 pub enum EntryFound {

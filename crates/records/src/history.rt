@@ -1,22 +1,25 @@
 // The history of a record: its entries, tested and undone from the newest back on a copy of the frame.
 ghost use mathlib.Core.Path.{_≡_};
+ghost use mathlib.Core.Bool.{_&&_};
 ghost use Prim.Native.Nat.{ℕ, _+_, _*_, _≤_};
 ghost use lib.ListN.{length, getD};
 ghost use Rattle.ledger.specs.Frames.{Accepted};
+ghost use Rattle.ledger.specs.Formats.{size};
 ghost use Rattle.ledger.specs.Records.{lengthIn, entriesTo, fitsItem, fits, historyVerdict};
-ghost use Rattle.ledger.specs.VersionOne.{versionOne};
+ghost use Rattle.ledger.specs.Versions.{formatFor};
 ghost use Rattle.ledger.specs.PlaneFrames.{planeFrames};
 ghost use Rattle.format.specs.Spots as spots;
-ghost use Rattle.records.specs.Views.{viewSpot, asEntry, unfit};
+ghost use Rattle.records.specs.Views.{viewSpot, viewStamp, asEntry, unfit};
 ghost use Rattle.records.specs.Stored.{stored};
 ghost use Rattle.records.specs.Undoing.{Heads, Undoing};
-ghost use Rattle.records.specs.Promises.{SignedBy, Undone, UndoneFrom};
+ghost use Rattle.records.specs.Promises.{SignedBy, UndoneFrom};
 use crate::answers::Entry;
 use crate::answers::Record;
 use crate::answers::Spot;
 use crate::answers::SpotFound;
+use crate::answers::Stamp;
 use crate::entries::entry_in;
-use crate::entries::entry_of;
+use crate::entries::entry_size;
 use crate::scan::NONE;
 use crate::scan::header_at;
 use crate::scan::item_noted;
@@ -29,6 +32,8 @@ use crate::values::put_in;
 use crate::values::put_value;
 use book::items::Item;
 use book::words::copy;
+use book::words::long;
+use book::words::word;
 use cursor::standing::Standing;
 use cursor::standing::item_at;
 
@@ -52,19 +57,33 @@ pub fn signed(operator: u32, reason: u32) -> bool
         & (reason <= Entry::LAST_REASON)
 }
 
+// Whether an entry of a record of that version keeps after its reason what that version keeps: nothing, or a time of 6 bytes at desk 0.
+fn stamp_fits(stamp: Stamp, version: u16) -> bool
+    ensures { λ r. ⌜ ((s : spots.Spot) → r ≡ ((formatFor version .good (viewStamp stamp)) && (formatFor version .suits (viewStamp stamp) s))) ⌝ }
+{
+    match stamp {
+        Stamp::Missing => version == Record::FIRST_VERSION,
+        Stamp::Given(time, desk) => {
+            (version != Record::FIRST_VERSION) & (time <= Entry::LAST_TIME) & (desk == Entry::DESK)
+        }
+    }
+}
+
 // Whether an entry fits an item of the kind with the value; none of its tests asks for the item's header.
-fn fits_item(e: Entry, kind: u16, value: u32) -> bool
-    ensures { λ r. ⌜ ((h : spots.Header) → r ≡ fitsItem planeFrames versionOne (asEntry e) (record { kind = kind; value = value; header = h })) ⌝ }
+fn fits_item(e: Entry, version: u16, kind: u16, value: u32) -> bool
+    ensures { λ r. ⌜ ((h : spots.Header) → r ≡ fitsItem planeFrames (formatFor version) (asEntry e) (record { kind = kind; value = value; header = h })) ⌝ }
 {
     let named = signed(e.operator as u32, e.reason as u32);
-    (kind == e.kind) & (value == e.new) & legal(kind, e.old) & (e.old != e.new) & named
+    let stamp = e.stamp;
+    let kept = stamp_fits(stamp, version);
+    (kind == e.kind) & (value == e.new) & legal(kind, e.old) & (e.old != e.new) & named & kept
 }
 
 // Whether an entry fits a frame whose headers are noted in the map: the item answer at its word is taken apart, and anything but a Sample or
 // Bin leaves at once.
-fn entry_fits(f: &[u8], map: &[u16], e: Entry) -> bool
+fn entry_fits(f: &[u8], map: &[u16], e: Entry, version: u16) -> bool
     requires { ⌜ Undoing (now map) (now f) ⌝ }
-    ensures { λ r. ⌜ r ≡ fits planeFrames versionOne (now (f .entry)) (asEntry e) ⌝ }
+    ensures { λ r. ⌜ r ≡ fits planeFrames (formatFor version) (now (f .entry)) (asEntry e) ⌝ }
 {
     let at = e.word as usize;
     if head_at(map, at) == NONE {
@@ -76,8 +95,8 @@ fn entry_fits(f: &[u8], map: &[u16], e: Entry) -> bool
     };
     let item = found.item;
     match item {
-        Item::Sample(x) => fits_item(e, Spot::SAMPLE, x.value as u32),
-        Item::Bin(x) => fits_item(e, Spot::BIN, x.count),
+        Item::Sample(x) => fits_item(e, version, Spot::SAMPLE, x.value as u32),
+        Item::Bin(x) => fits_item(e, version, Spot::BIN, x.count),
         _ => false,
     }
 }
@@ -116,19 +135,17 @@ fn undo_at(f: &mut [u8], kind: u16, w: u16, old: u32)
     put_value(f, kind, at, old);
 }
 
-// Undoes an entry.
-pub fn undo(f: &mut [u8], e: Entry)
-    ensures { λ _. ⌜ Undone (now (f .entry)) e (now (f .exit)) ⌝ }
-{
-    undo_at(f, e.kind, e.word, e.old);
-}
-
-// Undoes the entry that a slice begins with; of one that is whole no more is read than that takes.
+// Undoes the entry that a slice begins with, of any version: no more is read than that takes.
 pub fn undo_from(f: &mut [u8], s: &[u8])
     ensures { λ _. ⌜ UndoneFrom (now (f .entry)) (now (s .entry)) (now (f .exit)) ⌝ }
 {
-    if s.len() < Entry::SIZE {
-        undo(f, entry_of(s));
+    if s.len() < Entry::FIRST_SIZE {
+        undo_at(
+            f,
+            word(s, Entry::KIND_WORD),
+            word(s, Entry::INDEX_WORD),
+            long(s, Entry::OLD_WORD),
+        );
         return;
     }
     let kind = word_in(s, Entry::KIND_WORD);
@@ -137,16 +154,19 @@ pub fn undo_from(f: &mut [u8], s: &[u8])
     undo_at(f, kind, at, old);
 }
 
-// The number of the newest entry that does not fit, or 0: the entries from number n down, undone in f.
-fn walk_back(f: &mut [u8], map: &[u16], b: &[u8], h: usize, n: usize) -> usize
-    requires { ⌜ Undoing (now map) (now f) × (h ≡ 16 + lengthIn (now b)) × (h + 16 * n ≤ length (now b)) ⌝ }
-    ensures { λ r. ⌜ unfit r ≡ historyVerdict planeFrames versionOne (now (f .entry)) (entriesTo versionOne (now (b .entry)) n) ⌝ }
+// The number of the newest entry that does not fit, or 0: the entries from number n down, undone in f. They end at byte `end`, and each is taken
+// from where the newer one began.
+fn walk_back(f: &mut [u8], map: &[u16], b: &[u8], version: u16, end: usize, n: usize) -> usize
+    requires { ⌜ Undoing (now map) (now f) × (end ≡ 16 + lengthIn (now b) + size (formatFor version) * n) × (end ≤ length (now b)) ⌝ }
+    ensures { λ r. ⌜ unfit r ≡ historyVerdict planeFrames (formatFor version) (now (f .entry)) (entriesTo (formatFor version) (now (b .entry)) n) ⌝ }
 {
+    let size = entry_size(version);
+    let mut at = end;
     let mut m = n;
     while 0 < m {
-        let at = h + Entry::SIZE * (m - 1);
-        let e = entry_in(&b[at..]);
-        if entry_fits(f, map, e) {
+        at -= size;
+        let e = entry_in(&b[at..], version);
+        if entry_fits(f, map, e, version) {
             put_in(f, e.kind, e.word as usize, e.old);
             m -= 1;
         } else {
@@ -158,11 +178,18 @@ fn walk_back(f: &mut [u8], map: &[u16], b: &[u8], h: usize, n: usize) -> usize
 
 // The same over a copy of the frame, made in f, with its headers noted in a map of zeros. A copy and not the frame itself: the frame is lent to be
 // read only and a refused call changes nothing, but each entry is judged on the frame as it stood before the newer ones were made.
-pub(crate) fn unwind(f: &mut [u8], map: &mut [u16], frame: &[u8], b: &[u8], n: usize) -> usize
-    requires { ⌜ Accepted planeFrames (now frame) × (length (now f) ≡ length (now frame)) × (4096 ≤ length (now map)) × ((i : ℕ) → getD (now map) i 0 ≡ 0) × (length (now frame) ≡ lengthIn (now b)) × (16 + lengthIn (now b) + 16 * n ≤ length (now b)) ⌝ }
-    ensures { λ r. ⌜ (unfit r ≡ historyVerdict planeFrames versionOne (now (frame .entry)) (entriesTo versionOne (now (b .entry)) n)) × Heads (now (frame .entry)) (now (map .exit)) ⌝ }
+pub(crate) fn unwind(
+    f: &mut [u8],
+    map: &mut [u16],
+    frame: &[u8],
+    b: &[u8],
+    version: u16,
+    x: Record,
+) -> usize
+    requires { ⌜ Accepted planeFrames (now frame) × (length (now f) ≡ length (now frame)) × (4096 ≤ length (now map)) × ((i : ℕ) → getD (now map) i 0 ≡ 0) × (x .total ≡ 16 + lengthIn (now b) + size (formatFor version) * x .count) × (x .total ≤ length (now b)) ⌝ }
+    ensures { λ r. ⌜ (unfit r ≡ historyVerdict planeFrames (formatFor version) (now (frame .entry)) (entriesTo (formatFor version) (now (b .entry)) (x .count))) × Heads (now (frame .entry)) (now (map .exit)) ⌝ }
 {
     note_heads(frame, map);
     copy(frame, f);
-    walk_back(f, map, b, Record::HEADER + frame.len(), n)
+    walk_back(f, map, b, version, x.total, x.count)
 }

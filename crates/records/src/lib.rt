@@ -3,7 +3,9 @@ ghost use mathlib.Core.Path.{_≡_};
 ghost use Prim.Native.Nat.{ℕ, _+_, _*_, _≤_};
 ghost use lib.ListN.{length, getD};
 ghost use Rattle.ledger.specs.Frames.{Accepted};
+ghost use Rattle.ledger.specs.Formats.{size};
 ghost use Rattle.ledger.specs.Records.{lengthIn};
+ghost use Rattle.ledger.specs.Versions.{formatFor};
 ghost use Rattle.ledger.specs.PlaneFrames.{planeFrames};
 ghost use Rattle.records.specs.Views.{viewJudged, summaryOf, historyJudged};
 ghost use Rattle.records.specs.Promises.{SpotTold, JudgedTo, Recorded, EntryTold};
@@ -15,7 +17,6 @@ pub mod history;
 pub mod scan;
 pub mod values;
 
-use answers::Entry;
 use answers::EntryFound;
 use answers::Judged;
 use answers::Record;
@@ -24,6 +25,7 @@ use answers::SpotFound;
 use book::refusal::Refusal;
 use book::words::word;
 use entries::entry_of;
+use entries::entry_size;
 use frame::head::MOST;
 use frame::reading::Reading;
 use frame::reading::read;
@@ -50,14 +52,15 @@ fn judge_history_in(
     scratch: &mut [u8],
     frame: &[u8],
     b: &[u8],
+    version: u16,
     x: Record,
     w: usize,
 ) -> Judged
-    requires { ⌜ Accepted planeFrames (now frame) × (length (now frame) ≤ length (now scratch)) × (4096 ≤ length (now map)) × ((i : ℕ) → getD (now map) i 0 ≡ 0) × (length (now frame) ≡ lengthIn (now b)) × (16 + lengthIn (now b) + 16 * x .count ≤ length (now b)) ⌝ }
-    ensures { λ r. ⌜ viewJudged r ≡ historyJudged (now (frame .entry)) (now (b .entry)) (summaryOf x) w ⌝ }
+    requires { ⌜ Accepted planeFrames (now frame) × (length (now frame) ≤ length (now scratch)) × (4096 ≤ length (now map)) × ((i : ℕ) → getD (now map) i 0 ≡ 0) × (x .total ≡ 16 + lengthIn (now b) + size (formatFor version) * x .count) × (x .total ≤ length (now b)) ⌝ }
+    ensures { λ r. ⌜ viewJudged r ≡ historyJudged (formatFor version) (now (frame .entry)) (now (b .entry)) (summaryOf x) w ⌝ }
 {
     let len = frame.len();
-    let bad = unwind(&mut scratch[..len], map, frame, b, x.count);
+    let bad = unwind(&mut scratch[..len], map, frame, b, version, x);
     if bad == 0 {
         return Judged::Accepted(x, spot_noted(frame, map, w));
     }
@@ -71,22 +74,25 @@ fn judge_history_in(
 const WORDS: usize = MOST / 2;
 
 // The same with memory of its own. The arrays stand here and are lent on: in the function that works on them every goal would show all their zeros.
-fn judge_history(frame: &[u8], b: &[u8], x: Record, w: usize) -> Judged
-    requires { ⌜ Accepted planeFrames (now frame) × (length (now frame) ≡ lengthIn (now b)) × (16 + lengthIn (now b) + 16 * x .count ≤ length (now b)) ⌝ }
-    ensures { λ r. ⌜ viewJudged r ≡ historyJudged (now (frame .entry)) (now (b .entry)) (summaryOf x) w ⌝ }
+fn judge_history(frame: &[u8], b: &[u8], version: u16, x: Record, w: usize) -> Judged
+    requires { ⌜ Accepted planeFrames (now frame) × (x .total ≡ 16 + lengthIn (now b) + size (formatFor version) * x .count) × (x .total ≤ length (now b)) ⌝ }
+    ensures { λ r. ⌜ viewJudged r ≡ historyJudged (formatFor version) (now (frame .entry)) (now (b .entry)) (summaryOf x) w ⌝ }
 {
     let mut map = [0u16; WORDS];
     let mut scratch = [0u8; MOST];
-    judge_history_in(&mut map, &mut scratch, frame, b, x, w)
+    judge_history_in(&mut map, &mut scratch, frame, b, version, x, w)
 }
 
-// Whether a buffer begins with a record, as `record` answers, and what stands at word w of its frame, as `spot` answers.
+// Whether a buffer begins with a record, as `record` answers, and what stands at word w of its frame, as `spot` answers. Both versions are judged here:
+// the version word says how long an entry is and what it keeps.
 pub fn judge(buf: &[u8], w: usize) -> Judged
     ensures { λ r. ⌜ JudgedTo (now (buf .entry)) w r ⌝ }
 {
     if header_right(buf) {
+        let version = word(buf, Record::VERSION_WORD);
         let length = word(buf, Record::LENGTH_WORD) as usize;
         let count = word(buf, Record::COUNT_WORD) as usize;
+        let total = word(buf, Record::TOTAL_WORD) as usize;
         let start = Record::HEADER;
         let end = start + length;
         let part = &buf[start..end];
@@ -94,13 +100,12 @@ pub fn judge(buf: &[u8], w: usize) -> Judged
         match reading {
             Reading::Refused(r) => Judged::Refused(r),
             Reading::Accepted(_frame) => {
-                let total = end + Entry::SIZE * count;
                 let x = Record {
                     length,
                     count,
                     total,
                 };
-                judge_history(part, buf, x, w)
+                judge_history(part, buf, version, x, w)
             }
         }
     } else {
@@ -133,8 +138,9 @@ pub fn entry(buf: &[u8], j: usize) -> EntryFound
         RecordFound::Refused(r) => EntryFound::Refused(r),
         RecordFound::Record(x) => {
             if (1 <= j) & (j <= x.count) {
-                let at = Record::HEADER + x.length + Entry::SIZE * (j - 1);
-                return EntryFound::Entry(entry_of(&buf[at..]));
+                let version = word(buf, Record::VERSION_WORD);
+                let at = Record::HEADER + x.length + entry_size(version) * (j - 1);
+                return EntryFound::Entry(entry_of(&buf[at..], version));
             }
             EntryFound::Refused(Refusal {
                 number: Refusal::NO_ENTRY,

@@ -48,7 +48,7 @@ pub fn put_word(buf: &mut [u8], at: usize, w: u16)
 
 // Stores a number of 32 bits at byte `at`, low word first, as far as there is room.
 pub(crate) fn put_long(buf: &mut [u8], at: usize, n: u32)
-    requires { ⌜ at < length (now buf) + 16 ⌝ }
+    requires { ⌜ at < length (now buf) + 24 ⌝ }
     ensures { λ _. ⌜ now (buf .exit) ≡ sets (now (buf .entry)) at (bytes (longWords n)) ⌝ }
 {
     put_word(buf, at, (n % 65536) as u16);

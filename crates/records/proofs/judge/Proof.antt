@@ -7,25 +7,28 @@ use mathlib.Core.Bool.{true}
 use lib.ListN.{length, take, drop}
 use native.Mathlib.Omega.{arith}
 use Rattle.format.specs.Steps.{readOf}
-use Rattle.ledger.specs.Records.{lengthIn, countIn, frameIn, headerRight}
-use Rattle.ledger.specs.VersionOne.{versionOne}
+use Rattle.ledger.specs.Records.{lengthIn, countIn, totalIn, frameIn, headerRight}
+use Rattle.ledger.specs.Versions.{formatIn}
 use Rattle.frame.specs.Views.{viewReading}
 use Rattle.records.proofs.RecordLaws.{judge-refused, judge-accepted, frame-part, room, wrong-header, wrong-frame, right-frame, length-is, count-is, part-accepted}
 use borrow.Author.Needs.{needs}
 use Rattle.records.proofs.judge.Statement.{statement}
 use Rattle.records.proofs.judge.Tie as tie
 
--- the header is right; its words tell the frame's length and the entry count; the part lent is the frame
-right : (c : tie.Then1) → headerRight versionOne (now (c .before .before .before .args .buf)) ≡ true
+-- the header is right; its words tell the version, the frame's length, the entry count and the total; the part lent is the frame
+right : (c : tie.Then1) → headerRight (formatIn (now (c .before .before .before .args .buf))) (now (c .before .before .before .args .buf)) ≡ true
 right c = sym (c .before .header-right .ensures) ∙ c .if1 .taken
 
-long : (c : tie.After-word) → c .word .result ≡ lengthIn (now (c .before .before .before .before .args .buf))
-long c = length-is _ _ (c .word .ensures)
+long : (c : tie.After-word2) → c .word2 .result ≡ lengthIn (now (c .before .before .before .before .before .args .buf))
+long c = length-is _ _ (c .word2 .ensures)
 
-many : (c : tie.After-word2) → c .word2 .result ≡ countIn (now (c .before .before .before .before .before .args .buf))
-many c = count-is _ _ (c .word2 .ensures)
+many : (c : tie.After-word3) → c .word3 .result ≡ countIn (now (c .before .before .before .before .before .before .args .buf))
+many c = count-is _ _ (c .word3 .ensures)
 
-lent : (c : tie.After-word) → take (16 + c .word .result - 16) (drop 16 (now (c .before .before .before .before .args .buf))) ≡ frameIn (now (c .before .before .before .before .args .buf))
+whole : (c : tie.After-word4) → c .word4 .result ≡ totalIn (formatIn (now (c .before .before .before .before .before .before .before .args .buf))) (now (c .before .before .before .before .before .before .before .args .buf))
+whole c = c .word4 .ensures ∙ room _ _ (right (c .before .before .before .before)) .total
+
+lent : (c : tie.After-word2) → take (16 + c .word2 .result - 16) (drop 16 (now (c .before .before .before .before .before .args .buf))) ≡ frameIn (now (c .before .before .before .before .before .args .buf))
 lent c = frame-part _ _ (long c)
 
 header-right-requires : tie.Need-header-right-requires
@@ -34,14 +37,23 @@ header-right-requires c κs = search needs
 word-requires : tie.Need-word-requires
 word-requires c κs = search needs
 
-cast-length : tie.Need-cast-length
-cast-length c = search needs
-
 word-requires-2 : tie.Need-word-requires-2
 word-requires-2 c κs = search needs
 
+cast-length : tie.Need-cast-length
+cast-length c = search needs
+
+word-requires-3 : tie.Need-word-requires-3
+word-requires-3 c κs = search needs
+
 cast-count : tie.Need-cast-count
 cast-count c = search needs
+
+word-requires-4 : tie.Need-word-requires-4
+word-requires-4 c κs = search needs
+
+cast-total : tie.Need-cast-total
+cast-total c = search needs
 
 add-end : tie.Need-add-end
 add-end c = search needs
@@ -53,7 +65,7 @@ part-part-start : tie.Need-part-part-start
 part-part-start c = search needs
 
 part-part-end : tie.Need-part-part-end
-part-part-end c = omega (arith, room _ (right (c .before .before)) .within, long (c .before))
+part-part-end c = let w = c .before .before in omega (arith, room _ _ (right (w .before .before)) .within, long w)
 
 read-requires : tie.Need-read-requires
 read-requires c κs = search needs
@@ -64,34 +76,36 @@ enum-known-reading c = search needs
 enum-known-reading-2 : tie.Need-enum-known-reading-2
 enum-known-reading-2 c = search needs
 
-mul-total : tie.Need-mul-total
-mul-total c = search needs
-
-add-total : tie.Need-add-total
-add-total c = search needs
-
 judge-history-requires : tie.Need-judge-history-requires
 judge-history-requires c κs =
-    let w = c .before .before .before .before .before .before in
-    let r = room _ (right (w .before)) in
-    let reads = sym (ap viewReading (c .before .reading2 .given .1)) ∙ c .before .before .before .read .ensures in
-    (part-accepted (now (w .before .before .before .before .args .buf)) (w .word .result) (λ i. (w .before .before .before .shared-slice-known .given i) .fits) _ reads, ap length (lent w) ∙ r .frame, omega (arith, r .within, many (c .before .before .before .before .before)))
+    let t = c .before .before .before .before .before in
+    let n = t .before in
+    let w = n .before in
+    let v = w .before in
+    let reads = sym (ap viewReading (c .before .reading2 .given .1)) ∙ c .before .before .before .read .ensures in (
+      part-accepted (now (v .before .before .before .before .args .buf)) (w .word2 .result) (λ i. (v .before .before .before .shared-slice-known .given i) .fits) _ reads,
+      whole t ∙ rw (v .word .ensures, many n),
+      omega (arith, whole t, room _ _ (right (v .before)) .within),
+    )
 
 returns : tie.Need-returns
 returns c =
-    let w = c .before .before .before .before .before .before in
-    wrong-frame _ _ _ _ (right (w .before)) (judge-refused _ _ _ (sym (ap viewReading (c .before .reading .given .1)) ∙ c .before .before .before .read .ensures ∙ ap readOf (lent w)))
+    let t = c .before .before .before .before .before in
+    let w = t .before .before in
+    wrong-frame _ _ _ _ _ (right (w .before .before)) (judge-refused _ _ _ (sym (ap viewReading (c .before .reading .given .1)) ∙ c .before .before .before .read .ensures ∙ ap readOf (lent w)))
 
 returns-2 : tie.Need-returns-2
 returns-2 c =
-    let w = c .before .before .before .before .before .before .before in
-    let buf = now (w .before .before .before .before .args .buf) in
-    let n = c .before .before .before .before .before .before in
+    let t = c .before .before .before .before .before .before in
+    let n = t .before in
+    let w = n .before in
+    let v = w .before in
+    let buf = now (v .before .before .before .before .args .buf) in
     let reads = sym (ap viewReading (c .before .before .reading2 .given .1)) ∙ c .before .before .before .before .read .ensures ∙ ap readOf (lent w) in
-    right-frame buf _ (right (w .before)) (judge-accepted _ _ reads) _ _ _ (long w) (many n) refl _ (lent w) _ (c .judge-history .ensures)
+    right-frame _ buf _ (right (v .before)) (judge-accepted _ _ reads) _ _ _ (long w) (many n) (whole t) _ (lent w) _ (c .judge-history .ensures ∙ rw (v .word .ensures))
 
 returns-3 : tie.Need-returns-3
-returns-3 c = wrong-header _ _ (sym (c .before .header-right .ensures) ∙ c .if1 .left)
+returns-3 c = wrong-header _ _ _ (sym (c .before .header-right .ensures) ∙ c .if1 .left)
 
 pub judge-spec : {M : Type 1} → statement M
 judge-spec =
@@ -99,9 +113,12 @@ judge-spec =
     (tie.spec
     header-right-requires
     word-requires
-    cast-length
     word-requires-2
+    cast-length
+    word-requires-3
     cast-count
+    word-requires-4
+    cast-total
     add-end
     sub-part
     part-part-start
@@ -109,8 +126,6 @@ judge-spec =
     read-requires
     enum-known-reading
     enum-known-reading-2
-    mul-total
-    add-total
     judge-history-requires
     returns
     returns-2

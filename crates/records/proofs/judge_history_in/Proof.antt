@@ -31,7 +31,7 @@ returns : tie.Need-returns
 returns c =
     let t = c .before .before in
     let h = t .before .before .before .before .before in
-    told-accepted _ _ _ _ _ (h .unwind .ensures .0) (t .if1 .taken) _ (c .spot-noted .ensures)
+    told-accepted _ _ _ _ _ _ (h .unwind .ensures .0) (t .if1 .taken) _ (c .spot-noted .ensures)
 
 same-length-3 : tie.Need-same-length-3
 same-length-3 c = search needs
@@ -40,7 +40,7 @@ same-length-4 : tie.Need-same-length-4
 same-length-4 c = search needs
 
 returns-2 : tie.Need-returns-2
-returns-2 c = let h = c .before .before .before .before .before in told-refused _ _ _ _ _ (h .unwind .ensures .0) (c .if1 .left)
+returns-2 c = let h = c .before .before .before .before .before in told-refused _ _ _ _ _ _ (h .unwind .ensures .0) (c .if1 .left)
 
 pub judge-history-in-spec : {M : Type 1} → statement M
 judge-history-in-spec =

@@ -17,10 +17,10 @@ enum-known-judged-2 : tie.Need-enum-known-judged-2
 enum-known-judged-2 c = search needs
 
 returns : tie.Need-returns
-returns c = record-told _ _ _ (sym (ap viewJudged (c .before .judged .given .1)) ∙ c .before .before .before .judge .ensures)
+returns c = record-told _ _ _ _ (sym (ap viewJudged (c .before .judged .given .1)) ∙ c .before .before .before .judge .ensures)
 
 returns-2 : tie.Need-returns-2
-returns-2 c = record-told _ _ _ (sym (ap viewJudged (c .before .judged2 .given .1)) ∙ c .before .before .before .judge .ensures)
+returns-2 c = record-told _ _ _ _ (sym (ap viewJudged (c .before .judged2 .given .1)) ∙ c .before .before .before .judge .ensures)
 
 pub record-spec : {M : Type 1} → statement M
 record-spec =

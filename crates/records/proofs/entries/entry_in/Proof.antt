@@ -5,6 +5,9 @@ use borrow.Author.Needs.{needs}
 use Rattle.records.proofs.entries.entry_in.Statement.{statement}
 use Rattle.records.proofs.entries.entry_in.Tie as tie
 
+stamp-in-requires : tie.Need-stamp-in-requires
+stamp-in-requires c κs = search needs
+
 word-in-requires : tie.Need-word-in-requires
 word-in-requires c κs = search needs
 
@@ -24,12 +27,13 @@ word-in-requires-4 : tie.Need-word-in-requires-4
 word-in-requires-4 c κs = search needs
 
 returns : tie.Need-returns
-returns c = entry-read _ _ _ _ _ _ _ (c .before .before .before .before .before .word-in .ensures) (c .before .before .before .before .word-in2 .ensures) (c .before .before .before .long-in .ensures) (c .before .before .long-in2 .ensures) (c .before .word-in3 .ensures) (c .word-in4 .ensures)
+returns c = entry-read _ _ _ _ _ _ _ _ _ (c .before .before .before .before .before .word-in .ensures) (c .before .before .before .before .word-in2 .ensures) (c .before .before .before .long-in .ensures) (c .before .before .long-in2 .ensures) (c .before .word-in3 .ensures) (c .word-in4 .ensures) (c .before .before .before .before .before .before .stamp-in .ensures)
 
 pub entry-in-spec : {M : Type 1} → statement M
 entry-in-spec =
     tie.close
     (tie.spec
+    stamp-in-requires
     word-in-requires
     word-in-requires-2
     long-in-requires

@@ -5,11 +5,8 @@ use borrow.Author.Needs.{needs}
 use Rattle.records.proofs.entries.entry_of.Statement.{statement}
 use Rattle.records.proofs.entries.entry_of.Tie as tie
 
-entry-in-requires : tie.Need-entry-in-requires
-entry-in-requires c κs = search needs
-
-returns : tie.Need-returns
-returns c = search needs
+stamp-of-requires : tie.Need-stamp-of-requires
+stamp-of-requires c κs = search needs
 
 word-requires : tie.Need-word-requires
 word-requires c κs = search needs
@@ -29,19 +26,20 @@ word-requires-3 c κs = search needs
 word-requires-4 : tie.Need-word-requires-4
 word-requires-4 c κs = search needs
 
-returns-2 : tie.Need-returns-2
-returns-2 c = entry-read _ _ _ _ _ _ _ (c .before .before .before .before .before .word .ensures) (c .before .before .before .before .word2 .ensures) (c .before .before .before .long .ensures) (c .before .before .long2 .ensures) (c .before .word3 .ensures) (c .word4 .ensures)
+returns : tie.Need-returns
+returns c =
+    let s = c .before .before .before .before .before .before in
+    entry-read _ _ _ _ _ _ _ _ _ (c .before .before .before .before .before .word .ensures) (c .before .before .before .before .word2 .ensures) (c .before .before .before .long .ensures) (c .before .before .long2 .ensures) (c .before .word3 .ensures) (c .word4 .ensures) (s .stamp-of .ensures)
 
 pub entry-of-spec : {M : Type 1} → statement M
 entry-of-spec =
     tie.close
     (tie.spec
-    entry-in-requires
-    returns
+    stamp-of-requires
     word-requires
     word-requires-2
     long-requires
     long-requires-2
     word-requires-3
     word-requires-4
-    returns-2)
+    returns)

@@ -64,19 +64,29 @@ add-put-word-4 c = search needs
 put-word-requires-4 : tie.Need-put-word-requires-4
 put-word-requires-4 c κs = search needs
 
+mul-put-stamp : tie.Need-mul-put-stamp
+mul-put-stamp c = search needs
+
+add-put-stamp : tie.Need-add-put-stamp
+add-put-stamp c = search needs
+
+put-stamp-requires : tie.Need-put-stamp-requires
+put-stamp-requires c κs = search needs
+
 same-length : tie.Need-same-length
 same-length c = search needs
 
 returns-2 : tie.Need-returns-2
 returns-2 c =
-    let reason = c .before .before in
+    let stamp = c .before .before in
+    let reason = stamp .before .before .before .before in
     let operator = reason .before .before .before .before in
     let new = operator .before .before .before .before in
     let old = new .before .before .before .before in
     let kind = old .before .before .before .before in
     let word = kind .before .before .before .before in
     let start = word .before .before .before .before in
-    entry-stored _ _ _ _ _ _ _ _ (asEntry (start .args .e)) (word .put-word .ensures) (kind .put-word2 .ensures) (old .put-long .ensures) (new .put-long2 .ensures) (operator .put-word3 .ensures) (reason .put-word4 .ensures)
+    entry-stored _ _ _ _ _ _ _ _ _ (asEntry (start .args .e)) (word .put-word .ensures) (kind .put-word2 .ensures) (old .put-long .ensures) (new .put-long2 .ensures) (operator .put-word3 .ensures) (reason .put-word4 .ensures) (stamp .put-stamp .ensures)
 
 pub put-entry-spec : {M : Type 1} → statement M
 put-entry-spec =
@@ -101,5 +111,8 @@ put-entry-spec =
     mul-put-word-4
     add-put-word-4
     put-word-requires-4
+    mul-put-stamp
+    add-put-stamp
+    put-stamp-requires
     same-length
     returns-2)

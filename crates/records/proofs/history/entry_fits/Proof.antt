@@ -7,6 +7,7 @@ use Rattle.format.specs.Spots.{spotOf}
 use Rattle.book.specs.Views.{viewItem}
 use Rattle.book.specs.declared.items.Item.{Item}
 use Rattle.cursor.specs.Views.{viewStanding}
+use Rattle.records.specs.Views.{asEntry}
 use Rattle.records.proofs.Scanning.{other-spot}
 use Rattle.records.proofs.UndoLaws.{noted-item, unnoted-fits, nothing-fits, other-fits, item-fits}
 use borrow.Author.Needs.{needs}
@@ -22,7 +23,7 @@ head-at-requires c κs = search needs
 returns : tie.Need-returns
 returns c =
     let s = c .before .before .before .before .before in
-    unnoted-fits (now (s .args .map)) (now (s .args .f)) (s .pre) _ _ _ _ _ _ (omega (arith, c .before .head-at .ensures))
+    unnoted-fits (now (s .args .map)) (now (s .args .f)) (s .pre) _ _ (asEntry (s .args .e)) refl (omega (arith, c .before .head-at .ensures))
 
 item-noted-requires : tie.Need-item-noted-requires
 item-noted-requires c κs =
@@ -39,7 +40,7 @@ returns-2 : tie.Need-returns-2
 returns-2 c =
     let i = c .before .before in
     let s = i .before .before .before .before .before .before in
-    nothing-fits (now (s .args .map)) (now (s .args .f)) (s .pre) _ _ _ _ _ _ (sym (ap viewStanding (c .enum-told .given .1)) ∙ i .item-noted .ensures)
+    nothing-fits (now (s .args .map)) (now (s .args .f)) (s .pre) _ _ (asEntry (s .args .e)) refl (sym (ap viewStanding (c .enum-told .given .1)) ∙ i .item-noted .ensures)
 
 enum-known-item : tie.Need-enum-known-item
 enum-known-item c = search needs
@@ -63,7 +64,7 @@ returns-3 c =
     let i = s .before .before in
     let h = i .before in
     let a = h .before .before .before .before .before in
-    item-fits (now (a .args .map)) (now (a .args .f)) (a .pre) _ _ _ _ _ _ (omega (arith, h .before .head-at .ensures)) _ _ (sym (ap viewStanding (s .standing .given .1)) ∙ i .item-noted .ensures) _ _ _
+    item-fits (now (a .args .map)) (now (a .args .f)) (a .pre) _ _ (asEntry (a .args .e)) refl (omega (arith, h .before .head-at .ensures)) _ _ (sym (ap viewStanding (s .standing .given .1)) ∙ i .item-noted .ensures) _ _ _
     (λ k. ap (λ (z : Item). spotOf k (viewItem z)) (sym (t .item .given .1))) (c .fits-item .ensures)
 
 returns-4 : tie.Need-returns-4
@@ -73,7 +74,7 @@ returns-4 c =
     let i = s .before .before in
     let h = i .before in
     let a = h .before .before .before .before .before in
-    item-fits (now (a .args .map)) (now (a .args .f)) (a .pre) _ _ _ _ _ _ (omega (arith, h .before .head-at .ensures)) _ _ (sym (ap viewStanding (s .standing .given .1)) ∙ i .item-noted .ensures) _ _ _
+    item-fits (now (a .args .map)) (now (a .args .f)) (a .pre) _ _ (asEntry (a .args .e)) refl (omega (arith, h .before .head-at .ensures)) _ _ (sym (ap viewStanding (s .standing .given .1)) ∙ i .item-noted .ensures) _ _ _
     (λ k. ap (λ (z : Item). spotOf k (viewItem z)) (sym (t .item2 .given .1))) (c .fits-item2 .ensures)
 
 returns-5 : tie.Need-returns-5
@@ -82,7 +83,7 @@ returns-5 c =
     let i = s .before .before in
     let h = i .before in
     let a = h .before .before .before .before .before in
-    other-fits (now (a .args .map)) (now (a .args .f)) (a .pre) _ _ _ _ _ _ (omega (arith, h .before .head-at .ensures)) _ _ (sym (ap viewStanding (s .standing .given .1)) ∙ i .item-noted .ensures)
+    other-fits (now (a .args .map)) (now (a .args .f)) (a .pre) _ _ (asEntry (a .args .e)) refl (omega (arith, h .before .head-at .ensures)) _ _ (sym (ap viewStanding (s .standing .given .1)) ∙ i .item-noted .ensures)
     (other-spot (s .standing .given .0 .0 .item) (c .match2 .keys3))
 
 pub entry-fits-spec : {M : Type 1} → statement M

@@ -1,5 +1,6 @@
 -- `records::history::fits_item` meets its contract.
 -- Assumes nothing.
+use Rattle.records.specs.Views.{asEntry}
 use Rattle.records.proofs.UndoLaws.{item-tests}
 use borrow.Author.Needs.{needs}
 use Rattle.records.proofs.history.fits_item.Statement.{statement}
@@ -14,12 +15,20 @@ cast-signed-2 c = search needs
 signed-requires : tie.Need-signed-requires
 signed-requires c κs = search needs
 
+stamp-fits-requires : tie.Need-stamp-fits-requires
+stamp-fits-requires c κs = search needs
+
 legal-requires : tie.Need-legal-requires
 legal-requires c κs = search needs
 
 returns : tie.Need-returns
-returns c = item-tests _ _ _ _ _ _ _ _ _ _ (c .before .legal .ensures) (c .before .before .before .before .signed .ensures)
+returns c =
+    let l = c .before in
+    let k = l .before .before .before in
+    let n = k .before in
+    item-tests _ (asEntry (n .before .before .before .args .e)) _ _ _ _ _ (l .legal .ensures) (n .signed .ensures) (k .stamp-fits .ensures)
 
 pub fits-item-spec : {M : Type 1} → statement M
 fits-item-spec =
-    tie.close (tie.spec cast-signed cast-signed-2 signed-requires legal-requires returns)
+    tie.close
+    (tie.spec cast-signed cast-signed-2 signed-requires stamp-fits-requires legal-requires returns)
