@@ -13,7 +13,7 @@ use crate::follower::{follow, Follower};
 use crate::frame;
 use crate::item::Item;
 use crate::listing::listing;
-use crate::record::{self, Stopped};
+use crate::record::{self, Stopped, Version};
 use crate::rules::{refuse, Kind, Refusal, ROOM};
 use crate::run::{steps, Step};
 use crate::writer;
@@ -190,17 +190,19 @@ fn record_call(case: &mut Case) -> String {
             record::judge(&case.p)
                 .map(|r| numbers(&[r.frame_length as u64, r.entries as u64, r.total as u64])),
         ),
-        ENTRY => verdict(record::entry(&case.p, a[0]).map(|e| {
-            let ends = [e.operator as u64, e.reason as u64];
+        ENTRY => verdict(record::entry(&case.p, a[0]).map(|(version, e)| {
             let values = [e.index as u64, e.kind as u64, e.old as u64, e.new as u64];
-            numbers(&[values.as_slice(), ends.as_slice()].concat())
+            let ends = [e.operator as u64, e.reason as u64, e.time];
+            // The time is a value of version 2 alone.
+            let told = if version == Version::First { 2 } else { 3 };
+            numbers(&[&values[..], &ends[..told]].concat())
         })),
         OPEN => {
             let done = record::open(&mut case.p, &case.q);
             format!("{} | {}", verdict(done.map(|()| vec![])), sum(&case.p))
         }
         EDIT => {
-            let done = record::edit(&mut case.p, a[0], a[1], a[2], a[3]);
+            let done = record::edit(&mut case.p, a[0], a[1], a[2], a[3], a[4]);
             format!("{} | {}", verdict(done.map(|()| vec![])), sum(&case.p))
         }
         EDIT_ALL => {

@@ -142,7 +142,7 @@ fn table(case: &Case) -> Option<(Vec<u64>, bool, bool)> {
         ADD_TEXT | RESTORE => (vec![ANY], true, true),
         FOLLOW => (vec![256, U16], false, false),
         OPEN | LIST | EDIT_ALL => (vec![], true, true),
-        EDIT => (vec![U32, U32, U32, U32], true, false),
+        EDIT => (vec![U32, U32, U32, U32, ANY], true, false),
         RUN => (vec![U16], true, false),
         STEP => (vec![31, 256, 1, U32, U32, 512], true, false),
         _ => return None,
@@ -211,6 +211,7 @@ impl Iterator for Cases<'_> {
 #[cfg(test)]
 mod tests {
     use super::*;
+    use crate::corrections::CORRECTION_BYTES;
 
     fn bytes_of(case: &Case) -> Vec<u8> {
         let mut out = Vec::new();
@@ -302,6 +303,21 @@ mod tests {
     }
 
     #[test]
+    fn bad_edits() {
+        let edit = |a: &[u64]| is_bad(&bytes_of(&Case::new(EDIT, a).p(&[1, 2, 3])));
+        // A time may be any number, the others are of 32 bits.
+        let most = [U32, U32, U32, U32, ANY];
+        assert!(!edit(&most) && !edit(&[]));
+        for at in 0..4 {
+            let mut a = most;
+            a[at] += 1;
+            assert!(edit(&a), "{a:?}");
+        }
+        assert!(edit(&[1, 1, 1, 1, 1, 1]));
+        assert!(is_bad(&bytes_of(&Case::new(EDIT, &most).q(&[1]))));
+    }
+
+    #[test]
     fn bad_lists() {
         let list = |payload: &[u8]| Case::new(EDIT_ALL, &[]).p(&[1, 2, 3]).q(payload);
         let bad = |case: &Case| is_bad(&bytes_of(case));
@@ -309,15 +325,9 @@ mod tests {
         for length in [1, 16, 23, 25, MAX_PAYLOAD - 1, MAX_PAYLOAD + 24] {
             assert!(bad(&list(&vec![0; length])), "{length}");
         }
-        // All of 16 bytes may stand, but no time, also behind a correction that
-        // is refused.
-        let full = [[0xFF; 16].as_slice(), &[0; 8]].concat();
-        assert!(!bad(&list(&[full.clone(), full.clone()].concat())));
-        for at in [16, 20, 23, 40, 47] {
-            let mut timed = [full.clone(), full.clone()].concat();
-            timed[at] = 1;
-            assert!(bad(&list(&timed)), "byte {at}");
-        }
+        // Any bytes may stand in a correction.
+        let full = [0xFF; CORRECTION_BYTES];
+        assert!(!bad(&list(&[full, full].concat())));
         for at in 0..7 {
             let mut case = list(&full);
             case.a[at] = 1;

@@ -14,7 +14,7 @@ use crate::make_corrections::correction;
 use crate::make_record::{edit_arguments, history, lay_out, recorded_draft};
 use crate::make_run::any_run;
 use crate::make_writer::{add, aimed_item, aimed_text, begin_case};
-use crate::record::{Correction, ENTRY_BYTES, HEADER_BYTES, MAX_ENTRIES};
+use crate::record::{Correction, Version, ENTRY_BYTES, HEADER_BYTES, MAX_ENTRIES};
 use crate::rng::Rng;
 use crate::rules::Kind;
 use crate::run::{steps, Step};
@@ -152,7 +152,7 @@ pub fn recording(rng: &mut Rng, sink: &mut Sink) {
         return;
     }
     let edits = rng.below(10);
-    let slack = rng.pick(&[0, 0, 1, 15, 16, 17, 40]);
+    let slack = rng.pick(&[0, 0, 1, 16, 23, 24, 25, 40]);
     let room = HEADER_BYTES + frame.len() + ENTRY_BYTES * edits + slack;
     let mut open = Case::new(OPEN, &[]).p(&rng.bytes(room)).q(&frame);
     sink.call(&mut open);
@@ -216,8 +216,8 @@ fn filling(rng: &mut Rng, sink: &mut Sink) {
     let mut frame = sound(rng, kind, 12).frame();
     let count = MAX_ENTRIES - rng.below(2);
     let entries = history(rng, &mut frame, count);
-    let mut record = lay_out(&frame, &entries);
-    let more = rng.pick(&[0, 16, 16, 32]);
+    let mut record = lay_out(Version::Second, &frame, &entries);
+    let more = rng.pick(&[0, 16, ENTRY_BYTES, ENTRY_BYTES, 2 * ENTRY_BYTES]);
     record.extend(rng.bytes(more));
     let (after, tried) = singly(rng, sink, &record, 3);
     in_lists(sink, &record, &tried);
@@ -240,8 +240,8 @@ mod tests {
         let (mut changed, mut stopped) = (0, 0);
         for _ in 0..500 {
             let frame = recorded_draft(&mut rng).frame();
-            let mut record = lay_out(&frame, &[]);
-            let more = rng.below(120);
+            let mut record = lay_out(Version::Second, &frame, &[]);
+            let more = rng.below(180);
             record.extend(rng.bytes(more));
             let mut sink = Sink::new(&[EDIT_ALL], usize::MAX);
             let (after, tried) = singly(&mut rng, &mut sink, &record, 8);

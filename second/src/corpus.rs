@@ -10,6 +10,7 @@ use crate::corpus_writer;
 use crate::item::to_bytes;
 use crate::known::*;
 use crate::known_parts::part;
+use crate::known_versions;
 
 /// The cases of the given ops, in the order of the ops.
 pub fn corpus(ops: &[u8]) -> Vec<u8> {
@@ -46,6 +47,7 @@ fn all() -> Vec<Case> {
         corpus_run::run_cases(),
         corpus_run::step_cases(),
         corpus_corrections::edit_all_cases(),
+        known_versions::versions().into_iter().map(|(case, _)| case).collect(),
     ]
     .concat();
     cases.sort_by_key(|case| case.op);
@@ -369,8 +371,8 @@ mod tests {
         assert_eq!(tally.missing(), Vec::<String>::new());
         assert_eq!(tally.cases(), all().len() as u64);
         assert!(answers(&bytes).all(|line| line != crate::answer::BAD_CASE));
-        assert!((300..=2800).contains(&tally.cases()), "{}", tally.cases());
-        assert!(bytes.len() < 2_000_000, "{}", bytes.len());
+        assert!((300..=4000).contains(&tally.cases()), "{}", tally.cases());
+        assert!(bytes.len() < 2_800_000, "{}", bytes.len());
     }
 
     #[test]

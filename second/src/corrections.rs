@@ -1,38 +1,30 @@
 //! A list of corrections as a case carries it: 24 bytes each, word index,
-//! value, operator and reason in 4 bytes each, then 8 bytes that are zero.
+//! value, operator and reason in 4 bytes each, then the time in 8, any number.
 
 use crate::record::Correction;
 
 /// How many bytes a correction takes in a payload.
 pub const CORRECTION_BYTES: usize = 24;
 
-/// The corrections of a payload; none where it ends inside one, or where one
-/// has anything in its last eight bytes, which are kept for a time.
+/// The corrections of a payload; none where it ends inside one.
 pub fn read(payload: &[u8]) -> Option<Vec<Correction>> {
     let corrections = payload.chunks_exact(CORRECTION_BYTES);
-    if !corrections.remainder().is_empty() {
-        return None;
-    }
-    corrections.map(correction).collect()
+    let whole = corrections.remainder().is_empty();
+    whole.then(|| corrections.map(correction).collect())
 }
 
-fn correction(bytes: &[u8]) -> Option<Correction> {
+fn correction(bytes: &[u8]) -> Correction {
     let long = |at: usize| u32::from_le_bytes(bytes[at..at + 4].try_into().unwrap());
-    let timeless = bytes[16..].iter().all(|byte| *byte == 0);
-    timeless.then_some(Correction {
-        index: long(0),
-        value: long(4),
-        operator: long(8),
-        reason: long(12),
-    })
+    let time = long(16) as u64 | (long(20) as u64) << 32;
+    Correction { index: long(0), value: long(4), operator: long(8), reason: long(12), time }
 }
 
 /// The payload of the corrections.
 pub fn payload(corrections: &[Correction]) -> Vec<u8> {
     let mut payload = Vec::new();
-    for Correction { index, value, operator, reason } in corrections {
+    for Correction { index, value, operator, reason, time } in corrections {
         [index, value, operator, reason].iter().for_each(|long| payload.extend(long.to_le_bytes()));
-        payload.extend([0; 8]);
+        payload.extend(time.to_le_bytes());
     }
     payload
 }
@@ -44,11 +36,15 @@ mod tests {
     #[test]
     fn corrections_read_back() {
         let first = [11, 0, 0, 0, 4, 1, 0, 0, 9, 0, 0, 0, 2, 0, 0, 0, 0, 0, 0, 0, 0, 0, 0, 0];
-        let second = [&[0xFF; 4][..], &[0, 0, 0, 1], &[0, 0, 1, 0], &[0, 1, 0, 0], &[0; 8]];
-        let bytes = [&first[..], &second.concat()].concat();
+        let longs = [&[0xFF; 4][..], &[0, 0, 0, 1], &[0, 0, 1, 0], &[0, 1, 0, 0]];
+        let second = [&longs.concat()[..], &[2, 0, 0, 0, 3, 0, 0, 0]].concat();
+        let third = [&[0; 16][..], &[0xFF; 8]].concat();
+        let bytes = [&first[..], &second, &third].concat();
+        let (value, operator, reason) = (1 << 24, 1 << 16, 1 << 8);
         let list = [
-            Correction { index: 11, value: 260, operator: 9, reason: 2 },
-            Correction { index: u32::MAX, value: 1 << 24, operator: 1 << 16, reason: 1 << 8 },
+            Correction { index: 11, value: 260, operator: 9, reason: 2, time: 0 },
+            Correction { index: u32::MAX, value, operator, reason, time: 3 << 32 | 2 },
+            Correction { index: 0, value: 0, operator: 0, reason: 0, time: u64::MAX },
         ];
         assert_eq!(read(&bytes).unwrap(), list);
         assert_eq!(payload(&list), bytes);
@@ -60,12 +56,6 @@ mod tests {
     fn what_is_no_list() {
         for length in [1, 8, 16, 23, 25, 47, 49] {
             assert_eq!(read(&vec![0; length]), None, "{length}");
-        }
-        // A time in any correction, in any of its bytes.
-        for at in (16..24).chain(40..48) {
-            let mut bytes = [0; 48];
-            bytes[at] = 1;
-            assert_eq!(read(&bytes), None, "byte {at}");
         }
     }
 }

@@ -4,7 +4,7 @@ use crate::cases::*;
 use crate::follower::{follow, Follower};
 use crate::frame::*;
 use crate::item::{to_bytes, word, Item};
-use crate::record;
+use crate::record::{self, Version};
 use crate::rules::{Kind, Refusal};
 
 const THIRD: [u16; 17] = [
@@ -84,16 +84,15 @@ fn figures_8_and_9_are_refused() {
     assert_eq!(read(&to_bytes(&zeros)).unwrap_err(), refused(9, 4));
 }
 
-/// The record of case 3 in a buffer that has room for two entries.
-fn opened() -> Vec<u8> {
-    let mut buffer = vec![0xEE; 0x32 + 32];
-    record::open(&mut buffer, &to_bytes(&THIRD)).unwrap();
-    buffer
-}
-
 const ENTRY_BYTES: [u8; 16] = [
     0x0B, 0x00, 0x01, 0x00, 0xFA, 0x00, 0x00, 0x00, 0x04, 0x01, 0x00, 0x00, 0x09, 0x00, 0x02, 0x00,
 ];
+
+/// Case 10 before its edit: 0x32 bytes. Nothing makes such a record any more;
+/// request 3 has it read, restored and listed.
+fn fresh_bytes() -> Vec<u8> {
+    [to_bytes(&[1, 1, 0x10, 0x22, 0x32, 0, 0x32, 0]), to_bytes(&THIRD)].concat()
+}
 
 /// What the record of case 10 has after its edit: 0x42 bytes.
 fn edited_bytes() -> Vec<u8> {
@@ -102,78 +101,81 @@ fn edited_bytes() -> Vec<u8> {
 }
 
 #[test]
-fn figure_10_is_edited() {
-    let mut buffer = opened();
-    assert_eq!(buffer[..16], to_bytes(&[1, 1, 0x10, 0x22, 0x32, 0, 0x32, 0]));
-    assert_eq!(buffer[16..0x32], to_bytes(&THIRD));
-    assert!(buffer[0x32..].iter().all(|byte| *byte == 0xEE));
-    record::edit(&mut buffer, 11, 260, 9, 2).unwrap();
-    assert_eq!(word(&buffer[16..], 11), 0x3104);
-    assert_eq!((word(&buffer, 5), word(&buffer, 6)), (1, 0x0042));
-    assert_eq!(buffer[..0x42], edited_bytes());
-    assert!(buffer[0x42..].iter().all(|byte| *byte == 0xEE));
-}
-
-/// What `list` prints for case 10 after its edit, by its values.
-#[test]
-fn the_listing_of_figure_10_has_its_values() {
+fn figure_10_is_read() {
+    let fresh = record::judge(&fresh_bytes()).unwrap();
+    assert_eq!((fresh.frame_length, fresh.entries, fresh.total), (34, 0, 0x32));
     let bytes = edited_bytes();
+    assert_eq!(word(&bytes[16..], 11), 0x3104);
     let judged = record::judge(&bytes).unwrap();
     assert_eq!((judged.frame.kind.letter(), judged.frame.card), ('D', 5));
     assert_eq!((judged.frame.sequence, judged.frame_length), (0x0100, 34));
     assert_eq!((judged.frame.items.len(), judged.entries, judged.total), (6, 1, 0x42));
-    let entry = record::entry(&bytes, 1).unwrap();
+    let (version, entry) = record::entry(&bytes, 1).unwrap();
+    assert_eq!(version, Version::First);
     assert_eq!((entry.index, entry.kind, entry.old, entry.new), (11, 1, 250, 260));
     assert_eq!((entry.operator, entry.reason), (9, 2));
     // An entry that does not fit: `refused 21 at 1`.
     let mut wrong = bytes.clone();
     wrong[0x32 + 8] ^= 1;
     assert_eq!(record::judge(&wrong).err(), Some(refused(21, 1)));
-}
-
-#[test]
-fn figure_11_edits_again() {
-    let mut buffer = opened();
-    record::edit(&mut buffer, 11, 260, 9, 2).unwrap();
-    let before = buffer.clone();
-    assert_eq!(record::edit(&mut buffer, 11, 260, 9, 2), Err(refused(23, 0)));
-    assert_eq!(record::edit(&mut buffer, 10, 260, 9, 2), Err(refused(22, 0)));
-    assert_eq!(record::edit(&mut buffer, 12, 4096, 9, 2), Err(refused(23, 0)));
-    assert_eq!(buffer, before);
-    record::edit(&mut buffer, 12, 4095, 9, 2).unwrap();
-    let mut expected = edited_bytes();
-    expected[10..14].copy_from_slice(&[2, 0, 0x52, 0]);
-    expected[16 + 24..16 + 26].copy_from_slice(&[0xFF, 0x3F]);
-    expected.extend([0x0C, 0, 1, 0, 0xFB, 0, 0, 0, 0xFF, 0x0F, 0, 0, 9, 0, 2, 0]);
-    assert_eq!(buffer, expected);
     // Restoring gives each frame that stood.
     let mut out = vec![0xEE; 36];
-    for (k, frame) in [to_bytes(&THIRD), changed(&THIRD, 11, 0x3104), buffer[16..0x32].to_vec()]
-        .iter()
-        .enumerate()
-    {
-        record::restore(&buffer, k as u64, &mut out).unwrap();
+    for (k, frame) in [to_bytes(&THIRD), changed(&THIRD, 11, 0x3104)].iter().enumerate() {
+        record::restore(&bytes, k as u64, &mut out).unwrap();
         assert_eq!(out[..34], frame[..]);
         assert_eq!(out[34..], [0xEE, 0xEE]);
     }
-    assert_eq!(record::restore(&buffer, 3, &mut out), Err(refused(26, 0)));
+    assert_eq!(record::restore(&bytes, 2, &mut out), Err(refused(26, 0)));
 }
 
-/// The fixed corpus asks cases 10 and 11, and the answers are the document's.
+/// What the document has `list` print for case 10 after its edit.
+#[test]
+fn figure_10_is_listed() {
+    let lines = "frame D card 5 seq 0100 bytes 34 items 6\n\
+                 edit 1 word 11 sample 250 -> 260 by 9 reason 2\n\
+                 end 1\n";
+    assert_eq!(crate::listing::listing(&edited_bytes()), lines);
+}
+
+/// Request 3: the edits of cases 10 and 11 are all refused by 20.
+#[test]
+fn figures_10_and_11_are_not_edited() {
+    let mut fresh = [fresh_bytes(), vec![0xEE; 48]].concat();
+    let before = fresh.clone();
+    assert_eq!(record::edit(&mut fresh, 11, 260, 9, 2, 0), Err(refused(20, 0)));
+    assert_eq!(fresh, before);
+    let mut edited = [edited_bytes(), vec![0xEE; 48]].concat();
+    let before = edited.clone();
+    for (index, value) in [(11, 260), (10, 260), (12, 4095), (12, 4096)] {
+        assert_eq!(record::edit(&mut edited, index, value, 9, 2, 0), Err(refused(20, 0)));
+    }
+    assert_eq!(edited, before);
+}
+
+/// The fixed corpus asks cases 10 and 11 on the document's bytes, and then of
+/// version 2. The answers are the two documents'.
 #[test]
 fn figures_10_and_11_are_in_the_corpus() {
     let mut cases = crate::corpus_record::figure_cases();
+    let asked = cases.clone();
     let lines: Vec<String> = cases.iter_mut().map(crate::answer::answer).collect();
     let answers: Vec<&str> = lines.iter().map(|line| line.split(" |").next().unwrap()).collect();
-    let record = ["ok", "ok 34 0 50", "ok", "ok 34 1 66", "ok 11 1 250 260 9 2"];
-    let edits = ["refused 23 at 0", "refused 22 at 0", "ok", "refused 23 at 0"];
-    assert_eq!(answers, [&record[..], &["ok", "ok"], &edits].concat());
-    // What the calls left: opened, edited, and both frames.
-    assert_eq!(cases[0].p[..16], to_bytes(&[1, 1, 0x10, 0x22, 0x32, 0, 0x32, 0]));
-    assert_eq!(cases[0].p[16..0x32], to_bytes(&THIRD));
-    assert_eq!(cases[2].p[..0x42], edited_bytes());
-    assert_eq!(cases[5].q[..34], to_bytes(&THIRD));
-    assert_eq!(cases[6].q[..34], changed(&THIRD, 11, 0x3104));
+    let (none, list) = ("refused 20 at 0", "refused 20 at 0 position 0");
+    // The three listed lines have 41, 47 and 6 bytes, or 61 for the second.
+    let first = ["ok 34 0 50", "ok 34 1 66", "ok 11 1 250 260 9 2", "ok", "ok", "ok 94"];
+    assert_eq!(answers[..6], first);
+    assert_eq!(answers[6..14], [none, none, none, none, none, list, list, "ok"]);
+    let timed = "ok 11 1 250 260 9 2 1731400000";
+    assert_eq!(answers[14..21], ["ok", "ok 34 0 50", "ok 34 1 74", timed, "ok", "ok", "ok 108"]);
+    let edits = ["ok", "refused 23 at 0", "refused 22 at 0", "ok", "refused 23 at 0"];
+    assert_eq!(answers[21..26], edits);
+    assert_eq!(answers[26..], ["ok", "refused 23 at 0 position 1", "ok"]);
+    // Version 1 is asked on the document's bytes, and none of them is written.
+    assert_eq!(asked[0].p[..0x32], fresh_bytes());
+    assert_eq!(asked[1].p[..0x42], edited_bytes());
+    assert!(cases[..14].iter().zip(&asked).all(|(after, before)| after.p == before.p));
+    assert_eq!(cases[3].q[..34], to_bytes(&THIRD));
+    assert_eq!(cases[4].q[..34], changed(&THIRD, 11, 0x3104));
 }
 
 #[test]

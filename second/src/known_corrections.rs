@@ -8,7 +8,7 @@ use crate::corrections::payload;
 use crate::known::*;
 use crate::known_runs::KnownLine;
 use crate::make_record::lay_out;
-use crate::record::{Correction, ENTRY_BYTES};
+use crate::record::{Correction, Entry, Version, ENTRY_BYTES, MAX_TIME};
 
 pub fn list(record: &[u8], list: &[Correction]) -> Case {
     Case::new(EDIT_ALL, &[]).p(record).q(&payload(list))
@@ -40,7 +40,21 @@ pub fn to(index: u32, value: u32) -> Correction {
 }
 
 fn signed(index: u32, value: u32, operator: u32, reason: u32) -> Correction {
-    Correction { index, value, operator, reason }
+    Correction { index, value, operator, reason, time: WHEN }
+}
+
+pub fn timed(index: u32, value: u32, time: u64) -> Correction {
+    Correction { time, ..to(index, value) }
+}
+
+/// A record of version 2.
+fn record_of(frame: &[u8], entries: &[Entry]) -> Vec<u8> {
+    lay_out(Version::Second, frame, entries)
+}
+
+/// Case 3 after so many edits, of version 2.
+fn edits(count: u16) -> Vec<u8> {
+    many_edits(Version::Second, count)
 }
 
 /// The record in a buffer with room for so many entries and some bytes more.
@@ -50,12 +64,12 @@ fn roomy(record: &[u8], entries: usize, more: usize) -> Vec<u8> {
 
 /// Case 3 as a record: samples of 250 and 251 in words 11 and 12.
 fn fresh() -> Vec<u8> {
-    lay_out(&third(), &[])
+    record_of(&third(), &[])
 }
 
 /// Case 7 as a record: a bin of 70,000 in word 4.
 fn bins() -> Vec<u8> {
-    lay_out(&seventh(), &[])
+    record_of(&seventh(), &[])
 }
 
 pub fn lists() -> Vec<KnownLine> {
@@ -77,8 +91,9 @@ pub fn figure_lists() -> Vec<KnownLine> {
 
 /// An empty list is accepted whatever the buffer holds.
 fn empty_lists() -> Vec<KnownLine> {
-    let mut buffers = [good_records(), some_faulty()].concat();
-    buffers.extend([511, 512, 513].map(many_edits));
+    let kinds = Version::BOTH.map(|version| [good_records(version), some_faulty(version)].concat());
+    let mut buffers = kinds.concat();
+    buffers.extend([511, 512, 513].map(edits));
     buffers.extend([0, 1, 15, 16, 34, 600].map(|length| extended(&[], length)));
     buffers.extend([vec![0; 16], vec![0xFF; 82], roomy(&fresh(), 2, 5)]);
     buffers.iter().map(|buffer| done(buffer, &[])).collect()
@@ -87,14 +102,14 @@ fn empty_lists() -> Vec<KnownLine> {
 /// Forty bins of one histogram, 1 to 40 in them, the first in word 4.
 fn forty_bins() -> Vec<u8> {
     let bins = (0..40).flat_map(|bin| [0x2100 + bin, 1 + bin, 0]);
-    lay_out(&framed(MONITOR, &[0x8A05].into_iter().chain(bins).collect::<Vec<u16>>()), &[])
+    record_of(&framed(MONITOR, &[0x8A05].into_iter().chain(bins).collect::<Vec<u16>>()), &[])
 }
 
 /// Forty samples of one channel, 0 to 39, the first in word 11.
 fn forty_samples() -> Vec<u8> {
     let samples = (0..40).map(|at| 0x3000 + at);
     let inner: Vec<u16> = [0xCA05, 0x0E00].into_iter().chain(samples).collect();
-    lay_out(&framed(DATA, &event(&inner)), &[])
+    record_of(&framed(DATA, &event(&inner)), &[])
 }
 
 /// Forty corrections, all good, where there is room for all, for all but the
@@ -105,9 +120,9 @@ fn forty() -> Vec<KnownLine> {
     let in_samples: Vec<Correction> = (0..40).map(|at| to(11 + at, 4095 - at)).collect();
     let mut known = Vec::new();
     for (record, good) in [(&bins, &in_bins), (&samples, &in_samples)] {
-        known.extend([0, 7, 16].map(|more| done(&roomy(record, 40, more), good)));
+        known.extend([0, 7, 24].map(|more| done(&roomy(record, 40, more), good)));
         known.push(done(&roomy(record, 40, 0), &good.iter().rev().copied().collect::<Vec<_>>()));
-        for (entries, more) in [(39, 0), (39, 15), (20, 1), (1, 0), (0, 15), (0, 0)] {
+        for (entries, more) in [(39, 0), (39, 23), (20, 1), (1, 0), (0, 23), (0, 0)] {
             known.push(stopped(&roomy(record, entries, more), good, 12, entries));
         }
         for at in [0, 19, 39] {
@@ -122,7 +137,7 @@ fn forty() -> Vec<KnownLine> {
 /// Putting a value back is a new edit, in a list too.
 fn put_back() -> Vec<KnownLine> {
     let (frame, entries) = three_edits();
-    let edited = lay_out(&frame, &entries);
+    let edited = record_of(&frame, &entries);
     let to_and_fro: Vec<Correction> =
         (0..40).map(|at| to(11, if at % 2 == 0 { 1000 } else { 250 })).collect();
     vec![
@@ -134,12 +149,12 @@ fn put_back() -> Vec<KnownLine> {
     ]
 }
 
-/// Two samples by turns, twice each.
+/// Two samples by turns, twice each, by a clock that goes back.
 const GOOD: [Correction; 4] = [
-    Correction { index: 11, value: 1, operator: 1, reason: 1 },
-    Correction { index: 12, value: 4095, operator: 0xFFFF, reason: 5 },
-    Correction { index: 11, value: 3, operator: 9, reason: 2 },
-    Correction { index: 12, value: 0, operator: 256, reason: 4 },
+    Correction { index: 11, value: 1, operator: 1, reason: 1, time: MAX_TIME },
+    Correction { index: 12, value: 4095, operator: 0xFFFF, reason: 5, time: 0 },
+    Correction { index: 11, value: 3, operator: 9, reason: 2, time: 1 << 32 },
+    Correction { index: 12, value: 0, operator: 256, reason: 4, time: 0xFFFF_FFFF },
 ];
 
 /// The good ones with another in front of them, in the middle or behind them.
@@ -159,15 +174,17 @@ fn places() -> Vec<KnownLine> {
     let no_value = [4096, 0x3001, 0x1_0002, u32::MAX];
     let no_operator = [0, 0x1_0000, 0x1_0009, u32::MAX];
     let no_reason = [0, 6, 0x1_0002, u32::MAX];
+    let no_time = [1 << 48, (1 << 48) + 5, 1 << 63, u64::MAX];
     let faults = [
         no_target.map(|index| (22, to(index, 77))).to_vec(),
         no_value.map(|value| (23, to(12, value))).to_vec(),
         no_operator.map(|operator| (24, signed(12, 77, operator, 2))).to_vec(),
         no_reason.map(|reason| (24, signed(12, 77, 9, reason))).to_vec(),
+        no_time.map(|time| (24, timed(12, 77, time))).to_vec(),
     ];
     let (frame, entries) = three_edits();
     // These edits left 4,095 in word 12, where it would be no new value.
-    let edited = lay_out(&frame, &entries);
+    let edited = record_of(&frame, &entries);
     let mut other = GOOD;
     other[1].value = 4094;
     let records = [(roomy(&fresh(), 5, 0), GOOD), (roomy(&edited, 5, 3), other)];
@@ -223,11 +240,11 @@ fn rooms() -> Vec<KnownLine> {
     let good = [&GOOD[..], &[to(11, 5)]].concat();
     let mut known = Vec::new();
     for entries in 0..5 {
-        for more in [0, 1, 15] {
+        for more in [0, 1, 16, 23] {
             known.push(stopped(&roomy(&fresh(), entries, more), &good, 12, entries));
         }
     }
-    known.extend([0, 1, 16].map(|more| done(&roomy(&fresh(), 5, more), &good)));
+    known.extend([0, 1, 24].map(|more| done(&roomy(&fresh(), 5, more), &good)));
     known.push(stopped(&fresh(), &[to(11, 1)], 12, 0));
     known
 }
@@ -235,18 +252,18 @@ fn rooms() -> Vec<KnownLine> {
 /// Entries up to 512 and past it: there is no room beyond, or there is.
 fn full() -> Vec<KnownLine> {
     let three = [to(12, 1), to(12, 2), to(12, 3)];
-    let mut known = vec![done(&roomy(&many_edits(509), 4, 0), &three)];
+    let mut known = vec![done(&roomy(&edits(509), 4, 0), &three)];
     for (entries, position) in [(510, 2), (511, 1), (512, 0)] {
-        known.push(stopped(&roomy(&many_edits(entries), 4, 0), &three, 25, position));
+        known.push(stopped(&roomy(&edits(entries), 4, 0), &three, 25, position));
     }
     // Full comes before room: of two the first takes what there is.
-    known.push(stopped(&roomy(&many_edits(511), 1, 0), &three, 25, 1));
-    known.push(stopped(&roomy(&many_edits(511), 0, 15), &three, 12, 0));
-    known.push(stopped(&many_edits(512), &three, 25, 0));
-    known.push(done(&roomy(&many_edits(511), 1, 0), &three[..1]));
+    known.push(stopped(&roomy(&edits(511), 1, 0), &three, 25, 1));
+    known.push(stopped(&roomy(&edits(511), 0, 23), &three, 12, 0));
+    known.push(stopped(&edits(512), &three, 25, 0));
+    known.push(done(&roomy(&edits(511), 1, 0), &three[..1]));
     // The other refusals come before it.
     for (number, fault) in [(22, to(10, 5)), (23, to(12, 1)), (24, signed(12, 5, 0, 1))] {
-        known.push(stopped(&roomy(&many_edits(511), 1, 0), &[to(12, 1), fault], number, 1));
+        known.push(stopped(&roomy(&edits(511), 1, 0), &[to(12, 1), fault], number, 1));
     }
     known
 }
@@ -271,7 +288,9 @@ fn orders() -> Vec<KnownLine> {
         (23, signed(12, 251, 9, 6)),
         (24, signed(12, 1, 0, 0)),
         (24, signed(12, 1, 1, 6)),
-        (12, signed(12, 1, 1, 1)),
+        (23, timed(12, 251, MAX_TIME + 1)),
+        (24, timed(12, 1, MAX_TIME + 1)),
+        (12, timed(12, 1, MAX_TIME)),
     ];
     let mut known = Vec::new();
     for (number, fault) in faults {
@@ -289,19 +308,20 @@ fn orders() -> Vec<KnownLine> {
 fn own_refusals() -> Vec<KnownLine> {
     let mut records: Vec<(Vec<u8>, (u8, u64))> = Vec::new();
     for known in refused_known(1) {
-        records.push((lay_out(&known.bytes, &[]), known.refusal.expect("a refused frame")));
+        records.push((record_of(&known.bytes, &[]), known.refusal.expect("a refused frame")));
     }
-    records.extend(faulty_headers().into_iter().step_by(4).map(|record| (record, (20, 0))));
+    let headers = faulty_headers(Version::Second).into_iter().step_by(4);
+    records.extend(headers.map(|record| (record, (20, 0))));
     records.extend([0, 1, 15].map(|length| (extended(&[], length), (20, 0))));
     for (at, place) in [(0, 1), (1, 2), (2, 3)] {
         let (frame, mut entries) = three_edits();
         entries[at].reason = 6;
-        records.push((lay_out(&frame, &entries), (21, place)));
+        records.push((record_of(&frame, &entries), (21, place)));
     }
     // The newest entry that does not fit is told.
     let (frame, mut entries) = three_edits();
     (entries[0].operator, entries[1].kind) = (0, 2);
-    records.push((lay_out(&frame, &entries), (21, 2)));
+    records.push((record_of(&frame, &entries), (21, 2)));
     let mut known = Vec::new();
     for (record, refusal) in records {
         known.push(stopped_at(&record, &[to(11, 5)], refusal, 0));
@@ -314,8 +334,8 @@ fn own_refusals() -> Vec<KnownLine> {
 
 /// Parts of events, the longest frame, and frames with nothing to correct.
 fn other_frames() -> Vec<KnownLine> {
-    let parts = roomy(&lay_out(&three_parts(), &[]), 3, 0);
-    let long = lay_out(&framed(MONITOR, &filled(MONITOR, 4092)), &[]);
+    let parts = roomy(&record_of(&three_parts(), &[]), 3, 0);
+    let long = record_of(&framed(MONITOR, &filled(MONITOR, 4092)), &[]);
     // Its bins stand in words 4 to 4,090; two Histograms are behind them.
     let mut ends: Vec<Correction> = (0..5).map(|at| to(4 + 3 * at, 70_000)).collect();
     ends.extend((0..5).map(|at| to(4090 - 3 * at, 1)));
@@ -328,7 +348,7 @@ fn other_frames() -> Vec<KnownLine> {
         stopped(&roomy(&long, 11, 0), &past, 22, 10),
     ];
     for frame in [five_texts(), figures()[0].bytes.clone(), framed(DATA, &START)] {
-        let record = roomy(&lay_out(&frame, &[]), 2, 0);
+        let record = roomy(&record_of(&frame, &[]), 2, 0);
         known.push(stopped(&record, &[to(3, 1), to(11, 5)], 22, 0));
     }
     known
@@ -365,12 +385,12 @@ mod tests {
             let entries = word(&case.p, 5) as usize + made;
             assert_eq!(word(&after.p, 5) as usize, entries);
             let end = word(&after.p, 6) as usize;
-            assert_eq!(end, 16 + word(&case.p, 3) as usize + 16 * entries);
+            assert_eq!(end, 16 + word(&case.p, 3) as usize + 24 * entries);
             assert_eq!(after.p[end..], case.p[end..]);
             for (at, c) in list[..made].iter().enumerate() {
                 let entry = crate::record::entry(&after.p, (entries - made + at + 1) as u64);
-                let entry = entry.unwrap();
-                assert_eq!((entry.index as u32, entry.new), (c.index, c.value));
+                let entry = entry.unwrap().1;
+                assert_eq!((entry.index as u32, entry.new, entry.time), (c.index, c.value, c.time));
                 assert_eq!((entry.operator as u32, entry.reason as u32), (c.operator, c.reason));
             }
         }

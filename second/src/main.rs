@@ -1,6 +1,6 @@
 //! The independent second program: answers cases by document 01 and requests 1
-//! and 2 of document 02, makes fresh ones, and compares another program's lines with its
-//! own.
+//! to 3 of document 02, makes fresh ones, and compares another program's lines
+//! with its own.
 
 mod answer;
 mod assembler;
@@ -24,6 +24,8 @@ mod figures;
 mod figures_corrections;
 #[cfg(test)]
 mod figures_parts;
+#[cfg(test)]
+mod figures_versions;
 mod follower;
 mod frame;
 mod item;
@@ -32,6 +34,7 @@ mod known_corrections;
 mod known_parts;
 mod known_runs;
 mod known_steps;
+mod known_versions;
 mod listing;
 mod make;
 mod make_corrections;

@@ -7,7 +7,7 @@ use crate::damage::damaged_frame;
 use crate::draft::sound;
 use crate::make_record::*;
 use crate::make_writer::lend;
-use crate::record::{Correction, Entry, Target, ENTRY_BYTES, MAX_ENTRIES};
+use crate::record::{Correction, Entry, Target, Version, ENTRY_BYTES, MAX_ENTRIES};
 use crate::rng::Rng;
 use crate::rules::Kind;
 use std::collections::BTreeMap;
@@ -16,25 +16,25 @@ use std::collections::BTreeMap;
 pub fn edit_all_case(rng: &mut Rng) -> Case {
     match rng.below(1000) {
         0..=49 => empty_list(rng),
-        50..=239 => {
-            let record = any_record(rng);
+        50..=219 => {
+            let record = any_record(rng, 20);
             on_record(rng, &record)
         }
-        240..=324 => {
+        220..=304 => {
             let draft = recorded_draft(rng);
-            let record = lay_out(&damaged_frame(rng, &draft), &[]);
+            let record = lay_out(Version::Second, &damaged_frame(rng, &draft), &[]);
             on_record(rng, &record)
         }
-        325..=349 => near_full(rng),
-        350 => up_to_full(rng),
+        305..=329 => near_full(rng),
+        330 => up_to_full(rng),
         _ => in_sound_record(rng),
     }
 }
 
 /// The correction that the arguments of a single edit name.
-pub fn correction(arguments: [u64; 4]) -> Correction {
-    let [index, value, operator, reason] = arguments.map(|long| long as u32);
-    Correction { index, value, operator, reason }
+pub fn correction(arguments: [u64; 5]) -> Correction {
+    let [index, value, operator, reason, _] = arguments.map(|long| long as u32);
+    Correction { index, value, operator, reason, time: arguments[4] }
 }
 
 fn list_case(buffer: &[u8], list: &[Correction]) -> Case {
@@ -43,7 +43,7 @@ fn list_case(buffer: &[u8], list: &[Correction]) -> Case {
 
 /// No correction: accepted on records, sound and damaged, and on anything else.
 fn empty_list(rng: &mut Rng) -> Case {
-    let record = if rng.percent(15) { vec![] } else { any_record(rng) };
+    let record = if rng.percent(15) { vec![] } else { any_record(rng, 40) };
     let length = if rng.percent(80) { record.len() } else { rng.below(60) };
     list_case(&lend(rng, &record, length), &[])
 }
@@ -111,10 +111,10 @@ fn up_to_full(rng: &mut Rng) -> Case {
     sound_case(rng, &frame, &[], count)
 }
 
-/// So many corrections of a sound record, in a buffer that has room for all of
-/// them or not.
+/// So many corrections of a sound record of version 2, in a buffer that has room
+/// for all of them or not.
 fn sound_case(rng: &mut Rng, frame: &[u8], entries: &[Entry], count: usize) -> Case {
-    let record = lay_out(frame, entries);
+    let record = lay_out(Version::Second, frame, entries);
     let list = list_for(rng, frame, count);
     let length = list_room(rng, record.len(), count).min(MAX_PAYLOAD);
     list_case(&lend(rng, &record, length), &list)
@@ -130,7 +130,7 @@ fn list_room(rng: &mut Rng, total: usize, count: usize) -> usize {
         18 => 0,
         _ => count + rng.below(4),
     };
-    total + ENTRY_BYTES * entries + rng.pick(&[0, 0, 0, 1, 8, 15])
+    total + ENTRY_BYTES * entries + rng.pick(&[0, 0, 0, 1, 16, 23])
 }
 
 /// Good corrections of a sound frame; in many lists one is spoilt.
@@ -138,7 +138,7 @@ fn list_for(rng: &mut Rng, frame: &[u8], count: usize) -> Vec<Correction> {
     let targets = targets(frame);
     if targets.is_empty() {
         // Nothing can be corrected, so anything is refused.
-        let record = lay_out(frame, &[]);
+        let record = lay_out(Version::Second, frame, &[]);
         return (0..count).map(|_| correction(edit_arguments(rng, &record))).collect();
     }
     let spoilt = if rng.percent(33) { place(rng, count) } else { count };
@@ -192,13 +192,14 @@ impl Standing {
         };
         let any = rng.within(1, 0xFFFF) as u32;
         let operator = rng.pick(&[1, 9, 0xFFFF, any, any]);
-        Correction { index: index as u32, value, operator, reason: rng.within(1, 5) as u32 }
+        let (index, reason) = (index as u32, rng.within(1, 5) as u32);
+        Correction { index, value, operator, reason, time: kept_time(rng) }
     }
 
     /// One with a fault or several at once, so that their order shows.
     fn spoilt(&self, rng: &mut Rng, (index, target): (u64, Target)) -> Correction {
         let mut spoilt = self.proposed(rng, (index, target));
-        let faults = rng.pick(&[1, 1, 1, 2, 2, 2, 4, 4, 8, 8, 3, 6, 12, 15]);
+        let faults = rng.pick(&[1, 1, 1, 2, 2, 2, 4, 4, 8, 8, 16, 16, 3, 6, 12, 18, 24, 31]);
         let (at, words) = (spoilt.index, self.frame.len() as u32 / 2);
         if faults & 1 != 0 {
             let beside = [at - 1, at + 1, at + 2, 0, 3, words - 1, words];
@@ -217,6 +218,9 @@ impl Standing {
         }
         if faults & 8 != 0 {
             spoilt.reason = rng.pick(&[0, 6, 0x1_0001, u32::MAX]);
+        }
+        if faults & 16 != 0 {
+            spoilt.time = rng.pick(&[1 << 48, spoilt.time | 1 << 48, 1 << 63, u64::MAX]);
         }
         spoilt
     }
@@ -307,7 +311,7 @@ mod tests {
     fn many_lists_are_accepted() {
         let mut rng = Rng::new(13);
         let (mut accepted, mut several, mut empty) = (0, 0, 0);
-        for _ in 0..1000 {
+        for _ in 0..3000 {
             let mut case = edit_all_case(&mut rng);
             if answer(&mut case).starts_with("ok") {
                 accepted += 1;
@@ -315,6 +319,6 @@ mod tests {
                 empty += case.q.is_empty() as usize;
             }
         }
-        assert!(accepted > 350 && several > 180 && empty > 30, "{accepted} {several} {empty}");
+        assert!(accepted > 1000 && several > 480 && empty > 100, "{accepted} {several} {empty}");
     }
 }

@@ -1,13 +1,15 @@
 //! The samples: frames written by calls of the writer, records by calls of the
-//! editor, a run taken by the assembler. Each call is also given out as a case, so that the proved library
-//! can be asked whether it leaves the same bytes.
+//! editor, a run taken by the assembler. Each call is also given out as a case,
+//! so that the proved library can be asked whether it leaves the same bytes.
+//! Records of version 1, which no call makes, it is asked about.
 
 use crate::answer::answer;
 use crate::cases::*;
+use crate::corpus_record::WHEN;
 use crate::item::Item;
 use crate::known::figures;
-use crate::make_record::targets;
-use crate::record::{ENTRY_BYTES, HEADER_BYTES};
+use crate::make_record::{lay_out, targets};
+use crate::record::{self, Version, ENTRY_BYTES, HEADER_BYTES};
 use crate::rules::Kind;
 use crate::run::{payload, Step};
 
@@ -56,8 +58,9 @@ impl Samples {
         buffer
     }
 
-    /// A record of the frame after the edits: word, value, operator, reason.
-    fn record(&mut self, frame: &[u8], edits: &[[u64; 4]]) -> Vec<u8> {
+    /// A record of the frame after the edits: word, value, operator, reason and
+    /// time.
+    fn record(&mut self, frame: &[u8], edits: &[[u64; 5]]) -> Vec<u8> {
         let room = HEADER_BYTES + frame.len() + ENTRY_BYTES * edits.len();
         let mut case = Case::new(OPEN, &[]).p(&vec![0; room]).q(frame);
         self.call(&mut case);
@@ -65,7 +68,45 @@ impl Samples {
             case = Case::new(EDIT, edit).p(&case.p);
             self.call(&mut case);
         }
+        self.ask(&case.p);
         case.p
+    }
+
+    /// The record as people hold it who edited it by version 1: the same frame
+    /// and entries, without their times.
+    fn first(&mut self, record: &[u8]) -> Vec<u8> {
+        let judged = record::judge(record).expect("a sample");
+        let frame = &record[HEADER_BYTES..HEADER_BYTES + judged.frame_length];
+        let first = lay_out(Version::First, frame, &record::entries(record, &judged));
+        self.ask(&first);
+        first
+    }
+
+    /// Every question about a record.
+    fn ask(&mut self, record: &[u8]) {
+        let judged = record::judge(record).expect("a sample");
+        self.call(&mut Case::new(RECORD, &[]).p(record));
+        for k in 0..=judged.entries as u64 {
+            self.call(&mut Case::new(RESTORE, &[k]).p(record).q(&vec![0; judged.frame_length]));
+        }
+        for number in 1..=judged.entries as u64 {
+            self.call(&mut Case::new(ENTRY, &[number]).p(record));
+        }
+        self.list(record);
+    }
+
+    /// What is listed of a record, a damaged one too.
+    fn list(&mut self, record: &[u8]) {
+        self.call(&mut Case::new(LIST, &[]).p(record).q(&[0; 2048]));
+    }
+
+    /// The record with the new value of its fourth entry rewritten.
+    fn damaged(&mut self, record: &[u8], version: Version) -> Vec<u8> {
+        let mut damaged = record.to_vec();
+        let entries = crate::item::word(record, 4) as usize;
+        damaged[entries + 3 * version.entry_bytes() + 8] ^= 1;
+        self.list(&damaged);
+        damaged
     }
 }
 
@@ -87,14 +128,15 @@ fn pedestals() -> Vec<Item> {
         .collect()
 }
 
-/// Eleven bins of the second channel are mended after a readout
-/// fault, one of them twice.
-fn mending(frame: &[u8]) -> Vec<[u64; 4]> {
+/// Eleven bins of the second channel are mended after a readout fault, one
+/// every half minute, and one of them again on the next day.
+fn mending(frame: &[u8]) -> Vec<[u64; 5]> {
     let bins: Vec<u64> = targets(frame).iter().map(|(index, _)| *index).collect();
     let counts = [117, 463, 1198, 2140, 2502, 2111, 1226, 452, 129, 20, 3];
-    let mut edits: Vec<[u64; 4]> =
-        counts.iter().enumerate().map(|(at, count)| [bins[15 + at], *count, 9, 2]).collect();
-    edits.push([bins[19], 2499, 31, 4]);
+    let mended = counts.iter().enumerate();
+    let mut edits: Vec<[u64; 5]> =
+        mended.map(|(at, count)| [bins[15 + at], *count, 9, 2, WHEN + 30 * at as u64]).collect();
+    edits.push([bins[19], 2499, 31, 4, WHEN + 86_400]);
     edits
 }
 
@@ -175,15 +217,18 @@ pub fn samples() -> Samples {
     let command =
         samples.frame(kind(Kind::Command), 14, 3, &[], &["isobus 0x6C", "hped getbins 1 40"]);
     let [first, second, third] = samples.run(kind(Kind::Data), 5);
-    let plane = samples.record(&monitor, &mending(&monitor));
-    let tenth = samples.record(&figures()[2].bytes, &[[11, 260, 9, 2]]);
-    // The new value of the fourth entry rewritten.
-    let mut damaged = plane.clone();
-    damaged[HEADER_BYTES + monitor.len() + 3 * ENTRY_BYTES + 8] ^= 1;
+    let plane_2 = samples.record(&monitor, &mending(&monitor));
+    let tenth_2 = samples.record(&figures()[2].bytes, &[[11, 260, 9, 2, WHEN]]);
+    let (plane, tenth) = (samples.first(&plane_2), samples.first(&tenth_2));
+    let damaged = samples.damaged(&plane, Version::First);
+    let damaged_2 = samples.damaged(&plane_2, Version::Second);
     samples.files = vec![
         ("plane-14.record", plane),
+        ("plane-14-v2.record", plane_2),
         ("plane-10.record", tenth),
+        ("plane-10-v2.record", tenth_2),
         ("damaged.record", damaged),
+        ("damaged-v2.record", damaged_2),
         ("data.frame", data),
         ("monitor.frame", monitor),
         ("command.frame", command),
@@ -197,15 +242,39 @@ pub fn samples() -> Samples {
 #[cfg(test)]
 mod tests {
     use super::*;
+    use crate::corpus_list::printed;
+
+    fn file(name: &str) -> Vec<u8> {
+        samples().files.into_iter().find(|file| file.0 == name).expect("a name").1
+    }
+
+    /// The records of version 2 are listed with a time in each line, those of
+    /// version 1 without.
+    #[test]
+    fn records_are_of_both_versions() {
+        let first = printed(&file("plane-14.record"));
+        let second = printed(&file("plane-14-v2.record"));
+        assert_eq!((first.lines().count(), second.lines().count()), (14, 14));
+        for (number, (old, new)) in first.lines().zip(second.lines()).enumerate() {
+            let time = match number {
+                0 | 13 => String::new(),
+                12 => " at 1731486400".to_string(),
+                number => format!(" at {}", 1_731_400_000 + 30 * (number - 1)),
+            };
+            assert_eq!(format!("{old}{time}"), new);
+        }
+        for name in ["damaged.record", "damaged-v2.record"] {
+            assert_eq!(printed(&file(name)), "refused 21 at 4\n", "{name}");
+        }
+        assert!(printed(&file("plane-10.record")).contains(" by 9 reason 2\n"));
+        assert!(printed(&file("plane-10-v2.record")).contains(" by 9 reason 2 at 1731400000\n"));
+    }
 
     /// The parts of event 9 as the questions about each frame tell them.
     #[test]
     fn the_run_is_one_event() {
-        let files = samples().files;
-        let lines = ["run-1.frame", "run-2.frame", "run-3.frame"].map(|name| {
-            let (_, bytes) = files.iter().find(|file| file.0 == name).unwrap();
-            answer(&mut Case::new(EVENT, &[0]).p(bytes))
-        });
+        let lines = ["run-1.frame", "run-2.frame", "run-3.frame"]
+            .map(|name| answer(&mut Case::new(EVENT, &[0]).p(&file(name))));
         assert_eq!(lines, ["ok 1 9000 9 - 3", "ok - - 9 - 3", "ok - - 9 104 3"]);
     }
 }
