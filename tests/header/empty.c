@@ -12,7 +12,7 @@ static void wants(const char *call, uint32_t refused, uint32_t wanted) {
     faults++;
 }
 
-/* An empty text is accepted, a record is restored to no room, and an empty list changes nothing, of a record of either version or of junk. */
+/* An empty list is accepted, and changes nothing. */
 static void unchanged(const char *what, uint8_t *buffer, size_t room) {
     uint8_t before[64];
     memcpy(before, buffer, room);
@@ -20,6 +20,7 @@ static void unchanged(const char *what, uint8_t *buffer, size_t room) {
     if (memcmp(buffer, before, room)) wants(what, 1, 0);
 }
 
+/* An empty text is accepted, a record is restored to no room, and an empty list is made of a record of either version and of junk. */
 static void with_memory(void) {
     uint8_t buffer[64];
     struct plane_written w = plane_begin(buffer, sizeof buffer, PLANE_COMMAND, 5, 0);
