@@ -25,16 +25,21 @@ static inline struct entry entry_of(const u8 *e, u32 size) {
     return (struct entry){ word(e, 0), word(e, 1), word32(e, 2), word32(e, 4), word(e, 6), word(e, 7), timed, time };
 }
 
-// Tests the entries of numbers `from` down to `to` + 1 and undoes them in the frame; the number of the first that does not fit, or 0.
+// Tests the entries of numbers `from` down to `to` + 1 and undoes them in the frame; the number of the first that does not fit, or 0. The kind
+// is asked once: what a Sample and a Bin may hold is tested where the old value is put back.
 static inline __attribute__((always_inline)) usize undo_of(u8 *frame, const u8 *kinds, const u8 *entries, u32 size, usize from, usize to) {
     for (usize m = from; m > to; m--) {
         const u8 *const at = entries + size * (m - 1);
         const struct entry e = entry_of(at, size);
-        if (e.word >= WORDS || e.kind == 0 || kinds[e.word] != e.kind) return m;
-        if (value_of(frame, e.kind, e.word) != e.new || e.old == e.new || !legal(e.kind, e.old)) return m;
-        if (e.operator == 0 || e.reason - 1 >= LAST_REASON) return m;
+        if (e.word >= WORDS || kinds[e.word] != e.kind || e.old == e.new || e.operator == 0 || e.reason - 1 >= LAST_REASON) return m;
         if (size == SIZE_2 && word(at, 11) != 0) return m; // the desk
-        put_value(frame, e.kind, e.word, e.old);
+        if (e.kind == 1) {
+            if ((word(frame, e.word) & LAST_VALUE) != e.new || e.old > LAST_VALUE) return m;
+            put_word(frame, e.word, 0x3000 | e.old);
+        } else {
+            if (e.kind == 0 || word32(frame, e.word + 1) != e.new || e.old == 0) return m;
+            put_word32(frame, e.word + 1, e.old);
+        }
     }
     return 0;
 }
