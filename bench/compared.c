@@ -82,14 +82,14 @@ static int put_longer(const struct a_case *from) {
     return put_case(&c);
 }
 
-// The list, and none, on the record with a byte changed that makes it none: of its header, of its frame's sequence word, of its last entry's desk and
-// reason, which are in the frame's last words where there is no entry. And none on no bytes.
+// The list, and none, on the record with a byte changed that makes it none: of its header, of its frame's sequence word, of its last entry's desk,
+// which is the frame's end word where there is no entry, and of its reason. And none on no bytes.
 static int put_damaged(const struct a_case *from, struct listed l) {
     static struct a_case c;
     const usize end = 16 + LONGEST + ENTRY_2 * l.entries;
     const usize bytes[] = { 0, 16 + 5, end - 2, end - 10 };
     int failed = 0;
-    for (u32 k = 0; k < sizeof bytes / sizeof bytes[0]; k++) {
+    for (u32 k = 0; k < (l.entries ? 4 : 3); k++) {
         memcpy(&c, from, sizeof c);
         c.p[bytes[k]] ^= 0x40;
         failed |= put_case(&c);
