@@ -347,8 +347,8 @@ struct plane_stopped {
  * refused: `refused` and `place` are plane_edit's for that one (20 for a record of version 1, else as plane_record refuses, then 22, 23, 24, 25, 12),
  * `position` is where it stands in the list. The corrections before it have been made and stand, the one exception to what is said of refused calls
  * above; it and those behind it have changed nothing. Where all were made the three fields are 0. An empty list is accepted and changes nothing,
- * whatever the buffer holds: no record need be there, nor one of version 2. `corrections` points to `count` structs, each with a time of its own,
- * which are only read and do not overlap the buffer; it may be null where `count` is 0. */
+ * whatever the buffer holds: no record need be there, and one of version 1 may be. `corrections` points to `count` structs, each with a time of its
+ * own, which are only read and do not overlap the buffer; it may be null where `count` is 0. */
 struct plane_stopped plane_edit_all(uint8_t *buffer, size_t room, const struct plane_correction *corrections, size_t count);
 
 /* Restores the frame as it stood after its first `k` edits, to the start of `out`; the record, of either version, is only read. Refused as
