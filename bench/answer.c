@@ -140,8 +140,9 @@ static void record(const struct a_case *c) {
 
 static void entry(const struct a_case *c) {
     struct entry x;
-    if (!refused(baseline_entry(c->p, c->n, c->a[0], &x)))
-        printf("ok %u %u %u %u %u %u", x.word, x.kind, x.old, x.new, x.operator, x.reason);
+    if (refused(baseline_entry(c->p, c->n, c->a[0], &x))) return;
+    printf("ok %u %u %u %u %u %u", x.word, x.kind, x.old, x.new, x.operator, x.reason);
+    there(x.timed, x.time);
 }
 
 static void open_record(struct a_case *c) {
@@ -150,16 +151,14 @@ static void open_record(struct a_case *c) {
 }
 
 static void edit(struct a_case *c) {
-    done(baseline_edit(c->p, c->n, (struct correction){ c->a[0], (u32)c->a[1], (u32)c->a[2], (u32)c->a[3] }));
+    done(baseline_edit(c->p, c->n, (struct correction){ c->a[0], (u32)c->a[1], (u32)c->a[2], (u32)c->a[3], c->a[4] }));
     bytes(c->p, c->n);
 }
 
-// A list has whole corrections, with no time yet, and no other argument.
+// A list has whole corrections, and no other argument.
 static int is_list(const struct a_case *c) {
     u64 other = c->m % CORRECTION;
     for (u32 i = 0; i < 7; i++) other |= c->a[i];
-    for (usize i = 0; i < c->m / CORRECTION; i++)
-        for (u32 k = 16; k < CORRECTION; k++) other |= c->q[CORRECTION * i + k];
     return other == 0;
 }
 

@@ -80,6 +80,7 @@ struct record {
     u32 length; // of the frame
     u32 count;
     u32 total;
+    u32 entry_size; // by its version: 16 in version 1, 24 in version 2
 };
 
 struct entry {
@@ -89,6 +90,8 @@ struct entry {
     u32 new;
     u32 operator;
     u32 reason;
+    u32 timed; // 0 in version 1, which has no time
+    u64 time;
 };
 
 struct correction {
@@ -96,6 +99,7 @@ struct correction {
     u32 value;
     u32 operator;
     u32 reason;
+    u64 time;
 };
 
 // ---- the reader
@@ -126,7 +130,7 @@ struct assembler baseline_new_assembler(u32 card);
 struct taken baseline_take(struct assembler a, const u8 *s, usize n);
 struct assembler baseline_give_up(struct assembler a);
 
-// ---- the record
+// ---- the record: both versions are judged, read and restored; opened and edited is version 2
 
 struct refusal baseline_record(const u8 *b, usize n, struct record *out);
 struct refusal baseline_entry(const u8 *b, usize n, u64 number, struct entry *out);

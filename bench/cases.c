@@ -39,5 +39,5 @@ int next_step(const struct a_case *c, struct step *s) {
 
 struct correction correction_at(const struct a_case *c, usize position) {
     const u8 *const s = c->q + CORRECTION * position;
-    return (struct correction){ number(s, 4), (u32)number(s + 4, 4), (u32)number(s + 8, 4), (u32)number(s + 12, 4) };
+    return (struct correction){ number(s, 4), (u32)number(s + 4, 4), (u32)number(s + 8, 4), (u32)number(s + 12, 4), number(s + 16, 8) };
 }

@@ -29,7 +29,7 @@ struct step {
 // The step behind the one that is given, all zeros before the first; 0 at the end.
 int next_step(const struct a_case *c, struct step *s);
 
-// A list of corrections (op 22) stands in the second payload: word, value, operator and reason of 4 bytes each, and 8 bytes of zero.
+// A list of corrections (op 22) stands in the second payload: word, value, operator and reason of 4 bytes each, and the time of 8 bytes.
 enum { CORRECTION = 24, MOST_CORRECTIONS = PAYLOAD / CORRECTION };
 
 // The correction at a position of the list.

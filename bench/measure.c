@@ -3,6 +3,7 @@
 //   measure list                      the rows of the table, as CALL FILL SIZE UNIT
 //   measure make ROW                  the case of a row
 //   measure stops                     cases of lists of corrections that stop, and of others beside them: no list, no record
+//   measure versions                  cases of records of both versions, damaged in many ways
 //   measure same                      cases on standard input: all sides answer alike and leave the same in all lent memory
 //   measure repeat SIDE N             calls the case on standard input N times, by side 0 (ours) or 1 (the baseline); a list of corrections also by
 //                                     side 2 (ours, by single edits) or 3 (the same, and the record judged once more before each)
@@ -135,6 +136,7 @@ int main(int count, char **words) {
     }
     if (!strcmp(what, "make") && count == 3) return make_case((u32)strtoul(words[2], 0, 10));
     if (!strcmp(what, "stops")) return make_stops();
+    if (!strcmp(what, "versions")) return make_versions();
     if (!strcmp(what, "same")) return same();
     if (!strcmp(what, "repeat") && count == 4 && next_case(&input)) {
         const u32 which = (u32)strtoul(words[2], 0, 10);
@@ -148,6 +150,6 @@ int main(int count, char **words) {
         timed();
         return 0;
     }
-    printf("usage: measure list | make ROW | stops | same | repeat SIDE N | time\n");
+    printf("usage: measure list | make ROW | stops | versions | same | repeat SIDE N | time\n");
     return 2;
 }

@@ -71,9 +71,27 @@ static u64 record(struct a_case *c, struct lent *out) {
     return x.refused ? refusal_number(x.refused, x.place) : accepted_number(x.count, x.length);
 }
 
+static u64 entry(struct a_case *c, struct lent *out) {
+    const struct plane_entry_found x = plane_entry(c->p, c->n, c->a[0]);
+    out->told[0] = x.word;
+    out->told[1] = x.kind;
+    out->told[2] = x.old_value;
+    out->told[3] = x.new_value;
+    out->told[4] = x.operator_id;
+    out->told[5] = x.reason;
+    out->told[6] = x.timed;
+    out->told[7] = x.time;
+    return x.refused ? refusal_number(x.refused, x.place) : accepted_number(0, 0);
+}
+
+static u64 open_record(struct a_case *c, struct lent *out) {
+    (void)out;
+    return told(plane_open(c->p, c->n, c->q, c->m));
+}
+
 static u64 edit(struct a_case *c, struct lent *out) {
     (void)out;
-    return told(plane_edit(c->p, c->n, (struct plane_correction){ c->a[0], (u32)c->a[1], (u32)c->a[2], (u32)c->a[3] }));
+    return told(plane_edit(c->p, c->n, (struct plane_correction){ c->a[0], (u32)c->a[1], (u32)c->a[2], (u32)c->a[3], c->a[4] }));
 }
 
 static struct plane_correction list[MOST_CORRECTIONS];
@@ -83,7 +101,7 @@ void our_list(const struct a_case *c) {
     listed = c->m / CORRECTION;
     for (usize i = 0; i < listed; i++) {
         const struct correction x = correction_at(c, i);
-        list[i] = (struct plane_correction){ x.word, x.value, x.operator, x.reason };
+        list[i] = (struct plane_correction){ x.word, x.value, x.operator, x.reason, x.time };
     }
 }
 
@@ -176,8 +194,8 @@ static u64 run(struct a_case *c, struct lent *out) {
 }
 
 const side ours[32] = {
-    [1] = read_frame, [2] = item, [4] = event, [5] = samples, [6] = counts, [12] = record, [15] = edit, [16] = restore, [18] = sample_word,
-    [19] = bin_word, [20] = run, [21] = take, [22] = edit_all,
+    [1] = read_frame, [2] = item, [4] = event, [5] = samples, [6] = counts, [12] = record, [13] = entry, [14] = open_record, [15] = edit,
+    [16] = restore, [18] = sample_word, [19] = bin_word, [20] = run, [21] = take, [22] = edit_all,
 };
 const side singly[32] = { [22] = edit_singly };
 const side judged[32] = { [22] = edit_judged };

@@ -1,27 +1,26 @@
-// The rows of the table, and the case of each; lists of corrections that stop.
+// The rows of the table, and the case of each.
 #include "rows.h"
-#include "cases.h"
 #include "frames.h"
 
 // Of the C library; the compiler comes without its headers.
 long write(int to, const void *from, usize n);
 int printf(const char *format, ...);
 void *memcpy(void *to, const void *from, usize n);
+void *memmove(void *to, const void *from, usize n);
 
-enum { LONGEST = 8192, RECORD = 16 + LONGEST + 16 * 512 };
-enum { LISTED = 40 }; // corrections of a list
-
-// A call that is measured; `fills` has a bit for each fill that it is asked of.
+// A call that is measured; `fills` has a bit for each fill that it is asked of. A record has a version; edited is version 2 alone.
 struct call {
     const char *name;
     u32 op;
     u32 fills;
+    u32 version;
 };
 
 static const struct call calls[] = {
-    { "read", READ, 255 }, { "item", ITEM, 63 }, { "event", EVENT, 7 }, { "samples", SAMPLES, 5 }, { "counts", COUNTS, 8 },
-    { "sample word", SAMPLE_WORD, 5 }, { "bin word", BIN_WORD, 8 }, { "take", TAKE, 192 },
-    { "record", JUDGE, 13 }, { "edit", EDIT, 13 }, { "restore", RESTORE, 13 }, { "edit all", EDIT_ALL, 13 },
+    { "read", READ, 255, 0 }, { "item", ITEM, 63, 0 }, { "event", EVENT, 7, 0 }, { "samples", SAMPLES, 5, 0 }, { "counts", COUNTS, 8, 0 },
+    { "sample word", SAMPLE_WORD, 5, 0 }, { "bin word", BIN_WORD, 8, 0 }, { "take", TAKE, 192, 0 },
+    { "record", JUDGE, 13, 2 }, { "record v1", JUDGE, 13, 1 }, { "edit", EDIT, 13, 2 }, { "restore", RESTORE, 13, 2 },
+    { "restore v1", RESTORE, 13, 1 }, { "edit all", EDIT_ALL, 13, 2 },
 };
 
 static int of_record(u32 op) { return (op >= JUDGE && op <= RESTORE) || op == EDIT_ALL; }
@@ -109,33 +108,49 @@ static u64 last_event(const struct a_case *c) {
     return count - 1;
 }
 
-// Edits at words taken by chance, some of them more than once.
-static void edit_some(u8 *record, u32 entries) {
+static void put_number(u8 *to, u64 x, u32 bytes) {
+    for (u32 i = 0; i < bytes; i++) to[i] = (u8)(x >> 8 * i);
+}
+
+// Edits at words taken by chance, some of them more than once, at times by chance: a clock may go back.
+static void edit_some(struct a_case *c, usize length, u32 entries) {
     u32 seed = 1;
     for (u32 done = 0; done < entries;) {
         seed = seed * 1664525 + 1013904223;
-        const struct correction c = { (seed >> 16) % (LONGEST / 2), seed >> 7 & 4095, 1 + (seed >> 3) % 65535, 1 + done % 5 };
-        done += baseline_edit(record, RECORD, c).number == 0;
+        const struct correction x = { (seed >> 16) % (length / 2), seed >> 7 & 4095, 1 + (seed >> 3) % 65535, 1 + done % 5, (u64)seed << 16 | done };
+        done += baseline_edit(c->p, c->n, x).number == 0;
     }
 }
 
-// Edits of the last words of the record's frame that may be changed, from the last one down: nearly the whole frame lies before them.
-static void targets(const struct a_case *c, struct correction *out, u32 count) {
+// The record as version 1 has it: the first 16 bytes of each entry. Neither side writes one.
+static void make_earlier(u8 *record, usize length, u32 entries) {
+    u8 *const first = record + 16 + length;
+    for (u32 i = 0; i < entries; i++) memmove(first + ENTRY_1 * i, first + ENTRY_2 * i, ENTRY_1);
+    put_number(record, 1, 2);
+    put_number(record + 12, 16 + length + ENTRY_1 * entries, 2);
+}
+
+void make_record(struct a_case *c, u32 fill, usize length, u32 version, u32 entries) {
+    static u8 frame[LONGEST];
+    make_frame(fill, length, frame);
+    c->n = RECORD;
+    baseline_open(c->p, c->n, frame, length);
+    edit_some(c, length, entries);
+    if (version == 1) make_earlier(c->p, length, entries);
+}
+
+void find_targets(const struct a_case *c, struct correction *out, u32 count) {
     static u8 copy[RECORD];
     memcpy(copy, c->p, RECORD);
     for (u64 w = LONGEST / 2; count > 0 && w-- > 0;) {
-        *out = (struct correction){ w, 1234, 9, 2 };
+        *out = (struct correction){ w, 1234, 9, 2, LATEST - w };
         if (baseline_edit(copy, RECORD, *out).number) continue;
         out += 1;
         count -= 1;
     }
 }
 
-static void put_number(u8 *to, u64 x, u32 bytes) {
-    for (u32 i = 0; i < bytes; i++) to[i] = (u8)(x >> 8 * i);
-}
-
-static void put_list(struct a_case *c, const struct correction *list, u32 count) {
+void put_list(struct a_case *c, const struct correction *list, u32 count) {
     c->m = CORRECTION * count;
     for (u32 i = 0; i < count; i++) {
         u8 *const to = c->q + CORRECTION * i;
@@ -143,28 +158,29 @@ static void put_list(struct a_case *c, const struct correction *list, u32 count)
         put_number(to + 4, list[i].value, 4);
         put_number(to + 8, list[i].operator, 4);
         put_number(to + 12, list[i].reason, 4);
-        put_number(to + 16, 0, 8);
+        put_number(to + 16, list[i].time, 8);
     }
 }
 
+void put_edit(struct a_case *c, struct correction x) {
+    c->a[0] = x.word;
+    c->a[1] = x.value;
+    c->a[2] = x.operator;
+    c->a[3] = x.reason;
+    c->a[4] = x.time;
+}
+
 // Edits are measured with one entry less than may stand, so that they are accepted.
-static void make_record(struct row r, struct a_case *c) {
-    static u8 frame[LONGEST];
+static void make_recorded(struct row r, struct a_case *c) {
     struct correction list[LISTED];
-    make_frame(r.fill, LONGEST, frame);
-    c->n = RECORD;
-    baseline_open(c->p, c->n, frame, LONGEST);
-    edit_some(c->p, r.call->op == EDIT && r.size == 512 ? 511 : r.size);
+    make_record(c, r.fill, LONGEST, r.call->version, r.call->op == EDIT && r.size == 512 ? 511 : r.size);
     switch (r.call->op) {
     case EDIT:
-        targets(c, list, 1);
-        c->a[0] = list[0].word;
-        c->a[1] = list[0].value;
-        c->a[2] = list[0].operator;
-        c->a[3] = list[0].reason;
+        find_targets(c, list, 1);
+        put_edit(c, list[0]);
         break;
     case EDIT_ALL:
-        targets(c, list, LISTED);
+        find_targets(c, list, LISTED);
         put_list(c, list, LISTED);
         break;
     case RESTORE: c->m = LONGEST; break;
@@ -205,7 +221,7 @@ static void make_question(struct row r, struct a_case *c) {
     }
 }
 
-static int put_case(const struct a_case *c) {
+int put_case(const struct a_case *c) {
     u8 head[72] = { c->op };
     for (u32 i = 0; i < 7; i++) put_number(head + 8 + 8 * i, c->a[i], 8);
     put_number(head + 64, c->n, 4);
@@ -219,96 +235,7 @@ int make_case(u32 number) {
     if (number >= rows(all)) return 2;
     const struct row r = all[number];
     c.op = (u8)r.call->op;
-    if (of_record(c.op)) make_record(r, &c);
+    if (of_record(c.op)) make_recorded(r, &c);
     else make_question(r, &c);
     return put_case(&c);
-}
-
-// ---- lists that stop
-
-enum { SPOILS = 7 };
-
-// A correction that is refused, wherever it stands: by 22, 22, 23, and 24 four times.
-static struct correction spoiled(struct correction x, u32 how, int of_bins) {
-    switch (how) {
-    case 0: x.word = 0; break;
-    case 1: x.word = 0xFFFFFFFF; break;
-    case 2: x.value = of_bins ? 0 : 4096; break;
-    case 3: x.operator = 0; break;
-    case 4: x.operator = 65536; break;
-    case 5: x.reason = 0; break;
-    default: x.reason = 6; break;
-    }
-    return x;
-}
-
-// The list of a case with one correction changed.
-static int put_changed(const struct a_case *from, u32 position, struct correction x) {
-    static struct a_case c;
-    struct correction list[LISTED];
-    for (u32 i = 0; i < LISTED; i++) list[i] = correction_at(from, i);
-    list[position] = x;
-    memcpy(&c, from, sizeof c);
-    put_list(&c, list, LISTED);
-    return put_case(&c);
-}
-
-// A correction of the list refused at its beginning, inside and at its end, by each of 22, 23, 24 and 12; and made twice, where the second is 23.
-static int put_refused(const struct a_case *from, struct row r) {
-    static const u32 positions[] = { 0, 1, LISTED / 2, LISTED - 1 };
-    static struct a_case c;
-    int failed = 0;
-    for (u32 k = 0; k < sizeof positions / sizeof positions[0]; k++) {
-        const u32 at = positions[k];
-        for (u32 how = 0; how < SPOILS; how++)
-            failed |= put_changed(from, at, spoiled(correction_at(from, at), how, r.fill == 3));
-        if (at > 0) failed |= put_changed(from, at, correction_at(from, at - 1));
-        memcpy(&c, from, sizeof c);
-        c.n = 16 + LONGEST + 16 * (r.size + at) + 15;
-        failed |= put_case(&c);
-    }
-    return failed;
-}
-
-// One correction more than the list has: 25 at its end where the list fills the record.
-static int put_longer(const struct a_case *from) {
-    static struct a_case c;
-    struct correction list[LISTED + 1];
-    for (u32 i = 0; i < LISTED; i++) list[i] = correction_at(from, i);
-    list[LISTED] = list[0];
-    list[LISTED].value += 1;
-    memcpy(&c, from, sizeof c);
-    put_list(&c, list, LISTED + 1);
-    return put_case(&c);
-}
-
-// The list, and none, on the record with a byte changed that makes it none: of its header, of its frame's sequence word, of its last entry's reason,
-// which is the frame's end word where there is no entry. And none on no bytes.
-static int put_damaged(const struct a_case *from, struct row r) {
-    static struct a_case c;
-    const usize bytes[] = { 0, 16 + 5, 16 + LONGEST + 16 * r.size - 2 };
-    int failed = 0;
-    for (u32 k = 0; k < sizeof bytes / sizeof bytes[0]; k++) {
-        memcpy(&c, from, sizeof c);
-        c.p[bytes[k]] ^= 0x40;
-        failed |= put_case(&c);
-        c.m = 0;
-        failed |= put_case(&c);
-    }
-    c.n = 0;
-    return failed | put_case(&c);
-}
-
-int make_stops(void) {
-    static struct a_case c;
-    struct row all[256];
-    const u32 count = rows(all);
-    int failed = 0;
-    for (u32 i = 0; i < count; i++) {
-        if (all[i].call->op != EDIT_ALL) continue;
-        c.op = EDIT_ALL;
-        make_record(all[i], &c);
-        failed |= put_refused(&c, all[i]) | put_longer(&c) | put_damaged(&c, all[i]);
-    }
-    return failed;
 }

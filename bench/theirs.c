@@ -58,9 +58,28 @@ static u64 record(struct a_case *c, struct lent *out) {
     return told(baseline_record(c->p, c->n, &x), x.count, x.length);
 }
 
+static u64 entry(struct a_case *c, struct lent *out) {
+    struct entry x = { 0 };
+    const struct refusal r = baseline_entry(c->p, c->n, c->a[0], &x);
+    out->told[0] = x.word;
+    out->told[1] = x.kind;
+    out->told[2] = x.old;
+    out->told[3] = x.new;
+    out->told[4] = x.operator;
+    out->told[5] = x.reason;
+    out->told[6] = x.timed;
+    out->told[7] = x.time;
+    return told(r, 0, 0);
+}
+
+static u64 open_record(struct a_case *c, struct lent *out) {
+    (void)out;
+    return told(baseline_open(c->p, c->n, c->q, c->m), 0, 0);
+}
+
 static u64 edit(struct a_case *c, struct lent *out) {
     (void)out;
-    return told(baseline_edit(c->p, c->n, (struct correction){ c->a[0], (u32)c->a[1], (u32)c->a[2], (u32)c->a[3] }), 0, 0);
+    return told(baseline_edit(c->p, c->n, (struct correction){ c->a[0], (u32)c->a[1], (u32)c->a[2], (u32)c->a[3], c->a[4] }), 0, 0);
 }
 
 static struct correction list[MOST_CORRECTIONS];
@@ -132,6 +151,6 @@ static u64 run(struct a_case *c, struct lent *out) {
 }
 
 const side theirs[32] = {
-    [1] = read_frame, [2] = item, [4] = event, [5] = samples, [6] = counts, [12] = record, [15] = edit, [16] = restore, [18] = sample_word,
-    [19] = bin_word, [20] = run, [21] = take, [22] = edit_all,
+    [1] = read_frame, [2] = item, [4] = event, [5] = samples, [6] = counts, [12] = record, [13] = entry, [14] = open_record, [15] = edit,
+    [16] = restore, [18] = sample_word, [19] = bin_word, [20] = run, [21] = take, [22] = edit_all,
 };

@@ -2,10 +2,10 @@
  * Link libexports.a. docs/FORMAT.md has frames and records byte by byte, and an example of each refusal; documents 01 (the rules) and 02 are the
  * client's papers.
  *
- * Every call is proved to answer, and to leave in the memory lent to it, exactly what document 01 and the first two requests of document 02 (events
- * over several frames, many corrections in one call) say, for all bytes and all arguments. It ends, reads and writes nothing but what it is lent, and
- * keeps nothing: no heap, no globals, so threads may call it at once, each on memory of its own. Judging a record takes two arrays of 12 KByte
- * together on the stack.
+ * Every call is proved to answer, and to leave in the memory lent to it, exactly what document 01 and the first three requests of document 02 (events
+ * over several frames, many corrections in one call, the time of a correction) say, for all bytes and all arguments. It ends, reads and writes
+ * nothing but what it is lent, and keeps nothing: no heap, no globals, no clock, so threads may call it at once, each on memory of its own. Judging a
+ * record takes two arrays of 12 KByte together on the stack.
  *
  * Answers. `refused` is PLANE_ACCEPTED, 0, or the number of a refusal, with its `place`; any field that an answer does not use is 0, on a refusal all
  * but these two (a follower or an assembler is given back, and plane_edit_all tells a position). A refused call has left all lent memory as it was,
@@ -22,9 +22,10 @@
 #include <stddef.h>
 #include <stdint.h>
 
-/* Raised by one where a call is added, and where a program written for the version before has to be changed or compiled again; version 4 adds
- * plane_edit_all and changes nothing else. Header and archive are of one version. */
-#define PLANE_RECORD_VERSION 4
+/* Raised by one where a call is added, and where a program written for the version before has to be changed or compiled again; version 5 adds the
+ * time of a correction: `time` in plane_correction, `timed` and `time` in plane_entry_found, larger entries and records; and records of version 1 are
+ * no longer edited. Header and archive are of one version. A record has a version of its own, 1 or 2. */
+#define PLANE_RECORD_VERSION 5
 
 #ifdef __cplusplus
 extern "C" {
@@ -48,11 +49,11 @@ enum plane_refusal {
     PLANE_REFUSED_ABSENT = 13,    /* no such item, event, channel, histogram, sample or bin */
     PLANE_REFUSED_NO_START = 14,  /* a sequence number 1 to 255 before the first 0x0100 */
     PLANE_REFUSED_LINK = 15,      /* the frame is not one that can come next in the run: plane_take says when */
-    PLANE_REFUSED_HEADER = 20,    /* buffer under 16 bytes, a header word wrong, or buffer under the total length */
+    PLANE_REFUSED_HEADER = 20,    /* buffer under 16 bytes, a header word wrong, or buffer under the total length; an edit of a record of version 1 */
     PLANE_REFUSED_ENTRY = 21,     /* a history entry doesn't fit the frame */
     PLANE_REFUSED_TARGET = 22,    /* the word index is not a Sample's or Bin's first word */
     PLANE_REFUSED_NEW_VALUE = 23, /* sample over 4,095, bin 0, or the present value */
-    PLANE_REFUSED_SIGNER = 24,    /* operator not 1 to 65,535, or reason not 1 to 5 */
+    PLANE_REFUSED_SIGNER = 24,    /* operator not 1 to 65,535, reason not 1 to 5, or time of 2^48 or more */
     PLANE_REFUSED_FULL = 25,      /* 512 entries stand */
     PLANE_REFUSED_NO_ENTRY = 26   /* there are not that many entries */
 };
@@ -99,9 +100,10 @@ enum plane_sizes {
     PLANE_NO_SAMPLE = 0xFFFF,  /* what plane_samples writes where no sample stands */
     PLANE_COUNTS = 4096,       /* words that plane_counts writes */
     PLANE_HEADER_BYTES = 16,   /* of a record; its frame begins behind them */
-    PLANE_ENTRY_BYTES = 16,
+    PLANE_ENTRY_BYTES = 24,    /* in a record of version 2, which plane_open makes: what an edit adds to the record */
+    PLANE_ENTRY_BYTES_1 = 16,  /* in a record of version 1 */
     PLANE_MOST_ENTRIES = 512,
-    PLANE_MOST_RECORD = 16400  /* bytes: no record has more, and in a buffer of so many no edit is refused by 12 */
+    PLANE_MOST_RECORD = 20496  /* bytes: no record has more, and in a buffer of so many no edit is refused by 12 */
 };
 
 /* ---- the class of a word */
@@ -289,7 +291,8 @@ struct plane_taken plane_take(struct plane_assembler assembler, const uint8_t *f
  * nothing. */
 struct plane_assembler plane_give_up(struct plane_assembler assembler);
 
-/* ---- records: a frame and the history of its edits */
+/* ---- records: a frame and the history of its edits. Their first word is the version: 2 in those that plane_open makes, whose entries keep a time;
+ * 1 in those that were made before there were times. Both are read and restored; only those of version 2 are edited. */
 
 struct plane_record_found {
     uint32_t refused;
@@ -299,7 +302,7 @@ struct plane_record_found {
     size_t total;  /* of the record */
 };
 
-/* Whether a buffer begins with a record. Refused by 20, then as plane_read refuses its frame, then by 21. */
+/* Whether a buffer begins with a record, of either version. Refused by 20, then as plane_read refuses its frame, then by 21. */
 struct plane_record_found plane_record(const uint8_t *buffer, size_t room);
 
 struct plane_entry_found {
@@ -311,12 +314,15 @@ struct plane_entry_found {
     uint32_t new_value;
     uint16_t operator_id;
     uint16_t reason;
+    uint8_t timed; /* 1 where the entry keeps a time: in records of version 2; 0 in those of version 1, which have none, and then `time` is 0 */
+    uint64_t time; /* as the correction gave it */
 };
 
 /* Entry `number` of a record, from 1 as the oldest. Refused as plane_record refuses, then by 26. */
 struct plane_entry_found plane_entry(const uint8_t *buffer, size_t room, size_t number);
 
-/* Opens a record of the frame, with no history: writes header and frame to the buffer's start. Refused as plane_read refuses, then by 12. */
+/* Opens a record of the frame, of version 2 and with no history: writes header and frame to the buffer's start. Refused as plane_read refuses, then
+ * by 12. */
 struct plane_done plane_open(uint8_t *buffer, size_t room, const uint8_t *frame, size_t length);
 
 struct plane_correction {
@@ -324,9 +330,11 @@ struct plane_correction {
     uint32_t value;
     uint32_t operator_id;
     uint32_t reason;
+    uint64_t time; /* below 2^48, by the caller's clock and in the caller's unit: it is kept as given, and may be before that of an earlier edit */
 };
 
-/* Edits the record: writes the value, the two header words that change and one entry. Refused as plane_record refuses, then by 22, 23, 24, 25, 12. */
+/* Edits the record: writes the value, the two header words that change and one entry. Refused by 20 for a record of version 1, whatever its frame and
+ * entries are; then as plane_record refuses, then by 22, 23, 24, 25, and by 12 where the buffer has under 24 bytes behind the record. */
 struct plane_done plane_edit(uint8_t *buffer, size_t room, struct plane_correction correction);
 
 struct plane_stopped {
@@ -336,14 +344,15 @@ struct plane_stopped {
 };
 
 /* Makes a list of corrections in their order, each as plane_edit makes it, on the record that those before it have left. Stops at the first that is
- * refused: `refused` and `place` are plane_edit's for that one (as plane_record refuses, then 22, 23, 24, 25, 12), `position` is where it stands in
- * the list. The corrections before it have been made and stand, the one exception to what is said of refused calls above; it and those behind it have
- * changed nothing. Where all were made the three fields are 0. An empty list is accepted and changes nothing, whatever the buffer holds: no record
- * need be there. `corrections` points to `count` structs, which are only read and do not overlap the buffer; it may be null where `count` is 0. */
+ * refused: `refused` and `place` are plane_edit's for that one (20 for a record of version 1, else as plane_record refuses, then 22, 23, 24, 25, 12),
+ * `position` is where it stands in the list. The corrections before it have been made and stand, the one exception to what is said of refused calls
+ * above; it and those behind it have changed nothing. Where all were made the three fields are 0. An empty list is accepted and changes nothing,
+ * whatever the buffer holds: no record need be there, and one of version 1 may be. `corrections` points to `count` structs, each with a time of its
+ * own, which are only read and do not overlap the buffer; it may be null where `count` is 0. */
 struct plane_stopped plane_edit_all(uint8_t *buffer, size_t room, const struct plane_correction *corrections, size_t count);
 
-/* Restores the frame as it stood after its first `k` edits, to the start of `out`; the record is only read. Refused as plane_record refuses, then
- * by 26, then by 12 where `out` is under the frame's length. */
+/* Restores the frame as it stood after its first `k` edits, to the start of `out`; the record, of either version, is only read. Refused as
+ * plane_record refuses, then by 26, then by 12 where `out` is under the frame's length. */
 struct plane_done plane_restore(const uint8_t *buffer, size_t room, size_t k, uint8_t *out, size_t out_room);
 
 #ifdef __cplusplus

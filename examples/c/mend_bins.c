@@ -9,6 +9,9 @@
 enum { CHIP = 0, CHANNEL = 17, FIRST_BIN = 244, BINS = 11 };
 static const uint32_t counts[BINS] = { 117, 463, 1198, 2140, 2502, 2111, 1226, 452, 129, 20, 3 };
 
+// When the bins are mended, in milliseconds since 1970; the clock of operator 31, who is at work later, is an hour behind, and that is kept too.
+static const uint64_t mended = 1794832496000, behind = 1794828896000;
+
 static uint8_t frame[PLANE_MOST_FRAME + 1]; // one byte more: a longer file is refused by LENGTH
 static size_t length;
 
@@ -23,13 +26,13 @@ static void read_file(const char *name) {
 }
 
 // What corrects the count of a bin. An edit moves no word, so that the frame as it was read tells where the bin stands.
-static struct plane_correction correction(uint16_t bin, uint32_t count, uint32_t operator_id, uint32_t reason) {
+static struct plane_correction correction(uint16_t bin, uint32_t count, uint32_t operator_id, uint32_t reason, uint64_t time) {
     const struct plane_word_found found = plane_bin_word(frame, length, CHIP, CHANNEL, bin);
     if (found.refused) {
         printf("bin %u: refused %u %s at %zu\n", bin, found.refused, plane_refusal_name(found.refused), found.place);
         exit(1);
     }
-    return (struct plane_correction){ .word = found.word, .value = count, .operator_id = operator_id, .reason = reason };
+    return (struct plane_correction){ .word = found.word, .value = count, .operator_id = operator_id, .reason = reason, .time = time };
 }
 
 static void told(const char *what, struct plane_stopped s) {
@@ -44,7 +47,8 @@ static void list(const uint8_t *buffer, size_t room, size_t from) {
     const struct plane_record_found r = plane_record(buffer, room);
     for (size_t n = from; n <= r.count; n++) {
         const struct plane_entry_found e = plane_entry(buffer, room, n);
-        printf("edit %zu word %u bin %u -> %u by %u reason %u\n", n, e.word, e.old_value, e.new_value, e.operator_id, e.reason);
+        printf("edit %zu word %u bin %u -> %u by %u reason %u", n, e.word, e.old_value, e.new_value, e.operator_id, e.reason);
+        printf(" at %lu\n", (unsigned long)e.time);
     }
     printf("end %zu\n", r.count);
 }
@@ -63,12 +67,14 @@ int main(int count, char **words) {
     }
 
     struct plane_correction mending[BINS];
-    for (uint16_t i = 0; i < BINS; i++) mending[i] = correction(FIRST_BIN + i, counts[i], 9, 2);
+    for (uint16_t i = 0; i < BINS; i++) mending[i] = correction(FIRST_BIN + i, counts[i], 9, 2, mended);
     told("eleven corrections", plane_edit_all(buffer, sizeof buffer, mending, BINS));
     list(buffer, sizeof buffer, 1);
 
     // 2111 stands in bin 249 already: the second is refused, the first stands, the third is not made.
-    const struct plane_correction three[] = { correction(248, 2499, 31, 4), correction(249, 2111, 31, 4), correction(250, 1230, 31, 4) };
+    const struct plane_correction three[] = {
+        correction(248, 2499, 31, 4, behind), correction(249, 2111, 31, 4, behind), correction(250, 1230, 31, 4, behind)
+    };
     told("three corrections", plane_edit_all(buffer, sizeof buffer, three, 3));
     list(buffer, sizeof buffer, BINS + 1);
     static uint32_t stand[PLANE_COUNTS];

@@ -1,10 +1,10 @@
-"""Reads a frame and lists a record from Python, by ctypes and the standard library alone; frames named behind them are taken as a run.
+"""Reads a frame, lists a record and makes one from Python, by ctypes and the standard library alone; frames named behind them are taken as a run.
 
     gcc -shared -o libplane_record.so -Wl,--whole-archive target/staticlib/libexports.a -Wl,--no-whole-archive
     python3 examples/python/plane_record.py ./libplane_record.so samples/data.frame samples/plane-14.record samples/run-*.frame
 
 The structs are those of include/plane_record.h, field by field; a further call is declared as the ones below are. Bytes that are only read are lent
-as they are; for a call that writes, lend ctypes.create_string_buffer(n).
+as they are; for a call that writes, lend ctypes.create_string_buffer(n), as `open` and `edit` do.
 """
 import ctypes
 import os
@@ -50,8 +50,16 @@ class Record(ctypes.Structure):
 class Entry(ctypes.Structure):
     _fields_ = (
         [("refused", c_uint32), ("place", c_size_t), ("word", c_uint16), ("kind", c_uint16)]
-        + [("old_value", c_uint32), ("new_value", c_uint32), ("operator_id", c_uint16), ("reason", c_uint16)]
+        + [("old_value", c_uint32), ("new_value", c_uint32), ("operator_id", c_uint16), ("reason", c_uint16), ("timed", c_uint8), ("time", c_uint64)]
     )
+
+
+class Correction(ctypes.Structure):
+    _fields_ = [("word", c_size_t), ("value", c_uint32), ("operator_id", c_uint32), ("reason", c_uint32), ("time", c_uint64)]
+
+
+class Done(ctypes.Structure):
+    _fields_ = [("refused", c_uint32), ("place", c_size_t)]
 
 
 class Follower(ctypes.Structure):
@@ -77,12 +85,12 @@ class Library:
     def __init__(self, path):
         self.shared = ctypes.CDLL(path)
 
-    def call(self, name, answer, data, *numbers, state=()):
-        """Calls a function that reads `data`, behind a state if it takes one; its answer, or Refused."""
+    def call(self, name, answer, data, *more, state=()):
+        """Calls a function on `data`, behind a state if it takes one, with numbers, bytes or structs behind it; its answer, or Refused."""
         function = self.shared[name]
         function.restype = answer
-        function.argtypes = [type(x) for x in state] + [c_char_p, c_size_t] + [c_size_t] * len(numbers)
-        got = function(*state, data, len(data), *numbers)
+        function.argtypes = [type(x) for x in state] + [c_char_p, c_size_t] + [{int: c_size_t, bytes: c_char_p}.get(type(x), type(x)) for x in more]
+        got = function(*state, data, len(data), *more)
         if got.refused:
             raise Refused("refused %d at %d" % (got.refused, got.place))
         return got
@@ -112,6 +120,15 @@ class Library:
 
     def entry(self, data, number):
         return self.call("plane_entry", Entry, data, number)
+
+    def open(self, frame, entries):
+        """A buffer with a record of the frame, and room for so many corrections of 24 bytes."""
+        buffer = ctypes.create_string_buffer(16 + len(frame) + 24 * entries)
+        self.call("plane_open", Done, buffer, frame, len(frame))
+        return buffer
+
+    def edit(self, buffer, correction):
+        self.call("plane_edit", Done, buffer, correction)
 
 
 def shown(item):
@@ -150,6 +167,27 @@ def take_all(plane, names):
     print("event %d is open" % assembler.number if assembler.open else "no event is open")
 
 
+def list_entries(plane, record):
+    """The corrections of a record; those of version 1 have no time."""
+    for n in range(1, plane.record(record).count + 1):
+        e = plane.entry(record, n)
+        at = ", at %d" % e.time if e.timed else ""
+        print("entry %d: word %d, %d -> %d, by %d, reason %d%s" % (n, e.word, e.old_value, e.new_value, e.operator_id, e.reason, at))
+
+
+def correct(plane, frame, record):
+    """Corrects one sample in a record of the frame, which is of version 2; the same of a record of version 1 is refused."""
+    correction = Correction(word=plane.sample_word(frame, 1, 0, 78, 502), value=4000, operator_id=9, reason=2, time=1794832496000)
+    try:
+        plane.edit(ctypes.create_string_buffer(record, len(record)), correction)
+    except Refused as refused:
+        print("an edit of it: %s" % refused)
+    buffer = plane.open(frame, 1)
+    plane.edit(buffer, correction)
+    print("a record of the frame, edited: %d bytes" % plane.record(buffer).total)
+    list_entries(plane, buffer)
+
+
 def main(library, frame_file, record_file, *run_files):
     plane = Library(library)
     frame = open(frame_file, "rb").read()
@@ -163,13 +201,12 @@ def main(library, frame_file, record_file, *run_files):
     record = open(record_file, "rb").read()
     r = plane.record(record)
     print("bin 248 of chip 0, channel 17: word %d" % plane.bin_word(record[16 : 16 + r.length], 0, 17, 248))
-    for n in range(1, r.count + 1):
-        e = plane.entry(record, n)
-        print("entry %d: word %d, %d -> %d, by %d, reason %d" % (n, e.word, e.old_value, e.new_value, e.operator_id, e.reason))
+    list_entries(plane, record)
     try:
         plane.record(record[:15])
     except Refused as refused:
         print("its first 15 bytes: %s" % refused)
+    correct(plane, frame, record)
     if run_files:
         take_all(plane, run_files)
 

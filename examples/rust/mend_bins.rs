@@ -11,6 +11,10 @@ const CHIP: u16 = 0;
 const CHANNEL: u16 = 17;
 const BINS: [u32; 11] = [117, 463, 1198, 2140, 2502, 2111, 1226, 452, 129, 20, 3];
 
+/// When the bins are mended, in milliseconds since 1970; the clock of operator 31, who is at work later, is an hour behind, and that is kept too.
+const MENDED: u64 = 1794832496000;
+const BEHIND: u64 = 1794828896000;
+
 /// What corrects the count of a bin. An edit moves no word, so that the frame as it was read tells where the bin stands.
 fn correction(
     frame: &[u8],
@@ -18,9 +22,10 @@ fn correction(
     value: u32,
     operator_id: u32,
     reason: u32,
+    time: u64,
 ) -> Answer<Correction> {
     let word = bin_word(frame, CHIP, CHANNEL, bin)?;
-    Ok(Correction { word, value, operator_id, reason })
+    Ok(Correction { word, value, operator_id, reason, time })
 }
 
 fn told(what: &str, done: Result<(), Stopped>) {
@@ -36,8 +41,13 @@ fn list(buffer: &[u8], from: usize) -> Answer<()> {
     for n in from..=count {
         let e = entry(buffer, n)?;
         println!(
-            "edit {n} word {} bin {} -> {} by {} reason {}",
-            e.word, e.old_value, e.new_value, e.operator_id, e.reason
+            "edit {n} word {} bin {} -> {} by {} reason {} at {}",
+            e.word,
+            e.old_value,
+            e.new_value,
+            e.operator_id,
+            e.reason,
+            e.time.unwrap_or(0)
         );
     }
     println!("end {count}");
@@ -49,17 +59,19 @@ fn main() -> Result<(), Box<dyn std::error::Error>> {
     let mut buffer = [0; MOST_RECORD];
     open(&mut buffer, &frame)?;
 
-    let mending: Answer<Vec<Correction>> =
-        (244..).zip(BINS).map(|(bin, value)| correction(&frame, bin, value, 9, 2)).collect();
+    let mending: Answer<Vec<Correction>> = (244..)
+        .zip(BINS)
+        .map(|(bin, value)| correction(&frame, bin, value, 9, 2, MENDED))
+        .collect();
     let mending = mending?;
     told("eleven corrections", edit_all(&mut buffer, &mending));
     list(&buffer, 1)?;
 
     // 2111 stands in bin 249 already: the second is refused, the first stands, the third is not made.
     let three = [
-        correction(&frame, 248, 2499, 31, 4)?,
-        correction(&frame, 249, 2111, 31, 4)?,
-        correction(&frame, 250, 1230, 31, 4)?,
+        correction(&frame, 248, 2499, 31, 4, BEHIND)?,
+        correction(&frame, 249, 2111, 31, 4, BEHIND)?,
+        correction(&frame, 250, 1230, 31, 4, BEHIND)?,
     ];
     told("three corrections", edit_all(&mut buffer, &three));
     list(&buffer, BINS.len() + 1)?;

@@ -11,7 +11,7 @@
 use std::fmt;
 
 /// That of the header whose layouts these are.
-pub const VERSION: u32 = 4;
+pub const VERSION: u32 = 5;
 
 /// No frame has more bytes.
 pub const MOST_FRAME: usize = 8192;
@@ -25,10 +25,13 @@ pub const NO_SAMPLE: u16 = 0xFFFF;
 pub const COUNTS: usize = 4096;
 /// A record's frame begins behind so many bytes.
 pub const HEADER_BYTES: usize = 16;
-pub const ENTRY_BYTES: usize = 16;
+/// The bytes of an entry in a record of version 2, which `open` makes: what an edit adds to the record.
+pub const ENTRY_BYTES: usize = 24;
+/// The same in a record of version 1.
+pub const ENTRY_BYTES_1: usize = 16;
 pub const MOST_ENTRIES: usize = 512;
 /// No record has more bytes, and in a buffer of so many no edit is refused by ROOM.
-pub const MOST_RECORD: usize = 16400;
+pub const MOST_RECORD: usize = 20496;
 
 /// The classes of words, by their numbers in the word book: what `classify` answers, and `Item::item_class`.
 pub mod class {
@@ -97,7 +100,7 @@ pub enum Refusal {
     NoStart = 14,
     /// The frame is not one that can come next in the run: `Assembler::take` says when.
     Link = 15,
-    /// The buffer is too short for the record, or a header word is wrong.
+    /// The buffer is too short for the record, or a header word is wrong; of an edit also: the record is of version 1.
     Header = 20,
     /// A history entry does not fit the frame.
     Entry = 21,
@@ -105,7 +108,7 @@ pub enum Refusal {
     Target = 22,
     /// A sample over 4,095, a bin of 0, or the value that stands there.
     NewValue = 23,
-    /// The operator is not 1 to 65,535, or the reason not 1 to 5.
+    /// The operator is not 1 to 65,535, the reason not 1 to 5, or the time 2^48 or more.
     Signer = 24,
     /// 512 entries stand.
     Full = 25,
@@ -297,7 +300,8 @@ pub struct OpenEvent {
     pub size: u32,
 }
 
-/// A record that was accepted.
+/// A record that was accepted. Its first word is its version: 2 in those that `open` makes, whose entries keep a time, 1 in those that were made
+/// before there were times.
 #[derive(Clone, Copy, Debug, PartialEq, Eq)]
 pub struct Record {
     /// The bytes of its frame, which begins at byte 16.
@@ -319,6 +323,8 @@ pub struct Entry {
     pub new_value: u32,
     pub operator_id: u16,
     pub reason: u16,
+    /// As the correction gave it; `None` in a record of version 1, which keeps none.
+    pub time: Option<u64>,
 }
 
 /// What an edit asks.
@@ -330,6 +336,8 @@ pub struct Correction {
     pub value: u32,
     pub operator_id: u32,
     pub reason: u32,
+    /// Below 2^48, by your clock and in your unit: it is kept as given, and may be before that of an earlier edit.
+    pub time: u64,
 }
 
 /// Where a list of corrections stopped: the first that was refused. Those before it have been made and stand; it and those behind it have changed
@@ -447,6 +455,8 @@ pub mod ffi {
         pub new_value: u32,
         pub operator_id: u16,
         pub reason: u16,
+        pub timed: u8,
+        pub time: u64,
     }
 
     #[repr(C)]
@@ -698,7 +708,8 @@ impl Assembler {
     }
 }
 
-/// Whether a buffer begins with a record. Refused by 20, then as `read` refuses its frame, then by 21 at the newest entry that does not fit.
+/// Whether a buffer begins with a record, of either version. Refused by 20, then as `read` refuses its frame, then by 21 at the newest entry that does
+/// not fit.
 pub fn record(buffer: &[u8]) -> Answer<Record> {
     let r = unsafe { ffi::plane_record(buffer.as_ptr(), buffer.len()) };
     let ffi::RecordFound { length, count, total, .. } = r;
@@ -709,27 +720,29 @@ pub fn record(buffer: &[u8]) -> Answer<Record> {
 pub fn entry(buffer: &[u8], number: usize) -> Answer<Entry> {
     let r = unsafe { ffi::plane_entry(buffer.as_ptr(), buffer.len(), number) };
     let ffi::EntryFound { word, kind, old_value, new_value, operator_id, reason, .. } = r;
-    answer(r.refused, r.place, Entry { word, kind, old_value, new_value, operator_id, reason })
+    let time = (r.timed != 0).then_some(r.time);
+    let entry = Entry { word, kind, old_value, new_value, operator_id, reason, time };
+    answer(r.refused, r.place, entry)
 }
 
-/// Opens a record of the frame, with no history: writes header and frame to the buffer's start. Refused as `read` refuses, then by 12 where the
-/// buffer is under 16 bytes and the frame.
+/// Opens a record of the frame, of version 2 and with no history: writes header and frame to the buffer's start. Refused as `read` refuses, then by
+/// 12 where the buffer is under 16 bytes and the frame.
 pub fn open(buffer: &mut [u8], frame: &[u8]) -> Answer<()> {
     let (room, length) = (buffer.len(), frame.len());
     let r = unsafe { ffi::plane_open(buffer.as_mut_ptr(), room, frame.as_ptr(), length) };
     answer(r.refused, r.place, ())
 }
 
-/// Edits the record: writes the value, the two header words that change and one entry. Refused as `record` refuses, then by 22, 23, 24, 25, and by
-/// 12 where the buffer has under 16 bytes behind the record.
+/// Edits the record: writes the value, the two header words that change and one entry. Refused by 20 for a record of version 1, whatever its frame
+/// and entries are; then as `record` refuses, then by 22, 23, 24, 25, and by 12 where the buffer has under 24 bytes behind the record.
 pub fn edit(buffer: &mut [u8], correction: Correction) -> Answer<()> {
     let r = unsafe { ffi::plane_edit(buffer.as_mut_ptr(), buffer.len(), correction) };
     answer(r.refused, r.place, ())
 }
 
 /// Makes a list of corrections in their order, each as `edit` makes it, on the record that those before it have left. Stops at the first that is
-/// refused: as `record` refuses, then by 22, 23, 24, 25, 12. Those before it then stand; every other call that is refused has changed nothing. An
-/// empty list is accepted and changes nothing, whatever the buffer holds. The list is lent as it is, not copied.
+/// refused: by 20 for a record of version 1, else as `record` refuses, then by 22, 23, 24, 25, 12. Those before it then stand; every other call that is
+/// refused has changed nothing. An empty list is accepted and changes nothing, whatever the buffer holds. The list is lent as it is, not copied.
 pub fn edit_all(buffer: &mut [u8], corrections: &[Correction]) -> Result<(), Stopped> {
     let (room, count) = (buffer.len(), corrections.len());
     let r = unsafe { ffi::plane_edit_all(buffer.as_mut_ptr(), room, corrections.as_ptr(), count) };
@@ -737,8 +750,8 @@ pub fn edit_all(buffer: &mut [u8], corrections: &[Correction]) -> Result<(), Sto
     answer(r.refused, r.place, ()).map_err(|refused| Stopped { position, refused })
 }
 
-/// Restores the frame as it stood after its first `k` edits, to the start of `out`; the record is only read. Refused as `record` refuses, then by 26
-/// where there are not `k` entries, then by 12 where `out` is under the frame's length.
+/// Restores the frame as it stood after its first `k` edits, to the start of `out`; the record, of either version, is only read. Refused as `record`
+/// refuses, then by 26 where there are not `k` entries, then by 12 where `out` is under the frame's length.
 pub fn restore(buffer: &[u8], k: usize, out: &mut [u8]) -> Answer<()> {
     let (room, out_room) = (buffer.len(), out.len());
     let r = unsafe { ffi::plane_restore(buffer.as_ptr(), room, k, out.as_mut_ptr(), out_room) };

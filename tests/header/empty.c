@@ -12,10 +12,37 @@ static void wants(const char *call, uint32_t refused, uint32_t wanted) {
     faults++;
 }
 
+/* An empty list is accepted, and changes nothing. */
+static void unchanged(const char *what, uint8_t *buffer, size_t room) {
+    uint8_t before[64];
+    memcpy(before, buffer, room);
+    wants(what, plane_edit_all(buffer, room, NULL, 0).refused, PLANE_ACCEPTED);
+    if (memcmp(buffer, before, room)) wants(what, 1, 0);
+}
+
+/* An empty text is accepted, a record is restored to no room, and an empty list is made of a record of either version and of junk. */
+static void with_memory(void) {
+    uint8_t buffer[64];
+    struct plane_written w = plane_begin(buffer, sizeof buffer, PLANE_COMMAND, 5, 0);
+    w = plane_add_text(buffer, sizeof buffer, w.length, NULL, 0);
+    wants("an empty text", w.refused, PLANE_ACCEPTED);
+    w = plane_close(buffer, sizeof buffer, w.length);
+    wants("its frame", plane_read(buffer, w.length).refused, PLANE_ACCEPTED);
+    memset(buffer, 0, sizeof buffer);
+    wants("a record", plane_open(buffer, sizeof buffer, command, sizeof command).refused, PLANE_ACCEPTED);
+    wants("restore, no room", plane_restore(buffer, sizeof buffer, 0, NULL, 0).refused, PLANE_REFUSED_ROOM);
+    unchanged("an empty list", buffer, sizeof buffer);
+    /* With no entries the versions differ in the first word alone. */
+    buffer[0] = 1;
+    wants("restore of version 1, no room", plane_restore(buffer, sizeof buffer, 0, NULL, 0).refused, PLANE_REFUSED_ROOM);
+    unchanged("an empty list on version 1", buffer, sizeof buffer);
+    memset(buffer, 0xA5, sizeof buffer);
+    unchanged("an empty list on junk", buffer, sizeof buffer);
+}
+
 int main(void) {
     const struct plane_item_fields sample = { .item_class = PLANE_SAMPLE };
-    const struct plane_correction correction = { 11, 1, 1, 1 };
-    uint8_t buffer[64], before[64];
+    const struct plane_correction correction = { 11, 1, 1, 1, 1 };
 
     wants("read", plane_read(NULL, 0).refused, PLANE_REFUSED_LENGTH);
     wants("item", plane_item(NULL, 0, 0).refused, PLANE_REFUSED_LENGTH);
@@ -41,23 +68,7 @@ int main(void) {
     wants("edit all", plane_edit_all(NULL, 0, &correction, 1).refused, PLANE_REFUSED_HEADER);
     wants("edit all, nothing in nothing", plane_edit_all(NULL, 0, NULL, 0).refused, PLANE_ACCEPTED);
     wants("restore", plane_restore(NULL, 0, 0, NULL, 0).refused, PLANE_REFUSED_HEADER);
-
-    /* An empty text is accepted, a record is restored to no room, and an empty list changes nothing, of a record or of junk. */
-    struct plane_written w = plane_begin(buffer, sizeof buffer, PLANE_COMMAND, 5, 0);
-    w = plane_add_text(buffer, sizeof buffer, w.length, NULL, 0);
-    wants("an empty text", w.refused, PLANE_ACCEPTED);
-    w = plane_close(buffer, sizeof buffer, w.length);
-    wants("its frame", plane_read(buffer, w.length).refused, PLANE_ACCEPTED);
-    memset(buffer, 0, sizeof buffer);
-    wants("a record", plane_open(buffer, sizeof buffer, command, sizeof command).refused, PLANE_ACCEPTED);
-    wants("restore, no room", plane_restore(buffer, sizeof buffer, 0, NULL, 0).refused, PLANE_REFUSED_ROOM);
-    memcpy(before, buffer, sizeof buffer);
-    wants("an empty list", plane_edit_all(buffer, sizeof buffer, NULL, 0).refused, PLANE_ACCEPTED);
-    if (memcmp(buffer, before, sizeof buffer)) wants("an empty list, the record after it", 1, 0);
-    memset(buffer, 0xA5, sizeof buffer);
-    memset(before, 0xA5, sizeof before);
-    wants("an empty list on junk", plane_edit_all(buffer, sizeof buffer, NULL, 0).refused, PLANE_ACCEPTED);
-    if (memcmp(buffer, before, sizeof buffer)) wants("an empty list, the junk after it", 1, 0);
+    with_memory();
     if (!faults) printf("a null pointer with length 0: taken by every call\n");
     return faults != 0;
 }

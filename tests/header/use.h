@@ -2,7 +2,7 @@
 #include "plane_record.h"
 #include "plane_record.h"
 
-#if PLANE_RECORD_VERSION != 4
+#if PLANE_RECORD_VERSION != 5
 #error "the version is not the one that this test was written for"
 #endif
 
@@ -14,6 +14,15 @@
 #define STRUCT struct
 #define ENUM enum
 #endif
+
+/* The layouts that came with the time of a correction, in numbers: where the archive's sources and the header slip alike, layout.py sees nothing. */
+#define HOLDS(name, fact) typedef char holds_##name[(fact) ? 1 : -1]
+HOLDS(correction, sizeof(STRUCT plane_correction) == 32 && offsetof(STRUCT plane_correction, value) == 8);
+HOLDS(signer, offsetof(STRUCT plane_correction, operator_id) == 12 && offsetof(STRUCT plane_correction, reason) == 16);
+HOLDS(time_given, offsetof(STRUCT plane_correction, time) == 24);
+HOLDS(entry, sizeof(STRUCT plane_entry_found) == 48 && offsetof(STRUCT plane_entry_found, reason) == 30);
+HOLDS(time_kept, offsetof(STRUCT plane_entry_found, timed) == 32 && offsetof(STRUCT plane_entry_found, time) == 40);
+HOLDS(record, PLANE_MOST_RECORD == PLANE_HEADER_BYTES + PLANE_MOST_FRAME + PLANE_ENTRY_BYTES * PLANE_MOST_ENTRIES && PLANE_MOST_RECORD == 20496);
 
 static int accepted(uint32_t refused, size_t place) { return refused == PLANE_ACCEPTED && place == 0; }
 
@@ -69,8 +78,8 @@ int use_runs(const uint8_t *frame, size_t length) {
 int use_records(uint8_t *buffer, const uint8_t *frame, size_t length, uint8_t *out);
 int use_records(uint8_t *buffer, const uint8_t *frame, size_t length, uint8_t *out) {
     const size_t room = PLANE_MOST_RECORD;
-    const STRUCT plane_correction correction = { 11, 260, 9, 2 };
-    const STRUCT plane_correction corrections[2] = { { 11, 261, 9, 2 }, { 12, 252, 9, 2 } };
+    const STRUCT plane_correction correction = { 11, 260, 9, 2, 1000 };
+    const STRUCT plane_correction corrections[2] = { { 11, 261, 9, 2, 2000 }, { 12, 252, 9, 2, 1500 } };
     const STRUCT plane_done opened = plane_open(buffer, room, frame, length);
     const STRUCT plane_done edited = plane_edit(buffer, room, correction);
     const STRUCT plane_stopped stopped = plane_edit_all(buffer, room, corrections, sizeof corrections / sizeof corrections[0]);
@@ -81,5 +90,6 @@ int use_records(uint8_t *buffer, const uint8_t *frame, size_t length, uint8_t *o
     const ENUM plane_refusal refusal = PLANE_REFUSED_ROOM;
     return opened.refused != (uint32_t)refusal && accepted(edited.refused, edited.place) && accepted(stopped.refused, stopped.place) &&
            stopped.position == 0 && record.total == PLANE_HEADER_BYTES + length + 3 * PLANE_ENTRY_BYTES && record.count < PLANE_MOST_ENTRIES &&
-           entry.kind == kind && accepted(restored.refused, restored.place) && plane_refusal_name(restored.refused) != 0;
+           PLANE_ENTRY_BYTES_1 < PLANE_ENTRY_BYTES && entry.kind == kind && entry.timed == 1 && entry.time == corrections[1].time &&
+           accepted(restored.refused, restored.place) && plane_refusal_name(restored.refused) != 0;
 }
