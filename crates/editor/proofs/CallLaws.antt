@@ -12,7 +12,7 @@ use Rattle.format.specs.Answers.{accepted, refused}
 use Rattle.ledger.specs.Formats as formats
 use Rattle.ledger.specs.Calls.{editAnswer, editExit}
 use Rattle.ledger.specs.Histories.{keep, editAll, edit-all-none, edit-all-more, made, recordAfter, acceptedEdits}
-use Rattle.ledger.specs.VersionOne.{versionOne}
+use Rattle.ledger.specs.VersionTwo.{versionTwo}
 use Rattle.ledger.specs.PlaneFrames.{planeFrames}
 use Rattle.editor.specs.declared.answers.Done.{Done}
 use Rattle.editor.specs.declared.answers.Done.the-variants as answer
@@ -35,32 +35,32 @@ answered-by (accepted u) = (answer.Accepted, refl)
 answered-by (refused n p) = (answer.Refused (record { number = n; place = p }), refl)
 
 -- ---- the buffer and the accepted corrections
-pub calls-edit-all : {b e : List ℕ} {cs : List Correction} {rs : List Done} → Calls b cs rs e → e ≡ editAll planeFrames versionOne b (map asked cs)
-calls-edit-all {b = b} done = sym (edit-all-none planeFrames versionOne b)
+pub calls-edit-all : {b e : List ℕ} {cs : List Correction} {rs : List Done} → Calls b cs rs e → e ≡ editAll planeFrames versionTwo b (map asked cs)
+calls-edit-all {b = b} done = sym (edit-all-none planeFrames versionTwo b)
 calls-edit-all {b = b} (then {c = c} {cs = cs} o k) =
-    calls-edit-all k ∙ ap (λ (m : List ℕ). editAll planeFrames versionOne m (map asked cs)) (o .left) ∙ sym (edit-all-more planeFrames versionOne b (asked c) (map asked cs))
+    calls-edit-all k ∙ ap (λ (m : List ℕ). editAll planeFrames versionTwo m (map asked cs)) (o .left) ∙ sym (edit-all-more planeFrames versionTwo b (asked c) (map asked cs))
 
 kept-asked : (r : Done) (c : Correction) (cs : List Correction) → map asked (kept r c cs) ≡ keep (viewDone r) (asked c) (map asked cs)
 kept-asked answer.Accepted c cs = refl
 kept-asked (answer.Refused q) c cs = refl
 
-pub calls-made : {b e : List ℕ} {cs : List Correction} {rs : List Done} → Calls b cs rs e → map asked (madeBy cs rs) ≡ made planeFrames versionOne b (map asked cs)
+pub calls-made : {b e : List ℕ} {cs : List Correction} {rs : List Done} → Calls b cs rs e → map asked (madeBy cs rs) ≡ made planeFrames versionTwo b (map asked cs)
 unfolding madeBy made
 calls-made done = refl
 calls-made (then {c = c} {r = r} {cs = cs} {rs = rs} o k) =
     kept-asked r c (madeBy cs rs)
-    ∙ ap₂ (λ (d : answers.Done) (l : List formats.Correction). keep d (asked c) l) (o .answered) (calls-made k ∙ ap (λ (m : List ℕ). made planeFrames versionOne m (map asked cs)) (o .left))
+    ∙ ap₂ (λ (d : answers.Done) (l : List formats.Correction). keep d (asked c) l) (o .answered) (calls-made k ∙ ap (λ (m : List ℕ). made planeFrames versionTwo m (map asked cs)) (o .left))
 
 -- of a frame f that was opened in a buffer, which left b
 module _ (f buf b : List ℕ) (o : Opened f buf (viewDone answer.Accepted) b) where
-  pub after-calls : {e : List ℕ} {cs : List Correction} {rs : List Done} → Calls b cs rs e → e ≡ recordAfter planeFrames versionOne f buf (map asked cs)
-  after-calls {cs = cs} k = calls-edit-all k ∙ ap (λ (m : List ℕ). editAll planeFrames versionOne m (map asked cs)) (o .left)
+  pub after-calls : {e : List ℕ} {cs : List Correction} {rs : List Done} → Calls b cs rs e → e ≡ recordAfter planeFrames versionTwo f buf (map asked cs)
+  after-calls {cs = cs} k = calls-edit-all k ∙ ap (λ (m : List ℕ). editAll planeFrames versionTwo m (map asked cs)) (o .left)
 
-  pub edits-of-calls : {e : List ℕ} {cs : List Correction} {rs : List Done} → Calls b cs rs e → acceptedEdits planeFrames versionOne f buf (map asked cs) ≡ map asked (madeBy cs rs)
-  edits-of-calls {cs = cs} k = sym (calls-made k ∙ ap (λ (m : List ℕ). made planeFrames versionOne m (map asked cs)) (o .left))
+  pub edits-of-calls : {e : List ℕ} {cs : List Correction} {rs : List Done} → Calls b cs rs e → acceptedEdits planeFrames versionTwo f buf (map asked cs) ≡ map asked (madeBy cs rs)
+  edits-of-calls {cs = cs} k = sym (calls-made k ∙ ap (λ (m : List ℕ). made planeFrames versionTwo m (map asked cs)) (o .left))
 
   pub count-of-calls : {e : List ℕ} {cs : List Correction} {rs : List Done} → Calls b cs rs e
-      → length (acceptedEdits planeFrames versionOne f buf (map asked cs)) ≡ length (madeBy cs rs)
+      → length (acceptedEdits planeFrames versionTwo f buf (map asked cs)) ≡ length (madeBy cs rs)
   count-of-calls {cs = cs} {rs = rs} k = ap length (edits-of-calls k) ∙ length-map (madeBy cs rs) asked
 
 -- the first n of some corrections, and one of them, as they are asked
@@ -118,6 +118,6 @@ moment (then {c = c} {r = answer.Refused q} o K) (suc k) h = let M = moment K (s
 pub called : (b : List ℕ) (cs : List Correction) → (rs : List Done) × ((e : List ℕ) × Calls b cs rs e)
 called b [] = ([], (b, done))
 called b (c ∷ cs) =
-    let r = answered-by (editAnswer planeFrames versionOne b (asked c)) in
-    let k = called (editExit planeFrames versionOne b (asked c)) cs in
+    let r = answered-by (editAnswer planeFrames versionTwo b (asked c)) in
+    let k = called (editExit planeFrames versionTwo b (asked c)) cs in
     (r .0 ∷ k .0, (k .1 .0, then (record { answered = r .1; left = refl }) (k .1 .1)))

@@ -13,34 +13,33 @@ use Rattle.ledger.specs.Frames.{Accepted}
 use Rattle.ledger.specs.Records.{lengthIn, countIn, totalIn, frameIn, entriesIn, historyVerdict, recordVerdict}
 use Rattle.ledger.specs.Calls.{Summary, recordAnswer}
 use Rattle.ledger.specs.Chains.{Header}
-use Rattle.ledger.specs.VersionOne.{versionOne}
+use Rattle.ledger.specs.Formats.{Format, LawfulFormat, size}
 use Rattle.ledger.specs.PlaneFrames.{planeFrames}
 use Rattle.ledger.specs.Judged.{Judged, judgedAt}
 use Rattle.ledger.proofs.records.Codecs.{bytes-part}
 use Rattle.ledger.proofs.records.Headers.{header-words, frame-length, few-entries}
 use Rattle.ledger.proofs.records.Judging.{verdict-parts}
-use Rattle.ledger.proofs.plane.VersionOneLaws.{version-one-lawful}
 use Rattle.ledger.proofs.plane.PlaneFrames.{plane-frames-lawful}
 use Rattle.editor.specs.Writes.{Known}
 
 -- ---- from the answer of judging
-abbrev here : List ℕ → ℕ → Judged
-here b w = record { length = lengthIn b; count = countIn b; total = totalIn versionOne b; spot = planeFrames .spot (frameIn b) w }
+abbrev here : Format → List ℕ → ℕ → Judged
+here F b w = record { length = lengthIn b; count = countIn b; total = totalIn F b; spot = planeFrames .spot (frameIn b) w }
 
 same-judged : (i j : Judged) → _≡_ {A = Outcome Judged} (accepted i) (accepted j) → i ≡ j
 same-judged i j e = cc
 
-pub judged-known : (b : List ℕ) (w : ℕ) (x : Summary) (o : Option Spot)
-    → accepted (record { length = x .length; count = x .count; total = x .total; spot = o }) ≡ judgedAt planeFrames versionOne b w
-    → Known b x × (o ≡ planeFrames .spot (frameIn b) w)
+pub judged-known : (F : Format) (b : List ℕ) (w : ℕ) (x : Summary) (o : Option Spot)
+    → accepted (record { length = x .length; count = x .count; total = x .total; spot = o }) ≡ judgedAt planeFrames F b w
+    → Known F b x × (o ≡ planeFrames .spot (frameIn b) w)
 unfolding judgedAt
-judged-known b w x o e = go (recordVerdict planeFrames versionOne b) refl e
+judged-known F b w x o e = go (recordVerdict planeFrames F b) refl e
   where
-    go : (v : Done) → recordVerdict planeFrames versionOne b ≡ v
-        → accepted (record { length = x .length; count = x .count; total = x .total; spot = o }) ≡ andThen v (λ u. accepted (here b w))
-        → Known b x × (o ≡ planeFrames .spot (frameIn b) w)
+    go : (v : Done) → recordVerdict planeFrames F b ≡ v
+        → accepted (record { length = x .length; count = x .count; total = x .total; spot = o }) ≡ andThen v (λ u. accepted (here F b w))
+        → Known F b x × (o ≡ planeFrames .spot (frameIn b) w)
     go (accepted u) q h =
-        let s = same-judged (record { length = x .length; count = x .count; total = x .total; spot = o }) (here b w) h in (
+        let s = same-judged (record { length = x .length; count = x .count; total = x .total; spot = o }) (here F b w) h in (
           record {
             judged = q;
             length = ap (λ (j : Judged). j .length) s;
@@ -51,27 +50,27 @@ judged-known b w x o e = go (recordVerdict planeFrames versionOne b) refl e
         )
     go (refused n p) q h = let z : _≡_ {A = ℕ} 0 1 = cc in absurd (omega arith)
 
-pub judged-refused : (b : List ℕ) (w n p : ℕ) → refused n p ≡ judgedAt planeFrames versionOne b w → recordVerdict planeFrames versionOne b ≡ refused n p
+pub judged-refused : (F : Format) (b : List ℕ) (w n p : ℕ) → refused n p ≡ judgedAt planeFrames F b w → recordVerdict planeFrames F b ≡ refused n p
 unfolding judgedAt
-judged-refused b w n p e = go (recordVerdict planeFrames versionOne b) e
+judged-refused F b w n p e = go (recordVerdict planeFrames F b) e
   where
-    go : (v : Done) → refused n p ≡ andThen v (λ u. accepted (here b w)) → v ≡ refused n p
+    go : (v : Done) → refused n p ≡ andThen v (λ u. accepted (here F b w)) → v ≡ refused n p
     go (accepted u) h = let z : _≡_ {A = ℕ} 0 1 = cc in absurd (omega arith)
     go (refused m q) h = cc
 
-abbrev lengths : List ℕ → Summary
-lengths b = record { length = lengthIn b; count = countIn b; total = totalIn versionOne b }
+abbrev lengths : Format → List ℕ → Summary
+lengths F b = record { length = lengthIn b; count = countIn b; total = totalIn F b }
 
 same-summary : (i j : Summary) → _≡_ {A = Outcome Summary} (accepted i) (accepted j) → i ≡ j
 same-summary i j e = cc
 
-pub record-known : (b : List ℕ) (x : Summary) → accepted x ≡ recordAnswer planeFrames versionOne b → Known b x
+pub record-known : (F : Format) (b : List ℕ) (x : Summary) → accepted x ≡ recordAnswer planeFrames F b → Known F b x
 unfolding recordAnswer
-record-known b x e = go (recordVerdict planeFrames versionOne b) refl e
+record-known F b x e = go (recordVerdict planeFrames F b) refl e
   where
-    go : (v : Done) → recordVerdict planeFrames versionOne b ≡ v → accepted x ≡ andThen v (λ u. accepted (lengths b)) → Known b x
+    go : (v : Done) → recordVerdict planeFrames F b ≡ v → accepted x ≡ andThen v (λ u. accepted (lengths F b)) → Known F b x
     go (accepted u) q h =
-        let s = same-summary x (lengths b) h in
+        let s = same-summary x (lengths F b) h in
         record {
           judged = q;
           length = ap (λ (j : Summary). j .length) s;
@@ -80,37 +79,39 @@ record-known b x e = go (recordVerdict planeFrames versionOne b) refl e
         }
     go (refused n p) q h = let z : _≡_ {A = ℕ} 0 1 = cc in absurd (omega arith)
 
-pub record-refused : (b : List ℕ) (n p : ℕ) → refused n p ≡ recordAnswer planeFrames versionOne b → recordVerdict planeFrames versionOne b ≡ refused n p
+pub record-refused : (F : Format) (b : List ℕ) (n p : ℕ) → refused n p ≡ recordAnswer planeFrames F b → recordVerdict planeFrames F b ≡ refused n p
 unfolding recordAnswer
-record-refused b n p e = go (recordVerdict planeFrames versionOne b) e
+record-refused F b n p e = go (recordVerdict planeFrames F b) e
   where
-    go : (v : Done) → refused n p ≡ andThen v (λ u. accepted (lengths b)) → v ≡ refused n p
+    go : (v : Done) → refused n p ≡ andThen v (λ u. accepted (lengths F b)) → v ≡ refused n p
     go (accepted u) h = let z : _≡_ {A = ℕ} 0 1 = cc in absurd (omega arith)
     go (refused m q) h = cc
 
 -- ---- what an accepted record is
-module _ (b : List ℕ) (x : Summary) (k : Known b x) where
-  pub head : Header versionOne b
-  head = header-words versionOne b (verdict-parts planeFrames versionOne b (k .judged) .0)
+module _ (F : Format) (b : List ℕ) (x : Summary) (k : Known F b x) where
+  pub head : Header F b
+  head = header-words F b (verdict-parts planeFrames F b (k .judged) .0)
 
-  pub fitting : historyVerdict planeFrames versionOne (frameIn b) (entriesIn versionOne b) ≡ accepted tt
-  fitting = verdict-parts planeFrames versionOne b (k .judged) .2
+  pub fitting : historyVerdict planeFrames F (frameIn b) (entriesIn F b) ≡ accepted tt
+  fitting = verdict-parts planeFrames F b (k .judged) .2
 
   pub standing : Bytes b → Accepted planeFrames (frameIn b)
-  standing y = record { bytes = bytes-part b 16 (lengthIn b) y; judged = verdict-parts planeFrames versionOne b (k .judged) .1 }
+  standing y = record { bytes = bytes-part b 16 (lengthIn b) y; judged = verdict-parts planeFrames F b (k .judged) .1 }
 
   pub frame-long : length (frameIn b) ≡ x .length
-  frame-long = frame-length versionOne b head ∙ sym (k .length)
+  frame-long = frame-length F b head ∙ sym (k .length)
 
-  pub sum : x .total ≡ 16 + x .length + 16 * x .count
-  unfolding versionOne
-  sum = let l = k .length in let n = k .count in let t = k .total in omega arith
+  pub sum : x .total ≡ 16 + x .length + size F * x .count
+  sum = k .total ∙ rw (k .length, k .count)
+
+  pub whole : x .total ≡ 16 + lengthIn b + size F * x .count
+  whole = k .total ∙ rw (k .count)
 
   pub inside : x .total ≤ length b
   inside = let t = k .total in let r = head .room in omega arith
 
-  pub few : x .count ≤ 512
-  few = let n = k .count in let f = few-entries versionOne version-one-lawful b head in omega arith
+  pub few : LawfulFormat F → x .count ≤ 512
+  few L = let n = k .count in let f = few-entries F L b head in omega arith
 
   pub short : Bytes b → x .length ≤ 8192
   short y = let l = frame-long in let s = plane-frames-lawful .short (frameIn b) (standing y) in omega arith

@@ -14,26 +14,26 @@ use Rattle.format.specs.Questions.{done}
 use Rattle.format.specs.Steps.{Overview, overview, readOf}
 use Rattle.ledger.specs.Records.{header}
 use Rattle.ledger.specs.Calls.{openAnswer, openExit}
-use Rattle.ledger.specs.VersionOne.{versionOne}
+use Rattle.ledger.specs.VersionTwo.{versionTwo}
 use Rattle.ledger.specs.PlaneFrames.{planeFrames, plane-frames-judge}
 use Rattle.ledger.proofs.answers.Answering.{leaves-found, leaves-written}
 use Rattle.format.proofs.items.StoringLaws.{part-stores}
 use Rattle.ledger.proofs.calls.Opening.{open-exactly, open-refused, open-no-room}
-use Rattle.ledger.proofs.plane.PlaneFrames.{plane-frames-version-one}
+use Rattle.ledger.proofs.plane.PlaneFrames.{plane-frames-lawful}
 use Rattle.editor.specs.Promises.{Opened}
 
 -- the eight words of a header with no entries
-pub header-none : (b l : List ℕ) (n : ℕ) → l ≡ sets b 0 (bytes (1 ∷ 1 ∷ 16 ∷ n ∷ (16 + n) ∷ 0 ∷ (16 + n) ∷ 0 ∷ [])) → l ≡ sets b 0 (header versionOne n 0)
-unfolding header versionOne
-header-none b l n e = let z : 16 + n + 16 * 0 ≡ 16 + n = omega arith in rw z e
+pub header-none : (b l : List ℕ) (n : ℕ) → l ≡ sets b 0 (bytes (2 ∷ 1 ∷ 16 ∷ n ∷ (16 + n) ∷ 0 ∷ (16 + n) ∷ 0 ∷ [])) → l ≡ sets b 0 (header versionTwo n 0)
+unfolding header versionTwo
+header-none b l n e = let z : 16 + n + 24 * 0 ≡ 16 + n = omega arith in rw z e
 
 -- the two stores: the header, and the frame in the part behind it
-pub opened-stores : (b f l₁ l₂ : List ℕ) → 16 + length f ≤ length b → l₁ ≡ sets b 0 (header versionOne (length f) 0)
+pub opened-stores : (b f l₁ l₂ : List ℕ) → 16 + length f ≤ length b → l₁ ≡ sets b 0 (header versionTwo (length f) 0)
     → l₂ ≡ sets (take (16 + length f - 16) (drop 16 l₁)) 0 f
-    → putMid 16 (16 + length f - 16) l₁ l₂ ≡ sets b 0 (header versionOne (length f) 0 ++ f)
+    → putMid 16 (16 + length f - 16) l₁ l₂ ≡ sets b 0 (header versionTwo (length f) 0 ++ f)
 unfolding header bytes
 opened-stores b f l₁ l₂ h e₁ e₂ =
-    let k : 16 + length f ≤ length l₁ = rw (e₁, length-sets b 0 (header versionOne (length f) 0)) h in
+    let k : 16 + length f ≤ length l₁ = rw (e₁, length-sets b 0 (header versionTwo (length f) 0)) h in
     part-stores l₁ 16 (16 + length f) l₂ f (omega arith) k (omega arith) e₂ ∙ ap (λ (x : List ℕ). sets x 16 f) e₁
 
 -- what reading a frame answers is the book's verdict on it
@@ -49,24 +49,24 @@ module _ (f b : List ℕ) where
   pub opened-refused : (n p : ℕ) → refused n p ≡ readOf f → Opened f b (refused n p) b
   unfolding openExit
   opened-refused n p e =
-      let a : openAnswer planeFrames versionOne f b ≡ refused n p = open-refused planeFrames versionOne f b n p (read-judged f (refused n p) e) in
-      record { answered = sym a; left = sym (leaves-found (openAnswer planeFrames versionOne f b) b _ n p a) }
+      let a : openAnswer planeFrames versionTwo f b ≡ refused n p = open-refused planeFrames versionTwo f b n p (read-judged f (refused n p) e) in
+      record { answered = sym a; left = sym (leaves-found (openAnswer planeFrames versionTwo f b) b _ n p a) }
 
   module _ (x : Overview) (e : accepted x ≡ readOf f) where
     judged : planeFrames .judge f ≡ accepted tt
     judged = read-judged f (accepted x) e
 
     pub frame-short : Bytes f → length f ≤ 8192
-    frame-short y = plane-frames-version-one .book .short f (record { bytes = y; judged = judged })
+    frame-short y = plane-frames-lawful .short f (record { bytes = y; judged = judged })
 
     pub opened-no-room : length b < 16 + length f → Opened f b (refused 12 0) b
     unfolding openExit
     opened-no-room l =
-        let a : openAnswer planeFrames versionOne f b ≡ refused 12 0 = open-no-room planeFrames versionOne f b judged l in
-        record { answered = sym a; left = sym (leaves-found (openAnswer planeFrames versionOne f b) b _ 12 0 a) }
+        let a : openAnswer planeFrames versionTwo f b ≡ refused 12 0 = open-no-room planeFrames versionTwo f b judged l in
+        record { answered = sym a; left = sym (leaves-found (openAnswer planeFrames versionTwo f b) b _ 12 0 a) }
 
-    pub opened-written : (l : List ℕ) → 16 + length f ≤ length b → l ≡ sets b 0 (header versionOne (length f) 0 ++ f) → Opened f b (accepted tt) l
+    pub opened-written : (l : List ℕ) → 16 + length f ≤ length b → l ≡ sets b 0 (header versionTwo (length f) 0 ++ f) → Opened f b (accepted tt) l
     unfolding openExit
     opened-written l r w =
-        let a : openAnswer planeFrames versionOne f b ≡ accepted tt = open-exactly planeFrames versionOne f b .1 (judged, r) in
-        record { answered = sym a; left = w ∙ sym (leaves-written (openAnswer planeFrames versionOne f b) b _ tt a) }
+        let a : openAnswer planeFrames versionTwo f b ≡ accepted tt = open-exactly planeFrames versionTwo f b .1 (judged, r) in
+        record { answered = sym a; left = w ∙ sym (leaves-written (openAnswer planeFrames versionTwo f b) b _ tt a) }

@@ -3,12 +3,12 @@
 -- Assumes nothing.
 use Prim.Native.Nat.{ℕ, zero, suc, _+_, _-_, _*_, _≤_, _<_}
 use mathlib.Core.Path.{_≡_, refl, sym, ap, ap₂, subst, _∙_}
-use mathlib.Core.Logic.{_↔_, by-cases}
-use native.Mathlib.Decide.{decLt}
+use mathlib.Core.Logic.{_↔_}
 use mathlib.Core.List.{List, [], _∷_, _++_, map, map-append}
 use native.Mathlib.Omega.{arith}
-use lib.ListN.{length, take}
-use Rattle.format.specs.Words.{Bytes}
+use lib.ListN.{length, getD, take, drop}
+use borrow.Author.Tests.{eqb-true}
+use Rattle.format.specs.Words.{Bytes, wordAt}
 use Rattle.format.specs.Answers.{Done, accepted, refused, andThen}
 use Rattle.format.proofs.items.WordLaws.{below-drop}
 use Rattle.ledger.specs.Formats as formats
@@ -17,12 +17,14 @@ use Rattle.ledger.specs.Records.{lengthIn, countIn, totalIn, entryOf, numbered,
 use Rattle.ledger.specs.Calls.{Summary, recordAnswer, openExit, restored}
 use Rattle.ledger.specs.Histories as histories
 use Rattle.ledger.specs.Histories.{oldestFirst, correctionOf, editAll, made, recordAfter, acceptedEdits}
-use Rattle.ledger.specs.VersionOne.{versionOne}
+use Rattle.ledger.specs.VersionTwo.{timeIn, deskIn, versionTwo}
+use Rattle.ledger.specs.Versions.{v2, formatIn}
 use Rattle.ledger.specs.PlaneFrames.{planeFrames}
 use Rattle.ledger.specs.Layout.{totalLength}
-use Rattle.ledger.specs.Reasons.{cut}
 use Rattle.ledger.proofs.histories.Backward.{restored-first}
-use Rattle.ledger.proofs.plane.PlaneFrames.{plane-frames-version-one}
+use Rattle.ledger.proofs.plane.PlaneFrames.{plane-lawful}
+use Rattle.ledger.proofs.plane.OneJudge.{by-word}
+use Rattle.ledger.proofs.records.Judging.{record-chain}
 use Rattle.ledger.proofs.front.PlaneDemand3 as house3
 use Rattle.records.specs.declared.answers.Record.{Record}
 use Rattle.records.specs.declared.answers.RecordFound.{RecordFound}
@@ -38,97 +40,115 @@ use Rattle.editor.proofs.CallLaws.{calls-edit-all, calls-made, after-ca
 
 -- ---- what `record` answers
 module _ (b : List ℕ) where
-  pub recorded : (x : Record) → Recorded b (records.Record x) → recordVerdict planeFrames versionOne b ≡ accepted tt
+  pub recorded : (x : Record) → Recorded b (records.Record x) → recordVerdict planeFrames (formatIn b) b ≡ accepted tt
   unfolding recordAnswer
-  recorded x e = go (recordVerdict planeFrames versionOne b) _ e
+  recorded x e = go (recordVerdict planeFrames (formatIn b) b) _ e
     where
       go : (d : Done) (s : Summary) → accepted (summaryOf x) ≡ andThen d (λ u. accepted s) → d ≡ accepted tt
       go (accepted u) s q = refl
       go (refused n p) s q = let z : _≡_ {A = ℕ} 0 1 = cc in absurd (omega arith)
 
-  pub recorded-back : (r : RecordFound) → Recorded b r → recordVerdict planeFrames versionOne b ≡ accepted tt → (x : Record) × (r ≡ records.Record x)
+  pub recorded-back : (r : RecordFound) → Recorded b r → recordVerdict planeFrames (formatIn b) b ≡ accepted tt → (x : Record) × (r ≡ records.Record x)
   unfolding recordAnswer
   recorded-back r t v =
-      (record { length = lengthIn b; count = countIn b; total = totalIn versionOne b }, same-record r _ (t ∙ rw v))
+      (record { length = lengthIn b; count = countIn b; total = totalIn (formatIn b) b }, same-record r _ (t ∙ rw v))
 
-  pub recorded-refused : (n p : ℕ) → (refused n p ≡ recordAnswer planeFrames versionOne b) ↔ (recordVerdict planeFrames versionOne b ≡ refused n p)
+  pub recorded-refused : (n p : ℕ) → (refused n p ≡ recordAnswer planeFrames (formatIn b) b) ↔ (recordVerdict planeFrames (formatIn b) b ≡ refused n p)
   unfolding recordAnswer
-  recorded-refused n p = go (recordVerdict planeFrames versionOne b) _
+  recorded-refused n p = go (recordVerdict planeFrames (formatIn b) b) _
     where
       go : (d : Done) (s : Summary) → (refused n p ≡ andThen d (λ u. accepted s)) ↔ (d ≡ refused n p)
       go (accepted u) s = (λ e. let z : _≡_ {A = ℕ} 0 1 = cc in absurd (omega arith), λ e. let z : _≡_ {A = ℕ} 0 1 = cc in absurd (omega arith))
       go (refused m q) s = (λ e. let i : m ≡ n = cc in let j : q ≡ p = cc in rw (i, j), λ e. let i : m ≡ n = cc in let j : q ≡ p = cc in rw (i, j))
 
--- ---- the corrections that a record's entries tell of
-asked-for : (b : List ℕ) (j : ℕ) → asked (correctionFor (numbered versionOne b j)) ≡ correctionOf (numbered versionOne b j)
-unfolding numbered entryOf versionOne
-asked-for b j = refl
+-- a record that names version 2 is judged as one
+pub as-two : (b : List ℕ) → wordAt b 0 ≡ 2 → recordVerdict planeFrames (formatIn b) b ≡ accepted tt → recordVerdict planeFrames versionTwo b ≡ accepted tt
+as-two b e v = ap (λ (F : formats.Format). recordVerdict planeFrames F b) (sym (by-word v2 b e)) ∙ v
 
-all-asked : (b : List ℕ) (n : ℕ) → map asked (map correctionFor (oldestFirst (entriesTo versionOne b n))) ≡ map correctionOf (oldestFirst (entriesTo versionOne b n))
-unfolding entriesTo oldestFirst
-all-asked b zero = refl
-all-asked b (suc n) =
-    let l = oldestFirst (entriesTo versionOne b n) in
-    let x = numbered versionOne b (suc n) in
-    ap (map asked) (map-append correctionFor l (x ∷ []))
-    ∙ map-append asked (map correctionFor l) (correctionFor x ∷ [])
-    ∙ ap₂ (λ (c : List formats.Correction) (d : formats.Correction). c ++ (d ∷ [])) (all-asked b n) (asked-for b (suc n))
-    ∙ sym (map-append correctionOf l (x ∷ []))
+-- ---- the corrections that a record's entries tell of; the desk of each is 0
+module _ (b : List ℕ) (v : recordVerdict planeFrames versionTwo b ≡ accepted tt) where
+  no-desk : (j : ℕ) → j < countIn b → deskIn (numbered versionTwo b (suc j) .extra) ≡ 0
+  unfolding versionTwo
+  no-desk j h = eqb-true _ _ (record-chain planeFrames versionTwo b .0 v .2 .1 .fit j (omega arith) h .suits)
 
-given-for : (b : List ℕ) → Bytes b → (j : ℕ) → Given (correctionFor (numbered versionOne b j))
-unfolding numbered entryOf lengthIn versionOne
+  pair : (j : ℕ) → numbered versionTwo b j .extra ≡ timeIn (numbered versionTwo b j .extra) ∷ deskIn (numbered versionTwo b j .extra) ∷ []
+  unfolding numbered entryOf versionTwo
+  pair j = refl
+
+  asked-for : (j : ℕ) → j < countIn b → asked (correctionFor (numbered versionTwo b (suc j))) ≡ correctionOf (numbered versionTwo b (suc j))
+  asked-for j h =
+      let e = numbered versionTwo b (suc j) in
+      ap (λ (x : List ℕ). record { word = e .word; value = e .new; operator = e .operator; reason = e .reason; extra = x })
+      (ap (λ (d : ℕ). timeIn (e .extra) ∷ d ∷ []) (sym (no-desk j h)) ∙ sym (pair (suc j)))
+
+  all-asked : (n : ℕ) → n ≤ countIn b → map asked (map correctionFor (oldestFirst (entriesTo versionTwo b n))) ≡ map correctionOf (oldestFirst (entriesTo versionTwo b n))
+  unfolding entriesTo oldestFirst
+  all-asked zero h = refl
+  all-asked (suc n) h =
+      let l = oldestFirst (entriesTo versionTwo b n) in
+      let x = numbered versionTwo b (suc n) in
+      ap (map asked) (map-append correctionFor l (x ∷ []))
+      ∙ map-append asked (map correctionFor l) (correctionFor x ∷ [])
+      ∙ ap₂ (λ (c : List formats.Correction) (d : formats.Correction). c ++ (d ∷ [])) (all-asked n (omega arith)) (asked-for n (omega arith))
+      ∙ sym (map-append correctionOf l (x ∷ []))
+
+given-for : (b : List ℕ) → Bytes b → (j : ℕ) → Given (correctionFor (numbered versionTwo b j))
+unfolding numbered entryOf lengthIn versionTwo
 given-for b y j =
-    let s : (i : ℕ) → _ < 256 = below-drop (16 + lengthIn b + 16 * (j - 1)) b 256 y in
+    let at = 16 + lengthIn b + 24 * (j - 1) in
+    let s : (i : ℕ) → getD (drop at b) i 0 < 256 = below-drop at b 256 y in
+    let t : (i : ℕ) → getD (drop 16 (drop at b)) i 0 < 256 = below-drop 16 (drop at b) 256 s in
     record {
       word = omega (arith, s 0, s 1);
       value = omega (arith, s 8, s 9, s 10, s 11);
       operator = omega (arith, s 12, s 13);
       reason = omega (arith, s 14, s 15);
+      time = omega (arith, t 0, t 1, t 2, t 3, t 4, t 5);
     }
 
 given-both : {cs ds : List Correction} → AllGiven cs → AllGiven ds → AllGiven (cs ++ ds)
 given-both none h = h
 given-both (more g r) h = more g (given-both r h)
 
-all-given : (b : List ℕ) → Bytes b → (n : ℕ) → AllGiven (map correctionFor (oldestFirst (entriesTo versionOne b n)))
+all-given : (b : List ℕ) → Bytes b → (n : ℕ) → AllGiven (map correctionFor (oldestFirst (entriesTo versionTwo b n)))
 unfolding entriesTo oldestFirst
 all-given b y zero = none
-all-given b y (suc n) = rw (map-append correctionFor (oldestFirst (entriesTo versionOne b n)) (numbered versionOne b (suc n) ∷ [])) (given-both (all-given b y n) (more (given-for b y (suc n)) none))
+all-given b y (suc n) = rw (map-append correctionFor (oldestFirst (entriesTo versionTwo b n)) (numbered versionTwo b (suc n) ∷ [])) (given-both (all-given b y n) (more (given-for b y (suc n)) none))
 
 -- ---- a sequence of calls is one of ledger's
 module _ (b : List ℕ) (S : Sequence b) where
-  left-after : S .left ≡ recordAfter planeFrames versionOne (S .frame) (S .buffer) (map asked (S .corrections))
-  left-after = calls-edit-all (S .calls) ∙ ap (λ (m : List ℕ). editAll planeFrames versionOne m (map asked (S .corrections))) (S .opening .left)
+  left-after : S .left ≡ recordAfter planeFrames versionTwo (S .frame) (S .buffer) (map asked (S .corrections))
+  left-after = calls-edit-all (S .calls) ∙ ap (λ (m : List ℕ). editAll planeFrames versionTwo m (map asked (S .corrections))) (S .opening .left)
 
-  pub as-ledgers : histories.Sequence planeFrames versionOne b
-  unfolding lengthIn countIn versionOne
+  pub as-ledgers : histories.Sequence planeFrames versionTwo b
+  unfolding lengthIn countIn versionTwo
   as-ledgers = record {
     origin = S .frame;
     buffer = S .buffer;
     calls = map asked (S .corrections);
     bytes = S .lent .0;
     opened = sym (S .opening .answered);
-    whole = subst (λ (l : List ℕ). totalLength l ≤ length b) left-after (S .whole);
-    same = subst (λ (l : List ℕ). take (totalLength l) b ≡ take (totalLength l) l) left-after (S .same);
+    whole = subst (λ (l : List ℕ). totalLength v2 l ≤ length b) left-after (S .whole);
+    same = subst (λ (l : List ℕ). take (totalLength v2 l) b ≡ take (totalLength v2 l) l) left-after (S .same);
   }
 
-  edits-made : map asked (madeBy (S .corrections) (S .answers)) ≡ acceptedEdits planeFrames versionOne (S .frame) (S .buffer) (map asked (S .corrections))
-  edits-made = calls-made (S .calls) ∙ ap (λ (m : List ℕ). made planeFrames versionOne m (map asked (S .corrections))) (S .opening .left)
+  edits-made : map asked (madeBy (S .corrections) (S .answers)) ≡ acceptedEdits planeFrames versionTwo (S .frame) (S .buffer) (map asked (S .corrections))
+  edits-made = calls-made (S .calls) ∙ ap (λ (m : List ℕ). made planeFrames versionTwo m (map asked (S .corrections))) (S .opening .left)
 
   -- its frame and its accepted corrections are those that the record tells of
-  pub only-frame : S .frame ≡ restored planeFrames versionOne b 0
+  pub only-frame : S .frame ≡ restored planeFrames versionTwo b 0
   unfolding as-ledgers
-  only-frame = house3.the-only-ones b as-ledgers .0
+  only-frame = house3.the-only-ones v2 b as-ledgers .0
 
-  pub only-corrections : madeBy (S .corrections) (S .answers) ≡ map correctionFor (oldestFirst (entriesIn versionOne b))
+  pub only-corrections : madeBy (S .corrections) (S .answers) ≡ map correctionFor (oldestFirst (entriesIn versionTwo b))
   unfolding as-ledgers
   only-corrections =
       sym (back (madeBy (S .corrections) (S .answers)))
-      ∙ ap (map unasked) (edits-made ∙ house3.the-only-ones b as-ledgers .1)
-      ∙ both (oldestFirst (entriesIn versionOne b))
+      ∙ ap (map unasked) (edits-made ∙ house3.the-only-ones v2 b as-ledgers .1)
+      ∙ both (oldestFirst (entriesIn versionTwo b))
     where
       unasked : formats.Correction → Correction
-      unasked c = record { word = c .word; value = c .value; operator = c .operator; reason = c .reason }
+      unasked c = record { word = c .word; value = c .value; operator = c .operator; reason = c .reason; time = timeIn (c .extra) }
 
       back : (cs : List Correction) → map unasked (map asked cs) ≡ cs
       back [] = refl
@@ -138,27 +158,28 @@ module _ (b : List ℕ) (S : Sequence b) where
       both [] = refl
       both (e ∷ es) = ap (λ (l : List Correction). correctionFor e ∷ l) (both es)
 
-fits-inside : (b : List ℕ) → recordVerdict planeFrames versionOne b ≡ accepted tt → totalLength b ≤ length b
-fits-inside b v = by-cases (decLt (length b) (totalLength b)) (λ l. absurd (house3.accepted-record b .0 v .0 (cut l))) (λ h. let n : length b < totalLength b → ⊥ = h in omega arith)
+fits-inside : (b : List ℕ) → recordVerdict planeFrames versionTwo b ≡ accepted tt → totalLength v2 b ≤ length b
+unfolding versionTwo lengthIn countIn
+fits-inside b v = record-chain planeFrames versionTwo b .0 v .0 .room
 
 pub joined : {b m e : List ℕ} {cs ds : List Correction} {rs qs : List code.Done} → Calls b cs rs m → Calls m ds qs e → Calls b (cs ++ ds) (rs ++ qs) e
 joined done k = k
 joined (then o j) k = then o (joined j k)
 
 -- ---- and an accepted record has one: the frame that it restores to, opened in that very buffer, and its own entries as calls
-module _ (b : List ℕ) (y : Bytes b) (v : recordVerdict planeFrames versionOne b ≡ accepted tt) where
+module _ (b : List ℕ) (y : Bytes b) (v : recordVerdict planeFrames versionTwo b ≡ accepted tt) where
   origin : List ℕ
-  origin = restored planeFrames versionOne b 0
+  origin = restored planeFrames versionTwo b 0
 
   start : List ℕ
-  start = openExit planeFrames versionOne origin b
+  start = openExit planeFrames versionTwo origin b
 
   own : List Correction
-  own = map correctionFor (oldestFirst (entriesIn versionOne b))
+  own = map correctionFor (oldestFirst (entriesIn versionTwo b))
 
-  makes : editAll planeFrames versionOne start (map asked own) ≡ b
+  makes : editAll planeFrames versionTwo start (map asked own) ≡ b
   unfolding origin start own
-  makes = ap (editAll planeFrames versionOne (openExit planeFrames versionOne (restored planeFrames versionOne b 0) b)) (all-asked b (countIn b)) ∙ house3.made-again b y v .1
+  makes = ap (editAll planeFrames versionTwo (openExit planeFrames versionTwo (restored planeFrames versionTwo b 0) b)) (all-asked b v (countIn b) (omega arith)) ∙ house3.made-again v2 b y v .1
 
   pub has-sequence : Sequence b
   unfolding origin start own
@@ -168,16 +189,16 @@ module _ (b : List ℕ) (y : Bytes b) (v : recordVerdict planeFrames versionOne 
       record {
         frame = origin;
         buffer = b;
-        lent = (restored-first planeFrames versionOne plane-frames-version-one b y v .bytes, y);
+        lent = (restored-first planeFrames versionTwo (plane-lawful v2) b y v .bytes, y);
         opened = start;
-        opening = record { answered = sym (house3.made-again b y v .0); left = refl };
+        opening = record { answered = sym (house3.made-again v2 b y v .0); left = refl };
         corrections = own;
         given = all-given b y (countIn b);
         answers = k .0;
         left = k .1 .0;
         calls = k .1 .1;
-        whole = subst (λ (x : List ℕ). totalLength x ≤ length b) (sym l) (fits-inside b v);
-        same = subst (λ (x : List ℕ). take (totalLength x) b ≡ take (totalLength x) x) (sym l) refl;
+        whole = subst (λ (x : List ℕ). totalLength v2 x ≤ length b) (sym l) (fits-inside b v);
+        same = subst (λ (x : List ℕ). take (totalLength v2 x) b ≡ take (totalLength v2 x) x) (sym l) refl;
       }
 
   pub own-buffer : has-sequence .buffer ≡ b
@@ -193,9 +214,9 @@ module _ (b : List ℕ) (y : Bytes b) (v : recordVerdict planeFrames versionOne 
   followed {cs = cs} {rs = rs} {e = e} k g =
       let S = has-sequence in
       let a = joined (S .calls) (subst (λ (m : List ℕ). Calls m cs rs e) (sym own-left) k) in
-      let v : recordVerdict planeFrames versionOne e ≡ accepted tt
-      = ap (recordVerdict planeFrames versionOne) (after-calls (S .frame) (S .buffer) (S .opened) (S .opening) a)
-      ∙ house3.accepted-after (S .frame) (S .buffer) (S .lent .0) (sym (S .opening .answered)) (map asked (S .corrections ++ cs)) in
+      let v : recordVerdict planeFrames versionTwo e ≡ accepted tt
+      = ap (recordVerdict planeFrames versionTwo) (after-calls (S .frame) (S .buffer) (S .opened) (S .opening) a)
+      ∙ house3.accepted-after v2 (S .frame) (S .buffer) (S .lent .0) (sym (S .opening .answered)) (map asked (S .corrections ++ cs)) in
       record {
         frame = S .frame;
         buffer = S .buffer;
@@ -211,5 +232,5 @@ module _ (b : List ℕ) (y : Bytes b) (v : recordVerdict planeFrames versionOne 
         same = refl;
       }
 
-pub accepted-exactly : (b : List ℕ) → Bytes b → (recordVerdict planeFrames versionOne b ≡ accepted tt) ↔ Sequence b
-accepted-exactly b y = (has-sequence b y, λ S. house3.accepted-exactly b y .1 (as-ledgers b S))
+pub accepted-exactly : (b : List ℕ) → Bytes b → (recordVerdict planeFrames versionTwo b ≡ accepted tt) ↔ Sequence b
+accepted-exactly b y = (has-sequence b y, λ S. house3.accepted-exactly v2 b y .1 (as-ledgers b S))

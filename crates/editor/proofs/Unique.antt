@@ -7,6 +7,7 @@ use Rattle.format.specs.Answers as answers
 use Rattle.format.specs.Answers.{accepted, refused}
 use Rattle.book.proofs.Unique.{undone}
 use Rattle.ledger.specs.Formats as formats
+use Rattle.ledger.specs.VersionTwo.{timeIn}
 use Rattle.editor.specs.declared.answers.Done.{Done}
 use Rattle.editor.specs.declared.answers.Done.the-variants as done
 use Rattle.editor.specs.declared.editing.Correction.{Correction}
@@ -26,7 +27,7 @@ pub same-done : (r q : Done) → viewDone r ≡ viewDone q → r ≡ q
 same-done = undone viewDone doneBack done-back
 
 abbrev askedBack : formats.Correction → Correction
-askedBack c = record { word = c .word; value = c .value; operator = c .operator; reason = c .reason }
+askedBack c = record { word = c .word; value = c .value; operator = c .operator; reason = c .reason; time = timeIn (c .extra) }
 
 pub same-asked : (c d : Correction) → asked c ≡ asked d → c ≡ d
 same-asked = undone asked askedBack (λ c. refl)

@@ -11,6 +11,9 @@ use Rattle.ledger.specs.Formats.{Entry}
 use Rattle.ledger.specs.Histories.{frameAfter, entriesOf}
 use Rattle.ledger.specs.PlaneFrames.{planeFrames}
 use Rattle.ledger.specs.Layout.{totalLength}
+use Rattle.ledger.specs.VersionTwo.{timeIn}
+use Rattle.ledger.specs.Versions.{v2}
+use Rattle.records.specs.declared.answers.Stamp.the-variants as stamps
 use Rattle.records.specs.declared.answers.Entry as declared
 use Rattle.editor.specs.declared.answers.Done.{Done}
 use Rattle.editor.specs.declared.answers.Done.the-variants as answer
@@ -46,7 +49,7 @@ entriesFor f cs = entriesOf planeFrames f (map asked cs)
 
 -- the entry of a correction as `entry` tells it: what was asked, with the kind and the value of the item p that stood there before
 abbrev pub entryMade : Correction → Spot → declared.Entry
-entryMade c p = record { word = c .word; kind = p .kind; old = p .value; new = c .value; operator = c .operator; reason = c .reason }
+entryMade c p = record { word = c .word; kind = p .kind; old = p .value; new = c .value; operator = c .operator; reason = c .reason; stamp = stamps.Given (c .time) 0 }
 
 -- a moment among some calls from b to e: `buffer` as it stood when k of them had been accepted
 pub record Moment (b : List ℕ) (cs : List Correction) (rs : List Done) (e : List ℕ) (k : ℕ) : Type 0 where
@@ -65,7 +68,7 @@ pub record Moment (b : List ℕ) (cs : List Correction) (rs : List Done) (e : Li
 
 -- the correction that an entry tells of
 abbrev pub correctionFor : Entry → Correction
-correctionFor e = record { word = e .word; value = e .new; operator = e .operator; reason = e .reason }
+correctionFor e = record { word = e .word; value = e .new; operator = e .operator; reason = e .reason; time = timeIn (e .extra) }
 
 -- a correction that can be given: each number is one of its type
 pub record Given (c : Correction) : Type 0 where
@@ -73,6 +76,7 @@ pub record Given (c : Correction) : Type 0 where
   pub value : c .value < 4294967296
   pub operator : c .operator < 4294967296
   pub reason : c .reason < 4294967296
+  pub time : c .time < 18446744073709551616
 
 pub data AllGiven : List Correction → Type 0 where
   none : AllGiven []
@@ -90,5 +94,5 @@ pub record Sequence (b : List ℕ) : Type 0 where
   pub answers : List Done
   pub left : List ℕ
   pub calls : Calls opened corrections answers left
-  pub whole : totalLength left ≤ length b
-  pub same : take (totalLength left) b ≡ take (totalLength left) left
+  pub whole : totalLength v2 left ≤ length b
+  pub same : take (totalLength v2 left) b ≡ take (totalLength v2 left) left

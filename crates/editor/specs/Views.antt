@@ -10,6 +10,7 @@ use Rattle.book.specs.Views.{refusal}
 use Rattle.ledger.specs.Formats as formats
 use Rattle.ledger.specs.Records.{signed}
 use Rattle.ledger.specs.Calls.{Summary}
+use Rattle.ledger.specs.VersionTwo.{timeIn}
 use Rattle.ledger.specs.PlaneFrames.{planeFrames}
 use Rattle.editor.specs.declared.answers.Done.{Done}
 use Rattle.editor.specs.declared.answers.Done.the-variants as done
@@ -27,16 +28,16 @@ abbrev pub refusing : answers.Done → Bool
 refusing (accepted u) = false
 refusing (answers.refused n p) = true
 
--- what an edit asks; this format has nothing after the reason
+-- what an edit asks: after the reason a time, at desk 0
 abbrev pub asked : Correction → formats.Correction
-asked c = record { word = c .word; value = c .value; operator = c .operator; reason = c .reason; extra = [] }
+asked c = record { word = c .word; value = c .value; operator = c .operator; reason = c .reason; extra = c .time ∷ 0 ∷ [] }
 
 -- the tests of an edit of an accepted record at an item of the kind with the value, in a buffer of `room` bytes
 unfoldable pub itemTests : formats.Correction → Summary → ℕ → ℕ → ℕ → answers.Done
 itemTests c x kind value room =
     firstOf
     (need (planeFrames .legal kind (c .value) && not (eqb value (c .value))) 23 0
-    ∷ need (signed (c .operator) (c .reason)) 24 0
+    ∷ need (signed (c .operator) (c .reason) && leb (timeIn (c .extra)) 281474976710655) 24 0
     ∷ need (ltb (x .count) 512) 25 0
-    ∷ need (leb (x .total + 16) room) 12 0
+    ∷ need (leb (x .total + 24) room) 12 0
     ∷ [])

@@ -9,15 +9,15 @@ use Rattle.format.specs.Spots.{Header}
 use Rattle.ledger.specs.Formats as formats
 use Rattle.ledger.specs.Records.{lengthIn, countIn, totalIn, frameIn, recordVerdict}
 use Rattle.ledger.specs.Calls.{Summary, editAnswer}
-use Rattle.ledger.specs.VersionOne.{versionOne}
+use Rattle.ledger.specs.VersionTwo.{versionTwo}
 use Rattle.ledger.specs.PlaneFrames.{planeFrames}
 
--- what was judged of a record: it is accepted, and these are its lengths and its entry count
-pub record Known (b : List ℕ) (x : Summary) : Type 0 where
-  pub judged : recordVerdict planeFrames versionOne b ≡ accepted tt
+-- what was judged of a record in a format: it is accepted, and these are its lengths and its entry count
+pub record Known (F : formats.Format) (b : List ℕ) (x : Summary) : Type 0 where
+  pub judged : recordVerdict planeFrames F b ≡ accepted tt
   pub length : x .length ≡ lengthIn b
   pub count : x .count ≡ countIn b
-  pub total : x .total ≡ totalIn versionOne b
+  pub total : x .total ≡ totalIn F b
 
 -- at word w of the record's frame stands an item of that kind, which holds that value
 pub record Holds (b : List ℕ) (w kind value : ℕ) : Type 0 where
@@ -26,6 +26,6 @@ pub record Holds (b : List ℕ) (w kind value : ℕ) : Type 0 where
 
 -- an edit that was accepted, and the item that it changes
 pub record Editable (b : List ℕ) (x : Summary) (c : formats.Correction) (kind value : ℕ) : Type 0 where
-  pub known : Known b x
-  pub accepted : editAnswer planeFrames versionOne b c ≡ accepted tt
+  pub known : Known versionTwo b x
+  pub accepted : editAnswer planeFrames versionTwo b c ≡ accepted tt
   pub holds : Holds b (c .word) kind value

@@ -3,7 +3,7 @@ ghost use mathlib.Core.Path.{_≡_};
 ghost use Prim.Native.Nat.{_<_};
 ghost use Rattle.ledger.specs.Records.{frameIn};
 ghost use Rattle.ledger.specs.Calls.{editWritten};
-ghost use Rattle.ledger.specs.VersionOne.{versionOne};
+ghost use Rattle.ledger.specs.VersionTwo.{versionTwo};
 ghost use Rattle.ledger.specs.PlaneFrames.{planeFrames};
 ghost use Rattle.records.specs.Views.{viewSpot, summaryOf};
 ghost use Rattle.editor.specs.Views.{viewDone, asked, itemTests};
@@ -16,6 +16,7 @@ use crate::answers::test;
 use crate::stores::put_words;
 use book::items::Item;
 use book::refusal::Refusal;
+use book::words::word;
 use cursor::standing::Standing;
 use cursor::standing::item_at;
 use records::answers::Entry;
@@ -23,20 +24,22 @@ use records::answers::Judged;
 use records::answers::Record;
 use records::answers::Spot;
 use records::answers::SpotFound;
+use records::answers::Stamp;
 use records::entries::put_entry;
 use records::history::signed;
 use records::judge;
 use records::values::legal;
 use records::values::put_value;
 
-// What an edit asks: the item by the index of its first word, its new value, and who corrects it for what reason. The numbers are wide
-// enough that every one out of range can be given, and is refused.
+// What an edit asks: the item by the index of its first word, its new value, who corrects it for what reason, and when, by the caller's clock. The
+// numbers are wide enough that every one out of range can be given, and is refused.
 #[repr(C)]
 pub struct Correction {
     pub word: usize,
     pub value: u32,
     pub operator: u32,
     pub reason: u32,
+    pub time: u64,
 }
 
 // The tests of an edit of an accepted record at an item of the kind with the value: 23, 24, 25, 12. All are made and the first refusal is told:
@@ -47,7 +50,8 @@ fn edit_tests(c: Correction, x: Record, kind: u16, value: u32, room: usize) -> D
 {
     let fresh = legal(kind, c.value) & (value != c.value);
     let changed = test(fresh, Refusal::NEW_VALUE);
-    let signer = test(signed(c.operator, c.reason), Refusal::SIGNER);
+    let named = signed(c.operator, c.reason);
+    let signer = test(named & (c.time <= Entry::LAST_TIME), Refusal::SIGNER);
     let full = test(x.count < Record::MOST, Refusal::FULL);
     let end = test(x.total + Entry::SIZE <= room, Refusal::ROOM);
     first_of(changed, first_of(signer, first_of(full, end)))
@@ -56,7 +60,7 @@ fn edit_tests(c: Correction, x: Record, kind: u16, value: u32, room: usize) -> D
 // An edit that may be made: the value, the two header words that change, and one entry.
 fn write_edit(buf: &mut [u8], c: Correction, x: Record, kind: u16, value: u32)
     requires { ⌜ Editable (now buf) (summaryOf x) (asked c) kind value ⌝ }
-    ensures { λ _. ⌜ now (buf .exit) ≡ editWritten planeFrames versionOne (now (buf .entry)) (asked c) ⌝ }
+    ensures { λ _. ⌜ now (buf .exit) ≡ editWritten planeFrames versionTwo (now (buf .entry)) (asked c) ⌝ }
 {
     let start = Record::HEADER;
     let end = start + x.length;
@@ -64,6 +68,7 @@ fn write_edit(buf: &mut [u8], c: Correction, x: Record, kind: u16, value: u32)
     let count = (x.count + 1) as u16;
     let total = (x.total + Entry::SIZE) as u16;
     put_words(buf, 2 * Record::COUNT_WORD, &[count, total]);
+    let stamp = Stamp::Given(c.time, Entry::DESK);
     let entry = Entry {
         word: c.word as u16,
         kind,
@@ -71,13 +76,14 @@ fn write_edit(buf: &mut [u8], c: Correction, x: Record, kind: u16, value: u32)
         new: c.value,
         operator: c.operator as u16,
         reason: c.reason as u16,
+        stamp,
     };
     put_entry(buf, x.total, entry);
 }
 
 // An edit of an accepted record at an item of the kind with the value.
 fn edit_value(buf: &mut [u8], c: Correction, x: Record, kind: u16, value: u32) -> Done
-    requires { ⌜ Known (now buf) (summaryOf x) × Holds (now buf) (c .word) kind value ⌝ }
+    requires { ⌜ Known versionTwo (now buf) (summaryOf x) × Holds (now buf) (c .word) kind value ⌝ }
     ensures { λ r. ⌜ Edited (now (buf .entry)) (asked c) (viewDone r) (now (buf .exit)) ⌝ }
 {
     let answer = edit_tests(c, x, kind, value, buf.len());
@@ -91,7 +97,7 @@ fn edit_value(buf: &mut [u8], c: Correction, x: Record, kind: u16, value: u32) -
 // An edit of an accepted record, where judging has told what stands at the word asked for, so that an item begins there: the item answer is taken
 // apart, and anything but a Sample or Bin leaves at once with 22.
 fn edit_item(buf: &mut [u8], c: Correction, x: Record, spot: SpotFound) -> Done
-    requires { ⌜ Known (now buf) (summaryOf x) × (viewSpot spot ≡ planeFrames .spot (frameIn (now buf)) (c .word)) ⌝ }
+    requires { ⌜ Known versionTwo (now buf) (summaryOf x) × (viewSpot spot ≡ planeFrames .spot (frameIn (now buf)) (c .word)) ⌝ }
     ensures { λ r. ⌜ Edited (now (buf .entry)) (asked c) (viewDone r) (now (buf .exit)) ⌝ }
 {
     let SpotFound::Spot(_spot) = spot else {
@@ -111,13 +117,16 @@ fn edit_item(buf: &mut [u8], c: Correction, x: Record, spot: SpotFound) -> Done
     }
 }
 
-// Edits a record. Refuses as judging the record does, then by 22 where no Sample or Bin begins at the word, by 23 for a value that the item
-// may not hold or already has, by 24 for an operator or reason out of range, by 25 where 512 entries stand, and by 12 where the buffer has
-// no room for one entry more. Accepted, it has written the value, the two header words that change and one entry, and nothing else; refused,
+// Edits a record of version 2; one of version 1 is refused by 20 before its frame is judged. Refuses as judging the record does, then by 22 where no
+// Sample or Bin begins at the word, by 23 for a value that the item may not hold or already has, by 24 for an operator, reason or time out of
+// range, by 25 where 512 entries stand, and by 12 where the buffer has no room for one entry more. The time is kept as given, earlier ones are not asked. Accepted, it has written the value, the two header words that change and one entry, and nothing else; refused,
 // the buffer is as found.
 pub fn edit(buf: &mut [u8], c: Correction) -> Done
     ensures { λ r. ⌜ Edited (now (buf .entry)) (asked c) (viewDone r) (now (buf .exit)) ⌝ }
 {
+    if word(buf, Record::VERSION_WORD) != Record::VERSION {
+        return test(false, Refusal::HEADER);
+    }
     let judged = judge(buf, c.word);
     match judged {
         Judged::Refused(r) => Done::Refused(r),

@@ -5,7 +5,7 @@ ghost use Prim.Native.Nat.{_+_, _≤_};
 ghost use lib.ListN.{length};
 ghost use lib.Seq.{sets};
 ghost use Rattle.ledger.specs.Records.{header};
-ghost use Rattle.ledger.specs.VersionOne.{versionOne};
+ghost use Rattle.ledger.specs.VersionTwo.{versionTwo};
 ghost use Rattle.editor.specs.Views.{viewDone};
 ghost use Rattle.editor.specs.Promises.{Opened};
 use crate::answers::Done;
@@ -20,7 +20,7 @@ use records::answers::Record;
 // The header of a record that has no entries, of a frame of `n` bytes.
 fn put_header(buf: &mut [u8], n: usize)
     requires { ⌜ (16 ≤ length (now buf)) × (n ≤ 8192) ⌝ }
-    ensures { λ _. ⌜ now (buf .exit) ≡ sets (now (buf .entry)) 0 (header versionOne n 0) ⌝ }
+    ensures { λ _. ⌜ now (buf .exit) ≡ sets (now (buf .entry)) 0 (header versionTwo n 0) ⌝ }
 {
     let start = Record::HEADER as u16;
     let w = n as u16;
@@ -43,7 +43,7 @@ fn put_header(buf: &mut [u8], n: usize)
 // The record of an accepted frame: header and frame.
 fn write_open(buf: &mut [u8], frame: &[u8])
     requires { ⌜ (16 + length (now frame) ≤ length (now buf)) × (length (now frame) ≤ 8192) ⌝ }
-    ensures { λ _. ⌜ now (buf .exit) ≡ sets (now (buf .entry)) 0 (header versionOne (length (now (frame .entry))) 0 ++ now (frame .entry)) ⌝ }
+    ensures { λ _. ⌜ now (buf .exit) ≡ sets (now (buf .entry)) 0 (header versionTwo (length (now (frame .entry))) 0 ++ now (frame .entry)) ⌝ }
 {
     let start = Record::HEADER;
     let end = start + frame.len();

@@ -5,7 +5,7 @@ ghost use lib.ListN.{length};
 ghost use lib.Seq.{sets};
 ghost use Rattle.ledger.specs.Records.{frameIn};
 ghost use Rattle.ledger.specs.Calls.{restored};
-ghost use Rattle.ledger.specs.VersionOne.{versionOne};
+ghost use Rattle.ledger.specs.Versions.{formatIn};
 ghost use Rattle.ledger.specs.PlaneFrames.{planeFrames};
 ghost use Rattle.records.specs.Views.{summaryOf};
 ghost use Rattle.editor.specs.Views.{viewDone};
@@ -16,22 +16,25 @@ use crate::answers::first_of;
 use crate::answers::test;
 use book::refusal::Refusal;
 use book::words::copy;
-use records::answers::Entry;
+use book::words::word;
 use records::answers::Record;
 use records::answers::RecordFound;
+use records::entries::entry_size;
 use records::history::undo_from;
 use records::record;
 
-// Undoes the entries of an accepted record, from the newest down to number k + 1, in a copy of its frame. They were tested when it was judged.
+// Undoes the entries of an accepted record, of either version, from the newest down to number k + 1, in a copy of its frame. They were tested when
+// it was judged.
 fn rewind(frame: &mut [u8], buf: &[u8], x: Record, k: usize)
-    requires { ⌜ Known (now buf) (summaryOf x) × (k ≤ x .count) × (now frame ≡ frameIn (now buf)) ⌝ }
-    ensures { λ _. ⌜ now (frame .exit) ≡ restored planeFrames versionOne (now (buf .entry)) k ⌝ }
+    requires { ⌜ Known (formatIn (now buf)) (now buf) (summaryOf x) × (k ≤ x .count) × (now frame ≡ frameIn (now buf)) ⌝ }
+    ensures { λ _. ⌜ now (frame .exit) ≡ restored planeFrames (formatIn (now (buf .entry))) (now (buf .entry)) k ⌝ }
 {
-    let history = Record::HEADER + x.length;
+    let size = entry_size(word(buf, Record::VERSION_WORD));
+    let mut at = x.total;
     let mut n = x.count;
     while k < n {
         n -= 1;
-        let at = history + Entry::SIZE * n;
+        at -= size;
         undo_from(frame, &buf[at..]);
     }
 }
@@ -39,8 +42,8 @@ fn rewind(frame: &mut [u8], buf: &[u8], x: Record, k: usize)
 // The frame as it stood after the first k edits, to the start of the second buffer. The entries are undone there, in the caller's own memory and with
 // no scratch: nothing can refuse any more.
 fn write_restored(buf: &[u8], x: Record, k: usize, out: &mut [u8])
-    requires { ⌜ Known (now buf) (summaryOf x) × (k ≤ x .count) × (x .length ≤ length (now out)) ⌝ }
-    ensures { λ _. ⌜ now (out .exit) ≡ sets (now (out .entry)) 0 (restored planeFrames versionOne (now (buf .entry)) k) ⌝ }
+    requires { ⌜ Known (formatIn (now buf)) (now buf) (summaryOf x) × (k ≤ x .count) × (x .length ≤ length (now out)) ⌝ }
+    ensures { λ _. ⌜ now (out .exit) ≡ sets (now (out .entry)) 0 (restored planeFrames (formatIn (now (buf .entry))) (now (buf .entry)) k) ⌝ }
 {
     let start = Record::HEADER;
     let n = x.length;
@@ -51,7 +54,7 @@ fn write_restored(buf: &[u8], x: Record, k: usize, out: &mut [u8])
 
 // Restoring an accepted record: 26, 12.
 fn restore_known(buf: &[u8], x: Record, k: usize, out: &mut [u8]) -> Done
-    requires { ⌜ Known (now buf) (summaryOf x) ⌝ }
+    requires { ⌜ Known (formatIn (now buf)) (now buf) (summaryOf x) ⌝ }
     ensures { λ r. ⌜ Restored (now (buf .entry)) k (now (out .entry)) (viewDone r) (now (out .exit)) ⌝ }
 {
     let known = test(k <= x.count, Refusal::NO_ENTRY);

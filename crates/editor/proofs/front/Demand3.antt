@@ -5,7 +5,7 @@
 -- Assumes nothing.
 use Prim.Native.Nat.{ℕ, suc, _+_, _*_, _≤_, _<_}
 use mathlib.Core.Path.{_≡_}
-use mathlib.Core.Logic.{_↔_}
+use mathlib.Core.Logic.{_↔_, _⊎_}
 use mathlib.Core.List.{List, _∷_, _++_, map}
 use mathlib.Core.Option.{some}
 use lib.ListN.{length, getD, take, drop}
@@ -15,8 +15,10 @@ use Rattle.format.specs.Frames.{Frame, verdict}
 use Rattle.format.specs.Spots.{Spot, spot, put, revalued, withValue, SpotIs, withItems}
 use Rattle.ledger.specs.Records.{entriesIn}
 use Rattle.ledger.specs.Calls.{entryFor}
+use Rattle.ledger.specs.Histories as histories
 use Rattle.ledger.specs.Histories.{oldestFirst}
-use Rattle.ledger.specs.VersionOne.{versionOne}
+use Rattle.ledger.specs.VersionTwo.{versionTwo}
+use Rattle.ledger.specs.Versions.{v1, v2, formatOf, versionIn}
 use Rattle.ledger.specs.PlaneFrames.{planeFrames, Free}
 use Rattle.ledger.specs.Layout.{totalLength, frameOf, headerFor, entryWritten, historyWritten}
 use Rattle.ledger.specs.Reasons.{RecordRefused, OpenRefused, EditRefused, RestoreRefused, EntryRefused}
@@ -39,7 +41,7 @@ use Rattle.editor.proofs.DemandLaws as law
 
 -- > "Put an accepted frame into a record with no history,"
 -- every byte: header, the frame, and the buffer's own beyond
-pub put-into-a-record : (f buf b : List ℕ) → Opened f buf (viewDone answer.Accepted) b → b ≡ headerFor (length f) 0 ++ (f ++ drop (16 + length f) buf)
+pub put-into-a-record : (f buf b : List ℕ) → Opened f buf (viewDone answer.Accepted) b → b ≡ headerFor v2 (length f) 0 ++ (f ++ drop (16 + length f) buf)
 put-into-a-record = law.put-into-a-record
 
 -- > "An accepted frame is refused a record only where the buffer is too short,"
@@ -56,15 +58,20 @@ pub opening-leaves : (f buf : List ℕ) (n p : ℕ) (b : List ℕ) → Opened f 
 opening-leaves = effects.open-untouched
 
 -- > "and an edit only for a listed reason;"
--- of a record that `record` accepts: exactly where none of document 01's reasons forbids it (ledger's specs/House.antt, `Free`)
-pub edited-exactly : (b : List ℕ) → Bytes b → (x : Record) → Recorded b (records.Record x) → (c : Correction) (r : Done) (e : List ℕ)
-    → Edited b (asked c) (viewDone r) e → (r ≡ answer.Accepted) ↔ Free b (asked c)
+-- of a record of version 2 that `record` accepts: exactly where none of the documents' reasons forbids it (ledger's specs/PlaneFrames.antt, `Free`)
+pub edited-exactly : (b : List ℕ) → Bytes b → wordAt b 0 ≡ 2 → (x : Record) → Recorded b (records.Record x) → (c : Correction) (r : Done) (e : List ℕ)
+    → Edited b (asked c) (viewDone r) e → (r ≡ answer.Accepted) ↔ Free v2 b (asked c)
 edited-exactly = law.edited-exactly
 
 -- of any buffer: refused by n at p exactly where n is due, the first in the order record refusals, 22, 23, 24, 25, 12
 pub edit-refused : (b : List ℕ) → Bytes b → (c : Correction) (r : Done) (e : List ℕ) → Edited b (asked c) (viewDone r) e
-    → (n p : ℕ) → (r ≡ answer.Refused (record { number = n; place = p })) ↔ EditRefused b (asked c) n p
+    → (n p : ℕ) → (r ≡ answer.Refused (record { number = n; place = p })) ↔ EditRefused v2 b (asked c) n p
 edit-refused = law.edit-refused
+
+-- "editing a version 1 record is 20, before its frame is judged": so is any record that does not name version 2, and nothing of it changes
+pub old-not-edited : (b : List ℕ) → (wordAt b 0 ≡ 2 → ⊥) → (c : Correction) (r : Done) (e : List ℕ) → Edited b (asked c) (viewDone r) e
+    → (r ≡ answer.Refused (record { number = 20; place = 0 })) × (e ≡ b)
+old-not-edited = law.old-not-edited
 
 -- "some refused": such a call leaves every byte
 pub edit-leaves : (b : List ℕ) (c : Correction) (n p : ℕ) (e : List ℕ) → Edited b (asked c) (viewDone (answer.Refused (record { number = n; place = p }))) e → e ≡ b
@@ -90,9 +97,9 @@ module _ (b : List ℕ) (y : Bytes b) (c : Correction) (e : List ℕ) (o : Edite
 
   -- every byte: header, the frame with the value put, the entries that stood, the new one, and the buffer's own beyond
   pub edited-bytes : e
-      ≡ headerFor (wordAt b 3) (suc (wordAt b 5))
+      ≡ headerFor v2 (wordAt b 3) (suc (wordAt b 5))
       ++ (put (frameOf b) (c .word) (c .value)
-      ++ (take (16 * wordAt b 5) (drop (16 + wordAt b 3) b) ++ (entryWritten (entryFor planeFrames (frameOf b) (asked c)) ++ drop (totalLength b + 16) b)))
+      ++ (take (24 * wordAt b 5) (drop (16 + wordAt b 3) b) ++ (entryWritten v2 (entryFor planeFrames (frameOf b) (asked c)) ++ drop (totalLength v2 b + 24) b)))
   edited-bytes = law.edited-bytes b y c e o
 
 -- > "Put an accepted frame into a record with no history, then make any sequence of edit calls on it, some refused, with nothing else writing to it."
@@ -100,13 +107,13 @@ module _ (b : List ℕ) (y : Bytes b) (c : Correction) (e : List ℕ) (o : Edite
 module _ (f buf : List ℕ) (y : Bytes f) (b : List ℕ) (o : Opened f buf (viewDone answer.Accepted) b) (cs : List Correction) (rs : List Done) (e : List ℕ) (k : Calls b cs rs e) where
   -- `record` accepts what they leave, and tells its lengths and the count of the accepted edits
   pub record-told : (r : RecordFound) → Recorded e r
-      → r ≡ records.Record (record { length = length f; count = length (madeBy cs rs); total = 16 + length f + 16 * length (madeBy cs rs) })
+      → r ≡ records.Record (record { length = length f; count = length (madeBy cs rs); total = 16 + length f + 24 * length (madeBy cs rs) })
   record-told = law.record-told f buf y b o cs rs e k
 
   -- every byte of the buffer: header, the frame with the accepted corrections made, their entries in order, and the caller's own beyond
   pub whole-record : e
-      ≡ headerFor (length f) (length (madeBy cs rs))
-      ++ (corrected f (madeBy cs rs) ++ (historyWritten (entriesFor f (madeBy cs rs)) ++ drop (16 + length f + 16 * length (madeBy cs rs)) buf))
+      ≡ headerFor v2 (length f) (length (madeBy cs rs))
+      ++ (corrected f (madeBy cs rs) ++ (historyWritten v2 (entriesFor f (madeBy cs rs)) ++ drop (16 + length f + 24 * length (madeBy cs rs)) buf))
   whole-record = law.whole-record f buf y b o cs rs e k
 
   -- > "For every number k from 0 to the count of accepted edits, restoring to k, into a buffer with room, gives the exact frame that stood after
@@ -141,7 +148,7 @@ module _ (f buf : List ℕ) (y : Bytes f) (b : List ℕ) (o : Opened f buf (view
   -- > "The history holds those edits in order and nothing more."
   -- the entries, oldest first, are those of the accepted corrections; `record` tells their count (above), `entry` the j-th, from 1, as it was asked,
   -- with the kind and the value that stood there before it; and there is no other
-  pub history-in-order : oldestFirst (entriesIn versionOne e) ≡ entriesFor f (madeBy cs rs)
+  pub history-in-order : oldestFirst (entriesIn versionTwo e) ≡ entriesFor f (madeBy cs rs)
   history-in-order = law.history-in-order f buf y b o cs rs e k
 
   pub entry-asked : (j : ℕ) → j < length (madeBy cs rs) → (d : Correction) (r : EntryFound) → EntryTold e (suc j) r
@@ -153,9 +160,11 @@ module _ (f buf : List ℕ) (y : Bytes f) (b : List ℕ) (o : Opened f buf (view
   pub no-other-entry : (j : ℕ) → length (madeBy cs rs) < j → (r : EntryFound) → EntryTold e j r → r ≡ entries.Refused (record { number = 26; place = 0 })
   no-other-entry = law.no-other-entry f buf y b o cs rs e k
 
--- every refusal of a restore, of any buffer: record refusals, 26, 12; and it leaves the second buffer as found
+-- ---- any buffer: it is judged, restored and told by the version that it names, `versionIn b`
+
+-- every refusal of a restore: record refusals, 26, 12; and it leaves the second buffer as found
 pub restore-refused : (b : List ℕ) → Bytes b → (n : ℕ) (out : List ℕ) (r : Done) (left : List ℕ) → Restored b n out (viewDone r) left
-    → (m p : ℕ) → (r ≡ answer.Refused (record { number = m; place = p })) ↔ RestoreRefused b n out m p
+    → (m p : ℕ) → (r ≡ answer.Refused (record { number = m; place = p })) ↔ RestoreRefused (versionIn b) b n out m p
 restore-refused = law.restore-refused
 
 pub restore-leaves : (b : List ℕ) (n : ℕ) (out : List ℕ) (m p : ℕ) (left : List ℕ)
@@ -163,32 +172,34 @@ pub restore-leaves : (b : List ℕ) (n : ℕ) (out : List ℕ) (m p : ℕ) (left
 restore-leaves = effects.restore-untouched
 
 -- > "And a record is accepted exactly when some such sequence makes its bytes."
-pub accepted-exactly : (b : List ℕ) → Bytes b → (r : RecordFound) → Recorded b r → ((x : Record) × (r ≡ records.Record x)) ↔ Sequence b
+-- of version 2 a sequence of these calls; of version 1 one of the old editor's opening and edits (ledger's PlaneDemand3 at `v1` says all of it)
+pub accepted-exactly : (b : List ℕ) → Bytes b → (r : RecordFound) → Recorded b r
+    → ((x : Record) × (r ≡ records.Record x)) ↔ (Sequence b ⊎ histories.Sequence planeFrames (formatOf v1) b)
 accepted-exactly = law.accepted-exactly
 
--- more than that: opened in that very buffer, it leaves every byte of it
-pub made-again : (b : List ℕ) → Bytes b → (x : Record) → Recorded b (records.Record x) → (S : Sequence b) × (S .buffer ≡ b) × (S .left ≡ b)
-made-again = law.made-again
+module _ (b : List ℕ) (y : Bytes b) (w : wordAt b 0 ≡ 2) (x : Record) (t : Recorded b (records.Record x)) where
+  -- more than that, of version 2: opened in that very buffer, it leaves every byte of it
+  pub made-again : (S : Sequence b) × (S .buffer ≡ b) × (S .left ≡ b)
+  made-again = law.made-again b y w x t
 
--- so calls on any accepted record follow such a sequence, and every sentence above holds of them too
-pub continued : (b : List ℕ) → Bytes b → (x : Record) → Recorded b (records.Record x) → (cs : List Correction) (rs : List Done) (e : List ℕ) → Calls b cs rs e → AllGiven cs
-    → Sequence e
-continued = law.continued
+  -- so calls on any accepted record of version 2 follow such a sequence, and every sentence above holds of them too
+  pub continued : (cs : List Correction) (rs : List Done) (e : List ℕ) → Calls b cs rs e → AllGiven cs → Sequence e
+  continued = law.continued b y w x t
 
 -- and no other frame and no other accepted corrections make it: these are the ones that its entries tell of
 pub the-only-ones : (b : List ℕ) (S T : Sequence b)
     → (S .frame ≡ T .frame) × (madeBy (S .corrections) (S .answers) ≡ madeBy (T .corrections) (T .answers))
 the-only-ones = law.the-only-ones
 
-pub told-by-entries : (b : List ℕ) (S : Sequence b) → madeBy (S .corrections) (S .answers) ≡ map correctionFor (oldestFirst (entriesIn versionOne b))
+pub told-by-entries : (b : List ℕ) (S : Sequence b) → madeBy (S .corrections) (S .answers) ≡ map correctionFor (oldestFirst (entriesIn versionTwo b))
 told-by-entries = sequences.only-corrections
 
 -- else `record` refuses by n at p exactly where n is due: 20, the frame's refusals, then 21 at the newest entry that does not fit; and `entry` as
 -- `record`, then by 26
 pub record-refused : (b : List ℕ) → Bytes b → (r : RecordFound) → Recorded b r
-    → (n p : ℕ) → (r ≡ records.Refused (record { number = n; place = p })) ↔ RecordRefused b n p
+    → (n p : ℕ) → (r ≡ records.Refused (record { number = n; place = p })) ↔ RecordRefused (versionIn b) b n p
 record-refused = law.record-refused
 
 pub entry-refused : (b : List ℕ) → Bytes b → (j : ℕ) (r : EntryFound) → EntryTold b j r
-    → (n p : ℕ) → (r ≡ entries.Refused (record { number = n; place = p })) ↔ EntryRefused b j n p
+    → (n p : ℕ) → (r ≡ entries.Refused (record { number = n; place = p })) ↔ EntryRefused (versionIn b) b j n p
 entry-refused = law.entry-refused

@@ -17,8 +17,8 @@ use Rattle.ledger.specs.PlaneFrames.{planeFrames}
 use Rattle.records.specs.declared.answers.SpotFound.the-variants as found
 use Rattle.records.specs.Views.{viewHeader, viewSpot}
 use Rattle.records.proofs.Scanning.{other-spot}
-use Rattle.editor.proofs.KnownLaws.{sum, inside}
-use Rattle.editor.proofs.EditLaws.{not-standing, other-item, item-holds, no-target, edited-refused}
+use Rattle.editor.proofs.KnownLaws.{inside}
+use Rattle.editor.proofs.EditLaws.{sum-two, not-standing, other-item, item-holds, no-target, edited-refused}
 use borrow.Author.Needs.{needs}
 use Rattle.editor.proofs.editing.edit_item.Statement.{statement}
 use Rattle.editor.proofs.editing.edit_item.Tie as tie
@@ -63,7 +63,7 @@ part-item-at-start c = search needs
 part-item-at-end : tie.Need-part-item-at-end
 part-item-at-end c =
     let k = c .before .before .before .before .before .before .pre .0 in
-    omega (arith, inside _ _ k, sum _ _ k)
+    omega (arith, inside _ _ _ k, sum-two _ _ k)
 
 item-at-requires : tie.Need-item-at-requires
 item-at-requires c κs = search needs

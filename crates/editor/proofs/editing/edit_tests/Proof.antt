@@ -41,10 +41,11 @@ returns c =
     let t4 = f1 .before in
     let t3 = t4 .before .before in
     let t2 = t3 .before .before in
-    let t1 = t2 .before .before in
+    let g = t2 .before .before in
+    let t1 = g .before in
     let l = t1 .before .before in
     let a = l .before .args in
-    tests-answer (a .c) _ _ _ (a .room) _ _ _ _ _ _ _ _ _ (l .legal .ensures) (t1 .test .ensures) (t2 .before .signed .ensures) (t2 .test2 .ensures) (t3 .test3 .ensures) (t4 .test4 .ensures) (f1 .first-of .ensures) (c .before .first-of2 .ensures) (c .first-of3 .ensures)
+    tests-answer (a .c) _ _ _ (a .room) _ _ _ _ _ _ _ _ _ (l .legal .ensures) (t1 .test .ensures) (g .signed .ensures) (t2 .test2 .ensures) (t3 .test3 .ensures) (t4 .test4 .ensures) (f1 .first-of .ensures) (c .before .first-of2 .ensures) (c .first-of3 .ensures)
 
 pub edit-tests-spec : {M : Type 1} → statement M
 edit-tests-spec =

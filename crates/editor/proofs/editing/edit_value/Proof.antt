@@ -2,8 +2,8 @@
 -- Assumes nothing.
 use native.Mathlib.Omega.{arith}
 use mathlib.Core.Path.{sym, _∙_}
-use Rattle.editor.proofs.KnownLaws.{sum, few, short}
-use Rattle.editor.proofs.EditLaws.{tests-left, not-refusing, edited-refusing, edited-making}
+use Rattle.editor.proofs.KnownLaws.{short}
+use Rattle.editor.proofs.EditLaws.{sum-two, few-two, tests-left, not-refusing, edited-refusing, edited-making}
 use borrow.Author.Needs.{needs}
 use Rattle.editor.proofs.editing.edit_value.Statement.{statement}
 use Rattle.editor.proofs.editing.edit_value.Tie as tie
@@ -11,7 +11,7 @@ use Rattle.editor.proofs.editing.edit_value.Tie as tie
 edit-tests-requires : tie.Need-edit-tests-requires
 edit-tests-requires c κs =
     let k = c .before .pre .0 in
-    omega (arith, sum _ _ k, few _ _ k, short _ _ k (λ i. (c .slice-known .given i) .fits))
+    omega (arith, sum-two _ _ k, few-two _ _ k, short _ _ _ k (λ i. (c .slice-known .given i) .fits))
 
 refuses-requires : tie.Need-refuses-requires
 refuses-requires c κs = search needs

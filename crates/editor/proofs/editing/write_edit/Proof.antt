@@ -1,8 +1,8 @@
 -- `editor::editing::write_edit` meets its contract.
 -- Assumes nothing.
 use native.Mathlib.Omega.{arith}
-use Rattle.editor.proofs.KnownLaws.{sum, inside, few, short}
-use Rattle.editor.proofs.EditLaws.{value-length, word-fits, signer-fits, one-more, entry-room, written}
+use Rattle.editor.proofs.KnownLaws.{inside, short}
+use Rattle.editor.proofs.EditLaws.{sum-two, few-two, value-length, word-fits, signer-fits, one-more, entry-room, written}
 use borrow.Author.Needs.{needs}
 use Rattle.editor.proofs.editing.write_edit.Statement.{statement}
 use Rattle.editor.proofs.editing.write_edit.Tie as tie
@@ -19,7 +19,7 @@ part-put-value-start c = search needs
 part-put-value-end : tie.Need-part-put-value-end
 part-put-value-end c =
     let k = c .before .before .pre .known in
-    omega (arith, inside _ _ k, sum _ _ k)
+    omega (arith, inside _ _ _ k, sum-two _ _ k)
 
 put-value-requires : tie.Need-put-value-requires
 put-value-requires c κs = search needs
@@ -39,7 +39,7 @@ cast-total : tie.Need-cast-total
 cast-total c =
     let s = c .before .before .before .before .before .before .before in
     let k = s .before .pre .known in
-    omega (arith, sum _ _ k, few _ _ k, short _ _ k (λ i. (s .slice-known .given i) .fits))
+    omega (arith, sum-two _ _ k, few-two _ _ k, short _ _ _ k (λ i. (s .slice-known .given i) .fits))
 
 mul-put-words : tie.Need-mul-put-words
 mul-put-words c = search needs
@@ -51,20 +51,20 @@ put-words-requires : tie.Need-put-words-requires
 put-words-requires c κs =
     let p = c .before .before .before .before .before .before in
     let s = p .before .before .before in
-    omega (arith, value-length _ _ _ _ _ (s .before .pre) _ _ _ _ (p .put-value .ensures), entry-room _ _ _ _ _ (s .before .pre), sum _ _ (s .before .pre .known))
-
-cast-t21 : tie.Need-cast-t21
-cast-t21 c =
-    let s = c .before .before .before .before .before .before .before .before .before .before .before .before .before in
-    omega (arith, word-fits _ _ _ _ _ (s .before .pre) (λ i. (s .slice-known .given i) .fits))
+    omega (arith, value-length _ _ _ _ _ (s .before .pre) _ _ _ _ (p .put-value .ensures), entry-room _ _ _ _ _ (s .before .pre), sum-two _ _ (s .before .pre .known))
 
 cast-t22 : tie.Need-cast-t22
 cast-t22 c =
-    let s = c .before .before .before .before .before .before .before .before .before .before .before .before .before .before in
-    omega (arith, signer-fits _ _ _ _ _ (s .before .pre) .0)
+    let s = c .before .before .before .before .before .before .before .before .before .before .before .before .before in
+    omega (arith, word-fits _ _ _ _ _ (s .before .pre) (λ i. (s .slice-known .given i) .fits))
 
 cast-t23 : tie.Need-cast-t23
 cast-t23 c =
+    let s = c .before .before .before .before .before .before .before .before .before .before .before .before .before .before in
+    omega (arith, signer-fits _ _ _ _ _ (s .before .pre) .0)
+
+cast-t24 : tie.Need-cast-t24
+cast-t24 c =
     let s = c .before .before .before .before .before .before .before .before .before .before .before .before .before .before .before in
     omega (arith, signer-fits _ _ _ _ _ (s .before .pre) .1)
 
@@ -98,9 +98,9 @@ write-edit-spec =
     mul-put-words
     slice-aggregate-put-words
     put-words-requires
-    cast-t21
     cast-t22
     cast-t23
+    cast-t24
     put-entry-requires
     same-length
     returns)

@@ -20,10 +20,10 @@ enum-known-found-2 c = search needs
 restore-known-requires : tie.Need-restore-known-requires
 restore-known-requires c κs =
     let j = c .before .before in
-    record-known _ _ (sym (ap viewRecord (j .found2 .given .1)) ∙ j .before .before .«record» .ensures)
+    record-known _ _ _ (sym (ap viewRecord (j .found2 .given .1)) ∙ j .before .before .«record» .ensures)
 
 returns : tie.Need-returns
-returns c = restored-unknown _ _ _ _ _ (record-refused _ _ _ (sym (ap viewRecord (c .before .found .given .1)) ∙ c .before .before .before .«record» .ensures))
+returns c = restored-unknown _ _ _ _ _ (record-refused _ _ _ _ (sym (ap viewRecord (c .before .found .given .1)) ∙ c .before .before .before .«record» .ensures))
 
 same-length : tie.Need-same-length
 same-length c = search needs

@@ -1,45 +1,57 @@
 -- `editor::restoring::rewind` meets its contract.
 -- Assumes nothing.
+use denote.Ref.{now}
 use native.Mathlib.Omega.{arith}
 use borrow.Author.Needs.{needs}
 use Prim.Native.Nat.{_+_, _*_, _-_, _≤_}
-use mathlib.Core.Path.{_≡_, refl, _∙_}
+use mathlib.Core.Path.{_≡_, refl, ap, _∙_}
 use lib.ListN.{length}
+use Rattle.ledger.specs.Formats.{size}
 use Rattle.ledger.specs.Records.{lengthIn}
+use Rattle.ledger.specs.Versions.{formatFor, formatIn}
+use Rattle.records.proofs.UndoLaws.{Lower, lower}
 use Rattle.editor.proofs.RestoreLaws.{Rewinding, rewind-start, rewind-step, rewind-end}
-use Rattle.editor.proofs.KnownLaws.{sum, inside}
+use Rattle.editor.proofs.KnownLaws.{whole, inside}
 use Rattle.editor.proofs.restoring.rewind.Statement.{statement}
 use Rattle.editor.proofs.restoring.rewind.Tie as tie
 
 abbrev Inv-loop : tie.InvT-loop
-Inv-loop frame₀ buf k history n₀ frame n = (k ≤ n) × (history + 16 * n ≤ length buf) × (history ≡ 16 + lengthIn buf) × (length frame ≡ length frame₀) × Rewinding buf k n frame
+Inv-loop frame₀ buf k s at₀ n₀ frame at n =
+    (k ≤ n) × (at ≡ 16 + lengthIn buf + size (formatIn buf) * n) × (at ≤ length buf) × (s ≡ size (formatIn buf)) × (length frame ≡ length frame₀)
+    × Rewinding (formatIn buf) buf k n frame
 
 abbrev μ-loop : tie.MeasureT-loop
-μ-loop frame₀ buf k history n₀ frame n = n
+μ-loop frame₀ buf k s at₀ n₀ frame at n = n
 
-add-history : tie.Need-add-history Inv-loop μ-loop
-add-history c = omega (arith, inside _ _ (c .before .before .before .pre .0), sum _ _ (c .before .before .before .pre .0))
+word-requires : tie.Need-word-requires Inv-loop μ-loop
+word-requires c κs = search needs
+
+entry-size-requires : tie.Need-entry-size-requires Inv-loop μ-loop
+entry-size-requires c κs = search needs
 
 loop-holds : tie.Need-loop-holds Inv-loop μ-loop
 loop-holds c =
-    let s = c .before in
+    let w = c .before in
+    let s = w .before in
     let p = s .before .before .pre in
-    (p .1, omega (arith, inside _ _ (p .0), sum _ _ (p .0)), omega (arith, p .0 .length), refl, rewind-start _ _ _ _ (p .0) (λ i. (s .shared-slice-known .given i) .fits) (p .2))
+    (p .1, whole _ _ _ (p .0), inside _ _ _ (p .0), c .entry-size .ensures ∙ ap (λ v. size (formatFor v)) (w .word .ensures), refl, rewind-start _ _ _ _ _ (p .0) (λ i. (s .shared-slice-known .given i) .fits) (p .2))
+
+-- where the turn's entry begins
+low : (c : tie.In-loop Inv-loop μ-loop)
+    → Lower (formatIn (now (c .before .before .before .before .before .before .args .buf))) (now (c .before .before .before .before .before .before .args .buf)) (c .before .loop .n) (c .before .before .entry-size .result) (c .before .loop .at)
+low c = let i = c .before .loop .inv in lower _ _ _ _ _ (omega arith) (i .1) (i .2) (i .3)
 
 sub-n : tie.Need-sub-n Inv-loop μ-loop
 sub-n c = omega arith
 
-mul-at : tie.Need-mul-at Inv-loop μ-loop
-mul-at c = omega arith
-
-add-at : tie.Need-add-at Inv-loop μ-loop
-add-at c = omega arith
+sub-at : tie.Need-sub-at Inv-loop μ-loop
+sub-at c = low c .least
 
 sub-undo-from : tie.Need-sub-undo-from Inv-loop μ-loop
-sub-undo-from c = omega arith
+sub-undo-from c = let l = c .before .before .loop .inv .2 in omega arith
 
 part-undo-from-start : tie.Need-part-undo-from-start Inv-loop μ-loop
-part-undo-from-start c = omega arith
+part-undo-from-start c = let l = c .before .before .loop .inv .2 in omega arith
 
 part-undo-from-end : tie.Need-part-undo-from-end Inv-loop μ-loop
 part-undo-from-end c = search needs
@@ -53,15 +65,17 @@ loop-less c = omega arith
 loop-again : tie.Need-loop-again Inv-loop μ-loop
 loop-again c =
     let u = c .before .before in
-    let l = u .before .before .before .before .loop in
+    let r = u .before .before .before in
+    let l = r .before .loop in
     let i = l .inv in
-    (omega arith, omega arith, i .2, u .undo-from .kept .0 ∙ i .3, rewind-step _ _ _ (l .n - 1) _ (i .4) (omega arith) _ (omega arith) _ (u .undo-from .ensures) (omega arith))
+    let w = low r in
+    (omega arith, w .begins, omega (arith, i .2), i .3, u .undo-from .kept .0 ∙ i .4, rewind-step _ _ _ _ (l .n - 1) _ (i .5) (omega arith) _ (w .begins) _ (u .undo-from .ensures) (omega arith))
 
 same-length : tie.Need-same-length Inv-loop μ-loop
-same-length c = omega arith
+same-length c = c .before .loop .inv .4
 
 returns : tie.Need-returns Inv-loop μ-loop
-returns c = rewind-end _ _ _ _ (c .before .loop .inv .4) (omega arith)
+returns c = rewind-end _ _ _ _ _ (c .before .loop .inv .5) (omega arith)
 
 pub rewind-spec : {M : Type 1} → statement M
 rewind-spec =
@@ -69,11 +83,11 @@ rewind-spec =
     (tie.spec
     Inv-loop
     μ-loop
-    add-history
+    word-requires
+    entry-size-requires
     loop-holds
     sub-n
-    mul-at
-    add-at
+    sub-at
     sub-undo-from
     part-undo-from-start
     part-undo-from-end

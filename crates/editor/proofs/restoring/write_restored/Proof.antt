@@ -21,7 +21,7 @@ part-copy-start c = search needs
 part-copy-end : tie.Need-part-copy-end
 part-copy-end c =
     let k = c .before .before .pre .0 in
-    omega (arith, inside _ _ k, sum _ _ k)
+    omega (arith, inside _ _ _ k, sum _ _ _ k)
 
 copy-requires : tie.Need-copy-requires
 copy-requires c κs = search needs
