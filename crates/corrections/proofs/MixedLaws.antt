@@ -7,7 +7,8 @@ use lib.ListN.{length, take, drop}
 use Rattle.format.specs.Words.{Bytes}
 use Rattle.ledger.specs.Records.{entriesIn}
 use Rattle.ledger.specs.Histories.{oldestFirst}
-use Rattle.ledger.specs.VersionOne.{versionOne}
+use Rattle.ledger.specs.VersionTwo.{versionTwo}
+use Rattle.ledger.specs.Versions.{v2}
 use Rattle.ledger.specs.Layout.{headerFor, historyWritten}
 use Rattle.records.specs.declared.answers.RecordFound.{RecordFound}
 use Rattle.records.specs.declared.answers.RecordFound.the-variants as records
@@ -50,16 +51,16 @@ made-in (edit-all {b = b} {m = m} {cs = cs} {r = r} {ks = ks} o k) =
 -- ---- demand 3 of such sequences, from editor's own page
 module _ (f buf : List ℕ) (y : Bytes f) (b : List ℕ) (o : Opened f buf (viewDone answer.Accepted) b) (ks : List Call) (e : List ℕ) (k : Mixed b ks e) where
   pub record-told : (r : RecordFound) → Recorded e r
-      → r ≡ records.Record (record { length = length f; count = length (madeIn ks); total = 16 + length f + 16 * length (madeIn ks) })
+      → r ≡ records.Record (record { length = length f; count = length (madeIn ks); total = 16 + length f + 24 * length (madeIn ks) })
   record-told r t =
-      subst (λ (l : List Correction). r ≡ records.Record (record { length = length f; count = length l; total = 16 + length f + 16 * length l }))
+      subst (λ (l : List Correction). r ≡ records.Record (record { length = length f; count = length l; total = 16 + length f + 24 * length l }))
       (made-in k)
       (demand3.record-told f buf y b o (askedBy ks) (answersTo ks) e (made-singly k) r t)
 
   pub whole-record : e
-      ≡ headerFor (length f) (length (madeIn ks)) ++ (corrected f (madeIn ks) ++ (historyWritten (entriesFor f (madeIn ks)) ++ drop (16 + length f + 16 * length (madeIn ks)) buf))
+      ≡ headerFor v2 (length f) (length (madeIn ks)) ++ (corrected f (madeIn ks) ++ (historyWritten v2 (entriesFor f (madeIn ks)) ++ drop (16 + length f + 24 * length (madeIn ks)) buf))
   whole-record =
-      subst (λ (l : List Correction). e ≡ headerFor (length f) (length l) ++ (corrected f l ++ (historyWritten (entriesFor f l) ++ drop (16 + length f + 16 * length l) buf)))
+      subst (λ (l : List Correction). e ≡ headerFor v2 (length f) (length l) ++ (corrected f l ++ (historyWritten v2 (entriesFor f l) ++ drop (16 + length f + 24 * length l) buf)))
       (made-in k)
       (demand3.whole-record f buf y b o (askedBy ks) (answersTo ks) e (made-singly k))
 
@@ -70,5 +71,5 @@ module _ (f buf : List ℕ) (y : Bytes f) (b : List ℕ) (o : Opened f buf (view
       (made-in k)
       (demand3.restores-to f buf y b o (askedBy ks) (answersTo ks) e (made-singly k) n out r left t)
 
-  pub history-in-order : oldestFirst (entriesIn versionOne e) ≡ entriesFor f (madeIn ks)
+  pub history-in-order : oldestFirst (entriesIn versionTwo e) ≡ entriesFor f (madeIn ks)
   history-in-order = demand3.history-in-order f buf y b o (askedBy ks) (answersTo ks) e (made-singly k) ∙ ap (entriesFor f) (made-in k)

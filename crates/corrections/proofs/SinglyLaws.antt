@@ -14,13 +14,14 @@ use Rattle.book.specs.declared.refusal.Refusal.{Refusal}
 use Rattle.ledger.specs.Tests.{Plain}
 use Rattle.ledger.specs.Records.{recordVerdict}
 use Rattle.ledger.specs.Calls.{editAnswer, editExit}
-use Rattle.ledger.specs.VersionOne.{versionOne}
+use Rattle.ledger.specs.VersionTwo.{versionTwo}
+use Rattle.ledger.specs.Versions.{v2}
 use Rattle.ledger.specs.PlaneFrames.{planeFrames}
 use Rattle.ledger.proofs.calls.Writes.{edit-found}
 use Rattle.ledger.proofs.calls.Editing.{edit-judged}
 use Rattle.ledger.proofs.calls.Changing.{edit-accepted, edit-bytes}
 use Rattle.ledger.proofs.answers.Refusals.{edit-refusals}
-use Rattle.ledger.proofs.plane.PlaneFrames.{plane-frames-version-one}
+use Rattle.ledger.proofs.plane.PlaneFrames.{plane-lawful}
 use Rattle.editor.specs.declared.answers.Done.{Done}
 use Rattle.editor.specs.declared.answers.Done.the-variants as answer
 use Rattle.editor.specs.declared.editing.Correction.{Correction}
@@ -39,10 +40,10 @@ use Rattle.corrections.proofs.Unique.{same-corrected}
 use Rattle.corrections.proofs.Turns.{answer-none, exit-none, answer-made, exit-made, answer-refused, exit-refused}
 
 abbrev answerOf : ℕ → List ℕ → List Correction → ListAnswer
-answerOf i b cs = answerFrom planeFrames versionOne i b (map asked cs)
+answerOf i b cs = answerFrom planeFrames versionTwo i b (map asked cs)
 
 abbrev exitOf : List ℕ → List Correction → List ℕ
-exitOf b cs = listExit planeFrames versionOne b (map asked cs)
+exitOf b cs = listExit planeFrames versionTwo b (map asked cs)
 
 -- ---- corrections that are accepted one by one, before others
 passed : {b e : List ℕ} {cs : List Correction} {rs : List Done} → Calls b cs rs e → rs ≡ accepts (length cs) → (i : ℕ) (ds : List Correction)
@@ -51,14 +52,14 @@ passed {b = b} done h i ds = let z : i ≡ i + 0 = omega arith in (ap (λ (j : �
 passed {b = b} {e = e} (then {m = m} {c = c} {r = r} {cs = cs} {rs = rs} o k) h i ds =
     let first : r ≡ answer.Accepted = cc in
     let rest : rs ≡ accepts (length cs) = cc in
-    let made : editAnswer planeFrames versionOne b (asked c) ≡ accepted tt = sym (o .answered) ∙ ap viewDone first in
+    let made : editAnswer planeFrames versionTwo b (asked c) ≡ accepted tt = sym (o .answered) ∙ ap viewDone first in
     let w = passed k rest (i + 1) ds in
     let z : (i + 1) + length cs ≡ i + suc (length cs) = omega arith in (
-      answer-made planeFrames versionOne i b (asked c) (map asked (cs ++ ds)) made
+      answer-made planeFrames versionTwo i b (asked c) (map asked (cs ++ ds)) made
           ∙ ap (λ (x : List ℕ). answerOf (i + 1) x (cs ++ ds)) (sym (o .left))
           ∙ w .0
           ∙ ap (λ (j : ℕ). answerOf j e ds) z,
-      exit-made planeFrames versionOne b (asked c) (map asked (cs ++ ds)) made ∙ ap (λ (x : List ℕ). exitOf x (cs ++ ds)) (sym (o .left)) ∙ w .1,
+      exit-made planeFrames versionTwo b (asked c) (map asked (cs ++ ds)) made ∙ ap (λ (x : List ℕ). exitOf x (cs ++ ds)) (sym (o .left)) ∙ w .1,
     )
 
 -- ---- a list is made whole, or stops at a correction that is refused
@@ -69,16 +70,16 @@ abbrev Stops : ℕ → List ℕ → List Correction → Type 0
 Stops i b cs = (k : ℕ) × ((q : Refusal) × ((answerOf i b cs ≡ stopped (i + k) (q .number) (q .place)) × StoppedAt b cs k q (exitOf b cs)))
 
 module _ (c : Correction) (cs : List Correction) (i : ℕ) (b : List ℕ) where
-  first-made : editAnswer planeFrames versionOne b (asked c) ≡ accepted tt → Edited b (asked c) (viewDone answer.Accepted) (editExit planeFrames versionOne b (asked c))
+  first-made : editAnswer planeFrames versionTwo b (asked c) ≡ accepted tt → Edited b (asked c) (viewDone answer.Accepted) (editExit planeFrames versionTwo b (asked c))
   first-made e = record { answered = sym e; left = refl }
 
-  made-more : editAnswer planeFrames versionOne b (asked c) ≡ accepted tt → Made (i + 1) (editExit planeFrames versionOne b (asked c)) cs → Made i b (c ∷ cs)
+  made-more : editAnswer planeFrames versionTwo b (asked c) ≡ accepted tt → Made (i + 1) (editExit planeFrames versionTwo b (asked c)) cs → Made i b (c ∷ cs)
   made-more e w = (
-    answer-made planeFrames versionOne i b (asked c) (map asked cs) e ∙ w .0,
-    subst (λ (x : List ℕ). Calls b (c ∷ cs) (accepts (suc (length cs))) x) (sym (exit-made planeFrames versionOne b (asked c) (map asked cs) e)) (then (first-made e) (w .1)),
+    answer-made planeFrames versionTwo i b (asked c) (map asked cs) e ∙ w .0,
+    subst (λ (x : List ℕ). Calls b (c ∷ cs) (accepts (suc (length cs))) x) (sym (exit-made planeFrames versionTwo b (asked c) (map asked cs) e)) (then (first-made e) (w .1)),
   )
 
-  stops-later : editAnswer planeFrames versionOne b (asked c) ≡ accepted tt → Stops (i + 1) (editExit planeFrames versionOne b (asked c)) cs → Stops i b (c ∷ cs)
+  stops-later : editAnswer planeFrames versionTwo b (asked c) ≡ accepted tt → Stops (i + 1) (editExit planeFrames versionTwo b (asked c)) cs → Stops i b (c ∷ cs)
   stops-later e w =
       let k = w .0 in
       let q = w .1 .0 in
@@ -88,9 +89,9 @@ module _ (c : Correction) (cs : List Correction) (i : ℕ) (b : List ℕ) where
         (
           q,
           (
-            answer-made planeFrames versionOne i b (asked c) (map asked cs) e ∙ w .1 .1 .0 ∙ ap (λ (j : ℕ). stopped j (q .number) (q .place)) z,
+            answer-made planeFrames versionTwo i b (asked c) (map asked cs) e ∙ w .1 .1 .0 ∙ ap (λ (j : ℕ). stopped j (q .number) (q .place)) z,
             subst (λ (x : List ℕ). StoppedAt b (c ∷ cs) (suc k) q x)
-                (sym (exit-made planeFrames versionOne b (asked c) (map asked cs) e))
+                (sym (exit-made planeFrames versionTwo b (asked c) (map asked cs) e))
                 (record {
                   earlier = c ∷ S .earlier;
                   wrong = S .wrong;
@@ -104,17 +105,17 @@ module _ (c : Correction) (cs : List Correction) (i : ℕ) (b : List ℕ) where
         ),
       )
 
-  stops-here : (n p : ℕ) → editAnswer planeFrames versionOne b (asked c) ≡ refused n p → Stops i b (c ∷ cs)
+  stops-here : (n p : ℕ) → editAnswer planeFrames versionTwo b (asked c) ≡ refused n p → Stops i b (c ∷ cs)
   stops-here n p e =
       let z : i ≡ i + 0 = omega arith in
-      let unchanged : b ≡ editExit planeFrames versionOne b (asked c) = sym (edit-found planeFrames versionOne b (asked c) n p e) in (
+      let unchanged : b ≡ editExit planeFrames versionTwo b (asked c) = sym (edit-found planeFrames versionTwo b (asked c) n p e) in (
         0,
         (
           record { number = n; place = p },
           (
-            answer-refused planeFrames versionOne i b (asked c) (map asked cs) n p e ∙ ap (λ (j : ℕ). stopped j n p) z,
+            answer-refused planeFrames versionTwo i b (asked c) (map asked cs) n p e ∙ ap (λ (j : ℕ). stopped j n p) z,
             subst (λ (x : List ℕ). StoppedAt b (c ∷ cs) 0 (record { number = n; place = p }) x)
-                (sym (exit-refused planeFrames versionOne b (asked c) (map asked cs) n p e))
+                (sym (exit-refused planeFrames versionTwo b (asked c) (map asked cs) n p e))
                 (record {
                   earlier = [];
                   wrong = c;
@@ -128,14 +129,14 @@ module _ (c : Correction) (cs : List Correction) (i : ℕ) (b : List ℕ) where
         ),
       )
 
-  either : (d : answers.Done) → editAnswer planeFrames versionOne b (asked c) ≡ d
-      → (Made (i + 1) (editExit planeFrames versionOne b (asked c)) cs ⊎ Stops (i + 1) (editExit planeFrames versionOne b (asked c)) cs) → Made i b (c ∷ cs) ⊎ Stops i b (c ∷ cs)
+  either : (d : answers.Done) → editAnswer planeFrames versionTwo b (asked c) ≡ d
+      → (Made (i + 1) (editExit planeFrames versionTwo b (asked c)) cs ⊎ Stops (i + 1) (editExit planeFrames versionTwo b (asked c)) cs) → Made i b (c ∷ cs) ⊎ Stops i b (c ∷ cs)
   either (accepted u) e w = ⊎-elim (λ m. inl (made-more e m)) (λ s. inr (stops-later e s)) w
   either (refused n p) e w = inr (stops-here n p e)
 
 made-or-stops : (cs : List Correction) (i : ℕ) (b : List ℕ) → Made i b cs ⊎ Stops i b cs
-made-or-stops [] i b = inl (answer-none planeFrames versionOne i b, subst (λ (x : List ℕ). Calls b [] [] x) (sym (exit-none planeFrames versionOne b)) done)
-made-or-stops (c ∷ cs) i b = either c cs i b (editAnswer planeFrames versionOne b (asked c)) refl (made-or-stops cs (i + 1) (editExit planeFrames versionOne b (asked c)))
+made-or-stops [] i b = inl (answer-none planeFrames versionTwo i b, subst (λ (x : List ℕ). Calls b [] [] x) (sym (exit-none planeFrames versionTwo b)) done)
+made-or-stops (c ∷ cs) i b = either c cs i b (editAnswer planeFrames versionTwo b (asked c)) refl (made-or-stops cs (i + 1) (editExit planeFrames versionTwo b (asked c)))
 
 -- ---- both answers, both ways
 module _ (b : List ℕ) (cs : List Correction) (e : List ℕ) where
@@ -150,8 +151,8 @@ module _ (b : List ℕ) (cs : List Correction) (e : List ℕ) where
       let w = passed k refl 0 [] in
       let whole = append-nil cs in
       record {
-        answered = sym (ap (answerOf 0 b) (sym whole) ∙ w .0 ∙ answer-none planeFrames versionOne (0 + length cs) e);
-        left = sym (ap (exitOf b) (sym whole) ∙ w .1 ∙ exit-none planeFrames versionOne e);
+        answered = sym (ap (answerOf 0 b) (sym whole) ∙ w .0 ∙ answer-none planeFrames versionTwo (0 + length cs) e);
+        left = sym (ap (exitOf b) (sym whole) ∙ w .1 ∙ exit-none planeFrames versionTwo e);
       }
 
   pub made-exactly : CorrectedAll b (map asked cs) (viewCorrected corrected.Done) e ↔ Calls b cs (accepts (length cs)) e
@@ -176,16 +177,16 @@ module _ (b : List ℕ) (cs : List Correction) (e : List ℕ) where
     of-stopped : StoppedAt b cs i q e → CorrectedAll b (map asked cs) (viewCorrected (corrected.Stopped i q)) e
     of-stopped S =
         let w = passed (S .calls) (ap accepts (sym (S .position))) 0 (S .wrong ∷ S .later) in
-        let r : editAnswer planeFrames versionOne e (asked (S .wrong)) ≡ refused (q .number) (q .place) = sym (S .refused .answered) in
+        let r : editAnswer planeFrames versionTwo e (asked (S .wrong)) ≡ refused (q .number) (q .place) = sym (S .refused .answered) in
         let here = S .position in
         let z : 0 + length (S .earlier) ≡ i = omega (arith, here) in
         record {
           answered = sym
               (ap (answerOf 0 b) (S .all)
               ∙ w .0
-              ∙ answer-refused planeFrames versionOne (0 + length (S .earlier)) e (asked (S .wrong)) (map asked (S .later)) (q .number) (q .place) r
+              ∙ answer-refused planeFrames versionTwo (0 + length (S .earlier)) e (asked (S .wrong)) (map asked (S .later)) (q .number) (q .place) r
               ∙ ap (λ (j : ℕ). stopped j (q .number) (q .place)) z);
-          left = sym (ap (exitOf b) (S .all) ∙ w .1 ∙ exit-refused planeFrames versionOne e (asked (S .wrong)) (map asked (S .later)) (q .number) (q .place) r);
+          left = sym (ap (exitOf b) (S .all) ∙ w .1 ∙ exit-refused planeFrames versionTwo e (asked (S .wrong)) (map asked (S .later)) (q .number) (q .place) r);
         }
 
     pub stopped-exactly : CorrectedAll b (map asked cs) (viewCorrected (corrected.Stopped i q)) e ↔ StoppedAt b cs i q e
@@ -227,19 +228,19 @@ further k lists.done = lists.done
 further k (stopped i n p) = stopped (k + i) n p
 
 moved : (k i : ℕ) (b : List ℕ) (cs : List Correction) → answerOf (k + i) b cs ≡ further k (answerOf i b cs)
-moved k i b [] = answer-none planeFrames versionOne (k + i) b ∙ sym (ap (further k) (answer-none planeFrames versionOne i b))
-moved k i b (c ∷ cs) = go (editAnswer planeFrames versionOne b (asked c)) refl (moved k (i + 1) (editExit planeFrames versionOne b (asked c)) cs)
+moved k i b [] = answer-none planeFrames versionTwo (k + i) b ∙ sym (ap (further k) (answer-none planeFrames versionTwo i b))
+moved k i b (c ∷ cs) = go (editAnswer planeFrames versionTwo b (asked c)) refl (moved k (i + 1) (editExit planeFrames versionTwo b (asked c)) cs)
   where
-    go : (d : answers.Done) → editAnswer planeFrames versionOne b (asked c) ≡ d
-        → answerOf (k + (i + 1)) (editExit planeFrames versionOne b (asked c)) cs ≡ further k (answerOf (i + 1) (editExit planeFrames versionOne b (asked c)) cs)
+    go : (d : answers.Done) → editAnswer planeFrames versionTwo b (asked c) ≡ d
+        → answerOf (k + (i + 1)) (editExit planeFrames versionTwo b (asked c)) cs ≡ further k (answerOf (i + 1) (editExit planeFrames versionTwo b (asked c)) cs)
         → answerOf (k + i) b (c ∷ cs) ≡ further k (answerOf i b (c ∷ cs))
     go (accepted u) e w =
         let z : (k + i) + 1 ≡ k + (i + 1) = omega arith in
-        answer-made planeFrames versionOne (k + i) b (asked c) (map asked cs) e
-        ∙ ap (λ (j : ℕ). answerOf j (editExit planeFrames versionOne b (asked c)) cs) z
+        answer-made planeFrames versionTwo (k + i) b (asked c) (map asked cs) e
+        ∙ ap (λ (j : ℕ). answerOf j (editExit planeFrames versionTwo b (asked c)) cs) z
         ∙ w
-        ∙ sym (ap (further k) (answer-made planeFrames versionOne i b (asked c) (map asked cs) e))
-    go (refused n p) e w = answer-refused planeFrames versionOne (k + i) b (asked c) (map asked cs) n p e ∙ sym (ap (further k) (answer-refused planeFrames versionOne i b (asked c) (map asked cs) n p e))
+        ∙ sym (ap (further k) (answer-made planeFrames versionTwo i b (asked c) (map asked cs) e))
+    go (refused n p) e w = answer-refused planeFrames versionTwo (k + i) b (asked c) (map asked cs) n p e ∙ sym (ap (further k) (answer-refused planeFrames versionTwo i b (asked c) (map asked cs) n p e))
 
 behind-view : (k : ℕ) (r : Corrected) → viewCorrected (behind k r) ≡ further k (viewCorrected r)
 behind-view k corrected.Done = refl
@@ -272,7 +273,7 @@ halves-stopped b m cs ds i q w =
 
 -- ---- what changes nothing
 pub empty-list : (b : List ℕ) (r : Corrected) (e : List ℕ) → CorrectedAll b [] (viewCorrected r) e → (r ≡ corrected.Done) × (e ≡ b)
-empty-list b r e w = (same-corrected r corrected.Done (w .answered ∙ answer-none planeFrames versionOne 0 b), w .left ∙ exit-none planeFrames versionOne b)
+empty-list b r e w = (same-corrected r corrected.Done (w .answered ∙ answer-none planeFrames versionTwo 0 b), w .left ∙ exit-none planeFrames versionTwo b)
 
 no-calls : {b e : List ℕ} {cs : List Correction} → Calls b cs [] e → e ≡ b
 no-calls done = refl
@@ -281,30 +282,30 @@ pub stopped-first : (b : List ℕ) (cs : List Correction) (q : Refusal) (e : Lis
 stopped-first b cs q e w = no-calls (to-stopped b cs e 0 q w .calls)
 
 -- ---- behind a correction that was made the record is accepted, so that no refusal of the record itself can come there
-sound-on : {b e : List ℕ} {cs : List Correction} {rs : List Done} → Calls b cs rs e → rs ≡ accepts (length cs) → Bytes b → recordVerdict planeFrames versionOne b ≡ accepted tt
-    → recordVerdict planeFrames versionOne e ≡ accepted tt
+sound-on : {b e : List ℕ} {cs : List Correction} {rs : List Done} → Calls b cs rs e → rs ≡ accepts (length cs) → Bytes b → recordVerdict planeFrames versionTwo b ≡ accepted tt
+    → recordVerdict planeFrames versionTwo e ≡ accepted tt
 sound-on done h y v = v
 sound-on {b = b} (then {m = m} {c = c} {r = r} {cs = cs} {rs = rs} o k) h y v =
     let first : r ≡ answer.Accepted = cc in
     let rest : rs ≡ accepts (length cs) = cc in
-    let made : editAnswer planeFrames versionOne b (asked c) ≡ accepted tt = sym (o .answered) ∙ ap viewDone first in
+    let made : editAnswer planeFrames versionTwo b (asked c) ≡ accepted tt = sym (o .answered) ∙ ap viewDone first in
     sound-on k rest
-    (subst Bytes (sym (o .left)) (edit-bytes planeFrames versionOne plane-frames-version-one b (asked c) y made))
-    (ap (recordVerdict planeFrames versionOne) (o .left) ∙ edit-accepted planeFrames versionOne plane-frames-version-one b (asked c) y made)
+    (subst Bytes (sym (o .left)) (edit-bytes planeFrames versionTwo (plane-lawful v2) b (asked c) y made))
+    (ap (recordVerdict planeFrames versionTwo) (o .left) ∙ edit-accepted planeFrames versionTwo (plane-lawful v2) b (asked c) y made)
 
-sound-behind : {b e : List ℕ} (cs : List Correction) (i : ℕ) → length cs ≡ suc i → Calls b cs (accepts (suc i)) e → Bytes b → recordVerdict planeFrames versionOne e ≡ accepted tt
+sound-behind : {b e : List ℕ} (cs : List Correction) (i : ℕ) → length cs ≡ suc i → Calls b cs (accepts (suc i)) e → Bytes b → recordVerdict planeFrames versionTwo e ≡ accepted tt
 sound-behind {b = b} [] i l k y = absurd (omega arith)
-sound-behind {b = b} {e = e} (c ∷ cs) i l k y = sound-on k (ap accepts (sym l)) y (edit-judged planeFrames versionOne b (asked c) (first-accepted k))
+sound-behind {b = b} {e = e} (c ∷ cs) i l k y = sound-on k (ap accepts (sym l)) y (edit-judged planeFrames versionTwo b (asked c) (first-accepted k))
   where
-    first-accepted : Calls b (c ∷ cs) (accepts (suc i)) e → editAnswer planeFrames versionOne b (asked c) ≡ accepted tt
+    first-accepted : Calls b (c ∷ cs) (accepts (suc i)) e → editAnswer planeFrames versionTwo b (asked c) ≡ accepted tt
     first-accepted (then o j) = sym (o .answered)
 
 -- of an accepted record, an edit is refused by one of its own reasons
-own-reason : (b : List ℕ) (c : Correction) (n p : ℕ) → recordVerdict planeFrames versionOne b ≡ accepted tt → editAnswer planeFrames versionOne b (asked c) ≡ refused n p
+own-reason : (b : List ℕ) (c : Correction) (n p : ℕ) → recordVerdict planeFrames versionTwo b ≡ accepted tt → editAnswer planeFrames versionTwo b (asked c) ≡ refused n p
     → Plain 22 n p ⊎ (Plain 23 n p ⊎ (Plain 24 n p ⊎ (Plain 25 n p ⊎ Plain 12 n p)))
-unfolding versionOne
+unfolding versionTwo
 own-reason b c n p v e =
-    ⊎-elim (λ w. absurd (clash (sym v ∙ w))) (λ rest. ⊎-elim (λ w. absurd (clash w)) (λ own. own) rest) (edit-refusals planeFrames versionOne b (asked c) n p e)
+    ⊎-elim (λ w. absurd (clash (sym v ∙ w))) (λ rest. ⊎-elim (λ w. absurd (clash w)) (λ own. own) rest) (edit-refusals planeFrames versionTwo b (asked c) n p e)
   where
     clash : _≡_ {A = answers.Done} (accepted tt) (refused n p) → ⊥
     clash h = let z : _≡_ {A = ℕ} 0 1 = cc in omega arith

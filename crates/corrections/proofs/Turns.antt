@@ -11,7 +11,7 @@ use Rattle.ledger.specs.Frames.{FrameBook}
 use Rattle.ledger.specs.Formats as formats
 use Rattle.ledger.specs.Formats.{Format}
 use Rattle.ledger.specs.Calls.{editAnswer, editExit}
-use Rattle.ledger.specs.VersionOne.{versionOne}
+use Rattle.ledger.specs.VersionTwo.{versionTwo}
 use Rattle.ledger.specs.PlaneFrames.{planeFrames}
 use Rattle.ledger.proofs.calls.Writes.{edit-found}
 use Rattle.editor.specs.declared.answers.Done as code
@@ -65,23 +65,23 @@ leftThen (stopped i n p) z later = z
 
 -- one correction, which answered a and left z, before the others
 pub one-turn : (i : ℕ) (b z : List ℕ) (c : formats.Correction) (cs : List formats.Correction) (a : ListAnswer) → CorrectedAt b c i a z
-    → (orLater a (answerFrom planeFrames versionOne (i + 1) z cs) ≡ answerFrom planeFrames versionOne i b (c ∷ cs))
-    × (leftThen a z (listExit planeFrames versionOne z cs) ≡ listExit planeFrames versionOne b (c ∷ cs))
-one-turn i b z c cs a t = go (editAnswer planeFrames versionOne b c) refl
+    → (orLater a (answerFrom planeFrames versionTwo (i + 1) z cs) ≡ answerFrom planeFrames versionTwo i b (c ∷ cs))
+    × (leftThen a z (listExit planeFrames versionTwo z cs) ≡ listExit planeFrames versionTwo b (c ∷ cs))
+one-turn i b z c cs a t = go (editAnswer planeFrames versionTwo b c) refl
   where
-    go : (d : Done) → editAnswer planeFrames versionOne b c ≡ d
-        → (orLater a (answerFrom planeFrames versionOne (i + 1) z cs) ≡ answerFrom planeFrames versionOne i b (c ∷ cs))
-        × (leftThen a z (listExit planeFrames versionOne z cs) ≡ listExit planeFrames versionOne b (c ∷ cs))
+    go : (d : Done) → editAnswer planeFrames versionTwo b c ≡ d
+        → (orLater a (answerFrom planeFrames versionTwo (i + 1) z cs) ≡ answerFrom planeFrames versionTwo i b (c ∷ cs))
+        × (leftThen a z (listExit planeFrames versionTwo z cs) ≡ listExit planeFrames versionTwo b (c ∷ cs))
     go (accepted u) e = (
-      (λ k. orLater ((t .answered ∙ ap (atPosition i) e) k) (answerFrom planeFrames versionOne (i + 1) (t .left k) cs)) ∙ sym (answer-made planeFrames versionOne i b c cs e),
-      (λ k. leftThen ((t .answered ∙ ap (atPosition i) e) k) z (listExit planeFrames versionOne (t .left k) cs)) ∙ sym (exit-made planeFrames versionOne b c cs e),
+      (λ k. orLater ((t .answered ∙ ap (atPosition i) e) k) (answerFrom planeFrames versionTwo (i + 1) (t .left k) cs)) ∙ sym (answer-made planeFrames versionTwo i b c cs e),
+      (λ k. leftThen ((t .answered ∙ ap (atPosition i) e) k) z (listExit planeFrames versionTwo (t .left k) cs)) ∙ sym (exit-made planeFrames versionTwo b c cs e),
     )
     go (refused n p) e = (
-      (λ k. orLater ((t .answered ∙ ap (atPosition i) e) k) (answerFrom planeFrames versionOne (i + 1) z cs)) ∙ sym (answer-refused planeFrames versionOne i b c cs n p e),
-      (λ k. leftThen ((t .answered ∙ ap (atPosition i) e) k) z (listExit planeFrames versionOne z cs))
+      (λ k. orLater ((t .answered ∙ ap (atPosition i) e) k) (answerFrom planeFrames versionTwo (i + 1) z cs)) ∙ sym (answer-refused planeFrames versionTwo i b c cs n p e),
+      (λ k. leftThen ((t .answered ∙ ap (atPosition i) e) k) z (listExit planeFrames versionTwo z cs))
           ∙ t .left
-          ∙ edit-found planeFrames versionOne b c n p e
-          ∙ sym (exit-refused planeFrames versionOne b c cs n p e),
+          ∙ edit-found planeFrames versionTwo b c n p e
+          ∙ sym (exit-refused planeFrames versionTwo b c cs n p e),
     )
 
 -- ---- positions of the list
@@ -95,10 +95,10 @@ drop-at cs i d l = subst (λ (j : ℕ). drop i cs ≡ getD cs i d ∷ drop j cs)
 
 -- what the corrections from position i on answer and leave, from the buffer b
 abbrev pub AnswerFrom : List ℕ → List Correction → ℕ → ListAnswer
-AnswerFrom b cs i = answerFrom planeFrames versionOne i b (map asked (drop i cs))
+AnswerFrom b cs i = answerFrom planeFrames versionTwo i b (map asked (drop i cs))
 
 abbrev pub ExitFrom : List ℕ → List Correction → ℕ → List ℕ
-ExitFrom b cs i = listExit planeFrames versionOne b (map asked (drop i cs))
+ExitFrom b cs i = listExit planeFrames versionTwo b (map asked (drop i cs))
 
 module _ (b : List ℕ) (cs : List Correction) (i : ℕ) where
   -- the correction at position i, which answered a and left z
@@ -106,13 +106,13 @@ module _ (b : List ℕ) (cs : List Correction) (i : ℕ) where
       → (orLater a (AnswerFrom z cs (i + 1)) ≡ AnswerFrom b cs i) × (leftThen a z (ExitFrom z cs (i + 1)) ≡ ExitFrom b cs i)
   turn d z a l t =
       let w = one-turn i b z (asked (getD cs i d)) (map asked (drop (i + 1) cs)) a t in (
-        w .0 ∙ sym (ap (λ (r : List Correction). answerFrom planeFrames versionOne i b (map asked r)) (drop-at cs i d l)),
-        w .1 ∙ sym (ap (λ (r : List Correction). listExit planeFrames versionOne b (map asked r)) (drop-at cs i d l)),
+        w .0 ∙ sym (ap (λ (r : List Correction). answerFrom planeFrames versionTwo i b (map asked r)) (drop-at cs i d l)),
+        w .1 ∙ sym (ap (λ (r : List Correction). listExit planeFrames versionTwo b (map asked r)) (drop-at cs i d l)),
       )
 
   -- the list is through
   pub through : length cs ≤ i → (done ≡ AnswerFrom b cs i) × (b ≡ ExitFrom b cs i)
   through l = (
-    sym (ap (λ (r : List Correction). answerFrom planeFrames versionOne i b (map asked r)) (drop-of-length-le cs l) ∙ answer-none planeFrames versionOne i b),
-    sym (ap (λ (r : List Correction). listExit planeFrames versionOne b (map asked r)) (drop-of-length-le cs l) ∙ exit-none planeFrames versionOne b),
+    sym (ap (λ (r : List Correction). answerFrom planeFrames versionTwo i b (map asked r)) (drop-of-length-le cs l) ∙ answer-none planeFrames versionTwo i b),
+    sym (ap (λ (r : List Correction). listExit planeFrames versionTwo b (map asked r)) (drop-of-length-le cs l) ∙ exit-none planeFrames versionTwo b),
   )

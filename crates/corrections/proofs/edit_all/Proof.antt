@@ -1,6 +1,6 @@
 -- `corrections::edit_all` meets its contract. A slice of structs is not covered, so its code is walked by hand: the loop (`types.Run`'s `loops`), the call
 -- of `edit_at`, for which the buffer is lent again (proofs/Relent.antt), and the match on what it answered. Of `edit_at` the walk knows its contract
--- alone, and nothing of a correction's fields but `any`, the size of one, 24, and that it can be copied. Where a local stands: with n locals and m
+-- alone, and nothing of a correction's fields but `any`, the size of one, 32, and that it can be copied. Where a local stands: with n locals and m
 -- facts before them, local i is at m + 2 · (n - 1 - i).
 -- Assumes nothing.
 use mathlib.Core.Path.{_≡_, refl, sym, _∙_, ap, subst}
@@ -99,7 +99,7 @@ Edit 𝓤 H A mem run = tripleOf 𝓤 H A edit-at.signature (edit-at.spec 𝓤 H
 
 -- what stands past the end of a list of corrections: it is never looked at
 abbrev any : Correction
-any = record { word = 0; value = 0; operator = 0; reason = 0 }
+any = record { word = 0; value = 0; operator = 0; reason = 0; time = 0 }
 
 module _ {M : Type 1} (𝓤 : URA M) (H : Heap 𝓤) (A : Atoms 𝓤) (W : Given 𝓤 H A) (at-mem : Memory → SProp 𝓤) (run : Routine → Fun 𝓤) (κ κ′ : Lft) (q q′ : Share) (b o : ℕ) (γ : GName) (xs : List ℕ) (s : RefT (List Correction)) (rb : Room u8 (length xs)) (rl : Room R (length (s .now))) where
   abbrev cs : List Correction
@@ -248,9 +248,9 @@ module _ {M : Type 1} (𝓤 : URA M) (H : Heap 𝓤) (A : Atoms 𝓤) (W : Given
         assigns ! (of-opd ! (load ! (from ! (fld ! refl (stop !))) (look-in ! 22 (sub ! 1 refl (whole !))))) (from ! (stop !)) (init ! 14 refl (tt, record { fits = rl .0 })) $
         assigns ! (bin ! (load ! (from ! (stop !)) (look ! 20 refl)) (load ! (from ! (stop !)) (look ! 14 refl)) tt) (from ! (stop !)) (init ! 12 refl (tt, tt)) $
         rewrite ! 12 (λ (y : Bool). ‵ (fat fullShare tyBool l₇ 0 (vbool y))) test refl $ stays ! (load ! (from ! (stop !)) (look ! 12 refl)) $
-        assigns ! (bin ! (load ! (from ! (stop !)) (look ! 20 refl)) (lit ! tt) (scaled-fits (t .0) n 24 less (rl .1))) (from ! (stop !)) (store ! 14 refl (tt, scaled-fits (t .0) n 24 less (rl .1))) $
+        assigns ! (bin ! (load ! (from ! (stop !)) (look ! 20 refl)) (lit ! tt) (scaled-fits (t .0) n 32 less (rl .1))) (from ! (stop !)) (store ! 14 refl (tt, scaled-fits (t .0) n 32 less (rl .1))) $
         assigns ! (bin ! (load ! (from ! (fld ! refl (stop !))) (look-in ! 22 (sub ! 0 refl (whole !)))) (load ! (from ! (stop !)) (look ! 14 refl)) tt) (from ! (stop !)) (init ! 10 refl (tt, tt)) $
-        rewrite ! 10 (λ (p : ℕ). ‵ (fat fullShare tyPtr l₈ 0 (vptr (s .ptr .0) p))) (sym (place-is 24 (s .ptr .1) (t .0))) refl $
+        rewrite ! 10 (λ (p : ℕ). ‵ (fat fullShare tyPtr l₈ 0 (vptr (s .ptr .0) p))) (sym (place-is 32 (s .ptr .1) (t .0))) refl $
         -- what the list owns is had twice: the correction is looked up in one of them, the other is kept whole
         move ! (2 ∷ []) $ use1 W (‵ OwnL ⊛ ‵ OwnL) (shr-slice-copy 𝓤 H A W (named 1) κ′ R .twice s (vl ∷ [])) $ split ! $ fsplit ! $ gone ! $ fsplit ! $ gone ! $ move ! (0 ∷ 4 ∷ []) $
         looks-slice ! tt R (Is R) (shows 𝓤 H A R) (LL.vals T.the-type T′.the-laws) (LL.tells T.the-type T′.the-laws) (LL.copy T.the-type T′.the-copy 𝓤 H A W) cs (s .ptr .0) (s .ptr .1) (λ q″.

@@ -12,7 +12,8 @@ use Rattle.book.specs.declared.refusal.Refusal.{Refusal}
 use Rattle.ledger.specs.Tests.{Plain}
 use Rattle.ledger.specs.Records.{entriesIn}
 use Rattle.ledger.specs.Histories.{oldestFirst}
-use Rattle.ledger.specs.VersionOne.{versionOne}
+use Rattle.ledger.specs.VersionTwo.{versionTwo}
+use Rattle.ledger.specs.Versions.{v2}
 use Rattle.ledger.specs.Layout.{headerFor, historyWritten}
 use Rattle.records.specs.declared.answers.RecordFound.{RecordFound}
 use Rattle.records.specs.declared.answers.RecordFound.the-variants as records
@@ -89,12 +90,12 @@ sequence-made b ks e k = mixed.made-in k
 -- in its words: the record after them tells as many entries as corrections were made, by lists or singly
 module _ (f buf : List ℕ) (y : Bytes f) (b : List ℕ) (o : Opened f buf (viewDone answer.Accepted) b) (ks : List Call) (e : List ℕ) (k : Mixed b ks e) where
   pub record-told : (r : RecordFound) → Recorded e r
-      → r ≡ records.Record (record { length = length f; count = length (madeIn ks); total = 16 + length f + 16 * length (madeIn ks) })
+      → r ≡ records.Record (record { length = length f; count = length (madeIn ks); total = 16 + length f + 24 * length (madeIn ks) })
   record-told = mixed.record-told f buf y b o ks e k
 
   -- every byte of the buffer
   pub whole-record : e
-      ≡ headerFor (length f) (length (madeIn ks)) ++ (corrected f (madeIn ks) ++ (historyWritten (entriesFor f (madeIn ks)) ++ drop (16 + length f + 16 * length (madeIn ks)) buf))
+      ≡ headerFor v2 (length f) (length (madeIn ks)) ++ (corrected f (madeIn ks) ++ (historyWritten v2 (entriesFor f (madeIn ks)) ++ drop (16 + length f + 24 * length (madeIn ks)) buf))
   whole-record = mixed.whole-record f buf y b o ks e k
 
   -- > "restoring to k, into a buffer with room, gives the exact frame that stood after the k-th accepted edit"
@@ -103,5 +104,5 @@ module _ (f buf : List ℕ) (y : Bytes f) (b : List ℕ) (o : Opened f buf (view
   restores-to = mixed.restores-to f buf y b o ks e k
 
   -- > "The history holds those edits in order and nothing more."
-  pub history-in-order : oldestFirst (entriesIn versionOne e) ≡ entriesFor f (madeIn ks)
+  pub history-in-order : oldestFirst (entriesIn versionTwo e) ≡ entriesFor f (madeIn ks)
   history-in-order = mixed.history-in-order f buf y b o ks e k
