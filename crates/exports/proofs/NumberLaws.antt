@@ -23,11 +23,12 @@ use Rattle.format.proofs.front.Writing.{partial-list, begin-list, add-list, clo
 use Rattle.runs.specs.Assembly.{Assembler, take}
 use Rattle.runs.proofs.front.Runs.{take-list}
 use Rattle.ledger.specs.Calls.{recordAnswer, entryAnswer, openAnswer, editAnswer, editExit, restoreAnswer}
-use Rattle.ledger.specs.VersionOne.{versionOne}
+use Rattle.ledger.specs.VersionTwo.{versionTwo}
+use Rattle.ledger.specs.Versions.{v2, formatIn}
 use Rattle.ledger.specs.PlaneFrames.{planeFrames, plane-frames-judge}
 use Rattle.ledger.proofs.answers.Refusals as ledger
 use Rattle.ledger.proofs.calls.Changing.{edit-bytes}
-use Rattle.ledger.proofs.plane.PlaneFrames.{plane-frames-version-one}
+use Rattle.ledger.proofs.plane.PlaneFrames.{plane-lawful}
 use Rattle.editor.specs.declared.editing.Correction.{Correction}
 use Rattle.editor.specs.Views.{asked}
 use Rattle.corrections.specs.Lists.{ListAnswer, done as none-refused, stopped, answerFrom}
@@ -182,48 +183,48 @@ judge-numbers f n p bs e =
     (h .least, h .most)
 
 -- the format of document 01 asks nothing of its own
-first-asks : (c : Correction) (n p : ℕ) → versionOne .asked (asked c .extra) ≡ refused n p → 1 ≤ n
-unfolding versionOne
+first-asks : (c : Correction) (n p : ℕ) → versionTwo .asked (asked c .extra) ≡ refused n p → 1 ≤ n
+unfolding versionTwo
 first-asks c n p e = let z : _≡_ {A = ℕ} 0 1 = cc in absurd (omega arith)
 
 module _ (b : List ℕ) (bs : Bytes b) where
   low : {n : ℕ} → ((1 ≤ n) × (n ≤ 11)) ⊎ ((20 ≤ n) × (n ≤ 21)) → 1 ≤ n
   low = ⊎-elim (λ h. h .0) (λ h. let q = h .0 in omega arith)
 
-  pub record-numbered : Numbered (recordAnswer planeFrames versionOne b)
+  pub record-numbered : Numbered (recordAnswer planeFrames (formatIn b) b)
   record-numbered =
-      record { least = λ n p e. low (ledger.record-numbers planeFrames versionOne judge-numbers b n p bs (ledger.record-question-refusals planeFrames versionOne b n p e)) }
+      record { least = λ n p e. low (ledger.record-numbers planeFrames (formatIn b) judge-numbers b n p bs (ledger.record-question-refusals planeFrames (formatIn b) b n p e)) }
 
-  pub entry-numbered : (j : ℕ) → Numbered (entryAnswer planeFrames versionOne b j)
+  pub entry-numbered : (j : ℕ) → Numbered (entryAnswer planeFrames (formatIn b) b j)
   entry-numbered j =
-      record { least = λ n p e. ⊎-elim (λ h. h .0) (⊎-elim (λ h. let q = h .0 in omega arith) (λ h. omega arith)) (ledger.entry-numbers planeFrames versionOne judge-numbers b j n p bs e) }
+      record { least = λ n p e. ⊎-elim (λ h. h .0) (⊎-elim (λ h. let q = h .0 in omega arith) (λ h. omega arith)) (ledger.entry-numbers planeFrames (formatIn b) judge-numbers b j n p bs e) }
 
-  pub open-numbered : (buf : List ℕ) → Numbered (openAnswer planeFrames versionOne b buf)
-  open-numbered buf = record { least = λ n p e. ledger.open-numbers planeFrames versionOne judge-numbers b buf n p bs e .0 }
+  pub open-numbered : (buf : List ℕ) → Numbered (openAnswer planeFrames versionTwo b buf)
+  open-numbered buf = record { least = λ n p e. ledger.open-numbers planeFrames versionTwo judge-numbers b buf n p bs e .0 }
 
-  pub edit-numbered : (c : Correction) → Numbered (editAnswer planeFrames versionOne b (asked c))
+  pub edit-numbered : (c : Correction) → Numbered (editAnswer planeFrames versionTwo b (asked c))
   edit-numbered c =
-      record { least = λ n p e. ⊎-elim (⊎-elim (λ h. h .0) (λ h. let q = h .0 in omega arith)) (first-asks c n p) (ledger.edit-numbers planeFrames versionOne judge-numbers b (asked c) n p bs e) }
+      record { least = λ n p e. ⊎-elim (⊎-elim (λ h. h .0) (λ h. let q = h .0 in omega arith)) (first-asks c n p) (ledger.edit-numbers planeFrames versionTwo judge-numbers b (asked c) n p bs e) }
 
-  pub restore-numbered : (k : ℕ) (out : List ℕ) → Numbered (restoreAnswer planeFrames versionOne b k out)
+  pub restore-numbered : (k : ℕ) (out : List ℕ) → Numbered (restoreAnswer planeFrames (formatIn b) b k out)
   restore-numbered k out =
-      record { least = λ n p e. ⊎-elim (λ h. h .0) (⊎-elim (λ h. let q = h .0 in omega arith) (λ h. omega arith)) (ledger.restore-numbers planeFrames versionOne judge-numbers b k out n p bs e) }
+      record { least = λ n p e. ⊎-elim (λ h. h .0) (⊎-elim (λ h. let q = h .0 in omega arith) (λ h. omega arith)) (ledger.restore-numbers planeFrames (formatIn b) judge-numbers b k out n p bs e) }
 
 -- ---- a list of corrections stops by the refusal of one of them
-pub edit-all-numbered : (cs : List Correction) (i : ℕ) (b : List ℕ) → Bytes b → (j n p : ℕ) → answerFrom planeFrames versionOne i b (map asked cs) ≡ stopped j n p → 1 ≤ n
-edit-all-numbered [] i b bs j n p h = none-stops (sym (answer-none planeFrames versionOne i b) ∙ h)
+pub edit-all-numbered : (cs : List Correction) (i : ℕ) (b : List ℕ) → Bytes b → (j n p : ℕ) → answerFrom planeFrames versionTwo i b (map asked cs) ≡ stopped j n p → 1 ≤ n
+edit-all-numbered [] i b bs j n p h = none-stops (sym (answer-none planeFrames versionTwo i b) ∙ h)
   where
     none-stops : none-refused ≡ stopped j n p → 1 ≤ n
     none-stops e = let z : _≡_ {A = ℕ} 0 1 = cc in absurd (omega arith)
-edit-all-numbered (c ∷ cs) i b bs j n p h = go (editAnswer planeFrames versionOne b (asked c)) refl (edit-all-numbered cs (i + 1) (editExit planeFrames versionOne b (asked c)))
+edit-all-numbered (c ∷ cs) i b bs j n p h = go (editAnswer planeFrames versionTwo b (asked c)) refl (edit-all-numbered cs (i + 1) (editExit planeFrames versionTwo b (asked c)))
   where
-    go : (d : Outcome (Unit {0})) → editAnswer planeFrames versionOne b (asked c) ≡ d
-        → (Bytes (editExit planeFrames versionOne b (asked c)) → (j n p : ℕ) → answerFrom planeFrames versionOne (i + 1) (editExit planeFrames versionOne b (asked c)) (map asked cs) ≡ stopped j n p → 1 ≤ n)
+    go : (d : Outcome (Unit {0})) → editAnswer planeFrames versionTwo b (asked c) ≡ d
+        → (Bytes (editExit planeFrames versionTwo b (asked c)) → (j n p : ℕ) → answerFrom planeFrames versionTwo (i + 1) (editExit planeFrames versionTwo b (asked c)) (map asked cs) ≡ stopped j n p → 1 ≤ n)
         → 1 ≤ n
-    go (accepted u) e later = later (edit-bytes planeFrames versionOne plane-frames-version-one b (asked c) bs e) j n p (sym (answer-made planeFrames versionOne i b (asked c) (map asked cs) e) ∙ h)
+    go (accepted u) e later = later (edit-bytes planeFrames versionTwo (plane-lawful v2) b (asked c) bs e) j n p (sym (answer-made planeFrames versionTwo i b (asked c) (map asked cs) e) ∙ h)
     go (refused m q) e later =
         let l : 1 ≤ m = edit-numbered b bs c .least m q e in
-        same (sym (answer-refused planeFrames versionOne i b (asked c) (map asked cs) m q e) ∙ h) l
+        same (sym (answer-refused planeFrames versionTwo i b (asked c) (map asked cs) m q e) ∙ h) l
       where
         same : stopped i m q ≡ stopped j n p → 1 ≤ m → 1 ≤ n
         same s l = let z : m ≡ n = cc in omega arith

@@ -11,7 +11,8 @@ use Rattle.follower.specs.Follow.{follow}
 use Rattle.runs.specs.Assembly.{new, take, giveUp}
 use Rattle.ledger.specs.Formats.{Correction}
 use Rattle.ledger.specs.Calls.{recordAnswer, entryAnswer}
-use Rattle.ledger.specs.VersionOne.{versionOne}
+use Rattle.ledger.specs.VersionTwo.{versionTwo}
+use Rattle.ledger.specs.Versions.{formatIn}
 use Rattle.ledger.specs.PlaneFrames.{planeFrames}
 use Rattle.book.proofs.Unique.{equal-once}
 use Rattle.exports.specs.declared.answers.PlaneDone.{PlaneDone}
@@ -72,10 +73,10 @@ pub give-up-once : (x r q : PlaneAssembler) → GivenUpTold x r → GivenUpTold 
 give-up-once x = equal-once (flatAssembler (giveUp (assemblerOf x)))
 
 pub record-once : (b : List ℕ) (r q : PlaneRecord) → RecordTold b r → RecordTold b q → r ≡ q
-record-once b = equal-once (flatRecord (recordAnswer planeFrames versionOne b))
+record-once b = equal-once (flatRecord (recordAnswer planeFrames (formatIn b) b))
 
 pub entry-once : (b : List ℕ) (n : ℕ) (r q : PlaneEntry) → EntryTold b n r → EntryTold b n q → r ≡ q
-entry-once b n = equal-once (flatEntry (entryAnswer planeFrames versionOne b n))
+entry-once b n = equal-once (flatEntry (entryAnswer planeFrames (formatIn b) b n))
 
 -- ---- an answer and all lent memory
 

@@ -15,7 +15,8 @@ use Rattle.format.specs.Questions.{samplesLeft, countsLeft, done}
 use Rattle.format.proofs.front.Writing.{begin-refused-leaves}
 use Rattle.follower.specs.Follow as follow
 use Rattle.follower.proofs.front.Sequence.{refusals}
-use Rattle.ledger.specs.VersionOne.{versionOne}
+use Rattle.ledger.specs.VersionTwo.{versionTwo}
+use Rattle.ledger.specs.Versions.{formatIn}
 use Rattle.ledger.specs.PlaneFrames.{planeFrames}
 use Rattle.editor.specs.declared.editing.Correction.{Correction}
 use Rattle.editor.specs.Views.{asked}
@@ -74,10 +75,10 @@ follow-accepts x word r e =
 -- ---- a list of corrections
 
 module _ (b : List ℕ) (cs : List Correction) (r : PlaneStopped) (left : List ℕ) (w : EditedAll b (map asked cs) r left) where
-  pub edit-all-accepts : Bytes b → (r .refused ≡ 0) ↔ (listAnswer planeFrames versionOne b (map asked cs) ≡ lists.done)
-  edit-all-accepts bs = ((λ z. go (listAnswer planeFrames versionOne b (map asked cs)) refl z), (λ e. ap (λ (q : PlaneStopped). q .refused) (w .answered) ∙ all-told _ e))
+  pub edit-all-accepts : Bytes b → (r .refused ≡ 0) ↔ (listAnswer planeFrames versionTwo b (map asked cs) ≡ lists.done)
+  edit-all-accepts bs = ((λ z. go (listAnswer planeFrames versionTwo b (map asked cs)) refl z), (λ e. ap (λ (q : PlaneStopped). q .refused) (w .answered) ∙ all-told _ e))
     where
-      go : (x : ListAnswer) → listAnswer planeFrames versionOne b (map asked cs) ≡ x → r .refused ≡ 0 → x ≡ lists.done
+      go : (x : ListAnswer) → listAnswer planeFrames versionTwo b (map asked cs) ≡ x → r .refused ≡ 0 → x ≡ lists.done
       go lists.done e z = refl
       go (lists.stopped i n p) e z =
           let h : 1 ≤ n = edit-all-numbered cs 0 b bs i n p e in
@@ -85,9 +86,9 @@ module _ (b : List ℕ) (cs : List Correction) (r : PlaneStopped) (left : List �
           absurd (omega arith)
 
   pub edit-all-leaves : 1 ≤ r .refused → StoppedAt b cs (r .position) (record { number = r .refused; place = r .place }) left
-  edit-all-leaves l = go (listAnswer planeFrames versionOne b (map asked cs)) refl
+  edit-all-leaves l = go (listAnswer planeFrames versionTwo b (map asked cs)) refl
     where
-      go : (x : ListAnswer) → listAnswer planeFrames versionOne b (map asked cs) ≡ x → StoppedAt b cs (r .position) (record { number = r .refused; place = r .place }) left
+      go : (x : ListAnswer) → listAnswer planeFrames versionTwo b (map asked cs) ≡ x → StoppedAt b cs (r .position) (record { number = r .refused; place = r .place }) left
       go lists.done e = let z : r .refused ≡ 0 = ap (λ (q : PlaneStopped). q .refused) (w .answered) ∙ all-told _ e in absurd (omega arith)
       go (lists.stopped i n p) e =
           let s : record { refused = n; place = p; position = i } ≡ r = sym (w .answered ∙ stopped-told _ i n p e) in

@@ -3,7 +3,7 @@
 use Prim.Native.Nat.{ℕ, _≤_}
 use mathlib.Core.Path.{_≡_, refl, sym, ap, ap₂, _∙_}
 use mathlib.Core.Logic.{_↔_}
-use mathlib.Core.List.{[], _∷_}
+use mathlib.Core.List.{List, [], _∷_}
 use mathlib.Core.Option.{Option, none, some}
 use native.Mathlib.Omega.{arith}
 use lib.Dec.{eqb}
@@ -18,6 +18,7 @@ use Rattle.format.specs.Questions.{IndexedShown, Began, Event}
 use Rattle.format.specs.Writing.{given}
 use Rattle.follower.specs.Follow as follow
 use Rattle.runs.specs.Assembly.{Open, Assembler, Taken, after}
+use Rattle.ledger.specs.VersionTwo.{timeIn}
 use Rattle.corrections.specs.Lists as lists
 use Rattle.corrections.specs.Lists.{ListAnswer, stopped}
 use Rattle.book.proofs.Unique.{undone}
@@ -27,9 +28,9 @@ use Rattle.exports.specs.declared.answers.PlaneFound.{PlaneFound}
 use Rattle.exports.specs.declared.answers.PlaneEvent.{PlaneEvent}
 use Rattle.exports.specs.declared.answers.PlaneFollower.{PlaneFollower}
 use Rattle.exports.specs.declared.answers.PlaneAssembler.{PlaneAssembler}
-use Rattle.exports.specs.Flat.{kindNumber, flatDone, flatFrame, flatItem, flatFound, isThere, kindTold, timestampTold, sizeTold, flatEvent, flatWord, flatWritten, flatFollower, flatFollowed, flatAssemblerBy, flatAssembler, flatTaken, flatRecord, flatEntry, flatStopped}
+use Rattle.exports.specs.Flat.{kindNumber, flatDone, flatFrame, flatItem, flatFound, isThere, kindTold, timestampTold, sizeTold, flatEvent, flatWord, flatWritten, flatFollower, flatFollowed, flatAssemblerBy, flatAssembler, flatTaken, flatRecord, timeKept, flatEntry, flatStopped}
 use Rattle.exports.specs.Given.{followerOf, currentOf, assemblerOf, kindOf, tokenOf}
-use Rattle.exports.specs.FlatTells.{Numbered, Tells, FrameSeen, seenFrame, seenEntry}
+use Rattle.exports.specs.FlatTells.{Numbered, Tells, FrameSeen, seenFrame, seenTime, seenEntry}
 
 -- ---- numbers of classes and kinds
 
@@ -211,10 +212,19 @@ pub record-tells : Tells (λ x. x) flatRecord (λ r. r .refused) (λ r. r .place
 unfolding flatRecord
 record-tells = record { accepts = λ a. refl; contains = λ a. refl; numbers = λ n p. refl; places = λ n p. refl }
 
+time-back : (x : List ℕ) → pick (eqb (timeKept x) 0) [] (timeIn x ∷ []) ≡ seenTime x
+time-back [] = refl
+time-back (t ∷ x) = refl
+
 pub entry-tells : Tells seenEntry flatEntry (λ r. r .refused) (λ r. r .place)
-    (λ r. record { word = r .word; kind = r .kind; old = r .«old_value»; new = r .«new_value»; operator = r .«operator_id»; reason = r .reason; extra = [] })
+    (λ r. record { word = r .word; kind = r .kind; old = r .«old_value»; new = r .«new_value»; operator = r .«operator_id»; reason = r .reason; extra = pick (eqb (r .timed) 0) [] (r .time ∷ []) })
 unfolding flatEntry
-entry-tells = record { accepts = λ a. refl; contains = λ a. refl; numbers = λ n p. refl; places = λ n p. refl }
+entry-tells = record {
+  accepts = λ a. refl;
+  contains = λ a. ap (λ (x : List ℕ). record { word = a .word; kind = a .kind; old = a .old; new = a .new; operator = a .operator; reason = a .reason; extra = x }) (time-back (a .extra));
+  numbers = λ n p. refl;
+  places = λ n p. refl;
+}
 
 -- where a list stopped can be read off its flat form, and that it did not
 pub stopped-told : (x : ListAnswer) (i n p : ℕ) → x ≡ stopped i n p → flatStopped x ≡ record { refused = n; place = p; position = i }

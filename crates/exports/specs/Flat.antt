@@ -2,6 +2,7 @@
 -- its place; what an answer does not use is 0.
 -- Assumes nothing.
 use Prim.Native.Nat.{ℕ}
+use mathlib.Core.List.{List, [], _∷_}
 use mathlib.Core.Option.{Option, none, some}
 use Rattle.format.specs.Answers as answers
 use Rattle.format.specs.Answers.{Outcome}
@@ -15,6 +16,7 @@ use Rattle.follower.specs.Follow as follow
 use Rattle.runs.specs.Assembly.{Open, Assembler, Taken}
 use Rattle.ledger.specs.Formats as formats
 use Rattle.ledger.specs.Calls.{Summary}
+use Rattle.ledger.specs.VersionTwo.{timeIn}
 use Rattle.corrections.specs.Lists as lists
 use Rattle.corrections.specs.Lists.{ListAnswer}
 use Rattle.exports.specs.declared.answers.PlaneDone.{PlaneDone}
@@ -150,9 +152,14 @@ unfoldable pub flatRecord : Outcome Summary → PlaneRecord
 flatRecord (answers.accepted x) = record { refused = 0; place = 0; length = x .length; count = x .count; total = x .total }
 flatRecord (answers.refused n p) = record { refused = n; place = p; length = 0; count = 0; total = 0 }
 
+-- whether a time stands after the reason
+abbrev pub timeKept : List ℕ → ℕ
+timeKept [] = 0
+timeKept (t ∷ x) = 1
+
 unfoldable pub flatEntry : Outcome formats.Entry → PlaneEntry
-flatEntry (answers.accepted e) = record { refused = 0; place = 0; word = e .word; kind = e .kind; «old_value» = e .old; «new_value» = e .new; «operator_id» = e .operator; reason = e .reason }
-flatEntry (answers.refused n p) = record { refused = n; place = p; word = 0; kind = 0; «old_value» = 0; «new_value» = 0; «operator_id» = 0; reason = 0 }
+flatEntry (answers.accepted e) = record { refused = 0; place = 0; word = e .word; kind = e .kind; «old_value» = e .old; «new_value» = e .new; «operator_id» = e .operator; reason = e .reason; timed = timeKept (e .extra); time = timeIn (e .extra) }
+flatEntry (answers.refused n p) = record { refused = n; place = p; word = 0; kind = 0; «old_value» = 0; «new_value» = 0; «operator_id» = 0; reason = 0; timed = 0; time = 0 }
 
 unfoldable pub flatStopped : ListAnswer → PlaneStopped
 flatStopped lists.done = record { refused = 0; place = 0; position = 0 }

@@ -2,7 +2,7 @@
 -- Assumes nothing.
 use Prim.Native.Nat.{ℕ, _≤_}
 use mathlib.Core.Path.{_≡_}
-use mathlib.Core.List.{[]}
+use mathlib.Core.List.{List, [], _∷_}
 use Rattle.format.specs.Answers.{Outcome, accepted, refused}
 use Rattle.format.specs.Rules.{Kind}
 use Rattle.format.specs.Steps.{Overview}
@@ -19,7 +19,7 @@ pub record Tells {A B R : Type 0} (seen : A → B) (flat : Outcome A → R) (num
   pub numbers : (n p : ℕ) → number (flat (refused n p)) ≡ n
   pub places : (n p : ℕ) → place (flat (refused n p)) ≡ p
 
--- ---- what document 01 answers, where the meaning holds more: of a frame not the state behind its items, of an entry nothing after the reason
+-- ---- what document 01 answers, where the meaning holds more: of a frame not the state behind its items, of an entry not the desk, which is 0
 
 pub record FrameSeen : Type 0 where
   pub kind : Kind
@@ -30,5 +30,10 @@ pub record FrameSeen : Type 0 where
 abbrev pub seenFrame : Overview → FrameSeen
 seenFrame f = record { kind = f .kind; card = f .card; sequence = f .sequence; items = f .items }
 
+-- the time, where one is kept
+abbrev pub seenTime : List ℕ → List ℕ
+seenTime [] = []
+seenTime (t ∷ x) = t ∷ []
+
 abbrev pub seenEntry : Entry → Entry
-seenEntry e = record { word = e .word; kind = e .kind; old = e .old; new = e .new; operator = e .operator; reason = e .reason; extra = [] }
+seenEntry e = record { word = e .word; kind = e .kind; old = e .old; new = e .new; operator = e .operator; reason = e .reason; extra = seenTime (e .extra) }

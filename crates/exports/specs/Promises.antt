@@ -16,7 +16,8 @@ use Rattle.runs.specs.Assembly as runs
 use Rattle.runs.specs.Assembly.{new, giveUp}
 use Rattle.ledger.specs.Formats.{Correction}
 use Rattle.ledger.specs.Calls.{recordAnswer, entryAnswer, openAnswer, openExit, editAnswer, editExit, restoreAnswer, restoreExit}
-use Rattle.ledger.specs.VersionOne.{versionOne}
+use Rattle.ledger.specs.VersionTwo.{versionTwo}
+use Rattle.ledger.specs.Versions.{formatIn}
 use Rattle.ledger.specs.PlaneFrames.{planeFrames}
 use Rattle.corrections.specs.Lists.{listAnswer, listExit}
 use Rattle.exports.specs.declared.answers.PlaneDone.{PlaneDone}
@@ -76,10 +77,10 @@ abbrev pub GivenUpTold : PlaneAssembler → PlaneAssembler → Type 0
 GivenUpTold assembler r = r ≡ flatAssembler (giveUp (assemblerOf assembler))
 
 abbrev pub RecordTold : List ℕ → PlaneRecord → Type 0
-RecordTold b r = r ≡ flatRecord (recordAnswer planeFrames versionOne b)
+RecordTold b r = r ≡ flatRecord (recordAnswer planeFrames (formatIn b) b)
 
 abbrev pub EntryTold : List ℕ → ℕ → PlaneEntry → Type 0
-EntryTold b n r = r ≡ flatEntry (entryAnswer planeFrames versionOne b n)
+EntryTold b n r = r ≡ flatEntry (entryAnswer planeFrames (formatIn b) b n)
 
 -- ---- an answer and the memory it leaves, whole
 
@@ -106,13 +107,13 @@ abbrev pub Closed : List ℕ → ℕ → PlaneWritten → List ℕ → Type 0
 Closed found n = Leaves (flatWritten (closeAnswer found n)) (closeLeft found n)
 
 abbrev pub Opened : List ℕ → List ℕ → PlaneDone → List ℕ → Type 0
-Opened f found = Leaves (flatDone (openAnswer planeFrames versionOne f found)) (openExit planeFrames versionOne f found)
+Opened f found = Leaves (flatDone (openAnswer planeFrames versionTwo f found)) (openExit planeFrames versionTwo f found)
 
 abbrev pub Edited : List ℕ → Correction → PlaneDone → List ℕ → Type 0
-Edited found c = Leaves (flatDone (editAnswer planeFrames versionOne found c)) (editExit planeFrames versionOne found c)
+Edited found c = Leaves (flatDone (editAnswer planeFrames versionTwo found c)) (editExit planeFrames versionTwo found c)
 
 abbrev pub EditedAll : List ℕ → List Correction → PlaneStopped → List ℕ → Type 0
-EditedAll found cs = Leaves (flatStopped (listAnswer planeFrames versionOne found cs)) (listExit planeFrames versionOne found cs)
+EditedAll found cs = Leaves (flatStopped (listAnswer planeFrames versionTwo found cs)) (listExit planeFrames versionTwo found cs)
 
 abbrev pub Restored : List ℕ → ℕ → List ℕ → PlaneDone → List ℕ → Type 0
-Restored b k found = Leaves (flatDone (restoreAnswer planeFrames versionOne b k found)) (restoreExit planeFrames versionOne b k found)
+Restored b k found = Leaves (flatDone (restoreAnswer planeFrames (formatIn b) b k found)) (restoreExit planeFrames (formatIn b) b k found)

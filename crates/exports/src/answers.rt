@@ -147,7 +147,8 @@ pub struct PlaneRecord {
     pub total: usize,
 }
 
-// An entry of a record's history: the value at a word, of a sample (kind 1) or a bin (kind 2), was changed.
+// An entry of a record's history: the value at a word, of a sample (kind 1) or a bin (kind 2), was changed. Of a record of version 2 it has the time
+// that was given, and `timed` is 1; of version 1 both are 0.
 #[repr(C)]
 pub struct PlaneEntry {
     pub refused: u32,
@@ -158,6 +159,8 @@ pub struct PlaneEntry {
     pub new_value: u32,
     pub operator_id: u16,
     pub reason: u16,
+    pub timed: u8,
+    pub time: u64,
 }
 
 // Where a list of corrections stopped: the refusal of the first that was refused, and its position in the list, from 0. Those before it stand. All

@@ -1,10 +1,11 @@
 // The calls on a record.
 ghost use mathlib.Core.Path.{_≡_};
 ghost use mathlib.Core.List.{map};
-ghost use Rattle.records.specs.Views.{viewRecord, viewEntry};
+ghost use Rattle.ledger.specs.VersionTwo.{timeIn};
+ghost use Rattle.records.specs.Views.{viewRecord, viewStamp, viewEntry};
 ghost use Rattle.editor.specs.Views.{viewDone, asked};
 ghost use Rattle.corrections.specs.Views.{viewCorrected};
-ghost use Rattle.exports.specs.Flat.{flatDone, flatRecord, flatEntry, flatStopped};
+ghost use Rattle.exports.specs.Flat.{flatDone, flatRecord, timeKept, flatEntry, flatStopped};
 ghost use Rattle.exports.specs.Promises.{RecordTold, EntryTold, Opened, Edited, EditedAll, Restored};
 use crate::answers::PlaneDone;
 use crate::answers::PlaneEntry;
@@ -19,6 +20,7 @@ use editor::opening::open;
 use editor::restoring::restore;
 use records::answers::EntryFound;
 use records::answers::RecordFound;
+use records::answers::Stamp;
 use records::entry;
 use records::record;
 
@@ -51,20 +53,41 @@ pub extern "C" fn plane_record(buffer: &[u8]) -> PlaneRecord
     flat_record(record(buffer))
 }
 
+// Whether an entry keeps a time, and which; the desk is 0 in every record that is accepted.
+struct Kept {
+    timed: u8,
+    time: u64,
+}
+
+fn kept_of(stamp: Stamp) -> Kept
+    ensures { λ r. ⌜ (r .timed ≡ timeKept (viewStamp stamp)) × (r .time ≡ timeIn (viewStamp stamp)) ⌝ }
+{
+    match stamp {
+        Stamp::Missing => Kept { timed: 0, time: 0 },
+        Stamp::Given(time, _desk) => Kept { timed: 1, time },
+    }
+}
+
 fn flat_entry(found: EntryFound) -> PlaneEntry
     ensures { λ r. ⌜ r ≡ flatEntry (viewEntry found) ⌝ }
 {
     match found {
-        EntryFound::Entry(x) => PlaneEntry {
-            refused: 0,
-            place: 0,
-            word: x.word,
-            kind: x.kind,
-            old_value: x.old,
-            new_value: x.new,
-            operator_id: x.operator,
-            reason: x.reason,
-        },
+        EntryFound::Entry(x) => {
+            let stamp = x.stamp;
+            let kept = kept_of(stamp);
+            PlaneEntry {
+                refused: 0,
+                place: 0,
+                word: x.word,
+                kind: x.kind,
+                old_value: x.old,
+                new_value: x.new,
+                operator_id: x.operator,
+                reason: x.reason,
+                timed: kept.timed,
+                time: kept.time,
+            }
+        }
         EntryFound::Refused(r) => PlaneEntry {
             refused: r.number,
             place: r.place,
@@ -74,6 +97,8 @@ fn flat_entry(found: EntryFound) -> PlaneEntry
             new_value: 0,
             operator_id: 0,
             reason: 0,
+            timed: 0,
+            time: 0,
         },
     }
 }

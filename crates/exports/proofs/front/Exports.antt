@@ -21,7 +21,8 @@ use Rattle.follower.specs.Follow as follow
 use Rattle.runs.specs.Assembly.{Taken, take, after}
 use Rattle.ledger.specs.Formats as formats
 use Rattle.ledger.specs.Calls.{Summary, recordAnswer, entryAnswer, openAnswer, editAnswer, restoreAnswer}
-use Rattle.ledger.specs.VersionOne.{versionOne}
+use Rattle.ledger.specs.VersionTwo.{versionTwo}
+use Rattle.ledger.specs.Versions.{formatIn}
 use Rattle.ledger.specs.PlaneFrames.{planeFrames}
 use Rattle.ledger.proofs.calls.Writes.{open-found, edit-found, restore-found}
 use Rattle.editor.specs.declared.editing.Correction.{Correction}
@@ -133,39 +134,39 @@ take-goes-on x s = takes-on x (take (assemblerOf x) s)
 -- ---- records
 
 module _ (b : List ℕ) (bs : Bytes b) where
-  pub record-accepts : (r : PlaneRecord) → r ≡ flatRecord (recordAnswer planeFrames versionOne b) → (r .refused ≡ 0) ↔ ((x : Summary) × (recordAnswer planeFrames versionOne b ≡ accepted x))
+  pub record-accepts : (r : PlaneRecord) → r ≡ flatRecord (recordAnswer planeFrames (formatIn b) b) → (r .refused ≡ 0) ↔ ((x : Summary) × (recordAnswer planeFrames (formatIn b) b ≡ accepted x))
   record-accepts = exactly _ _ _ _ _ record-tells _ (numbers.record-numbered b bs)
 
-  pub entry-accepts : (j : ℕ) (r : PlaneEntry) → r ≡ flatEntry (entryAnswer planeFrames versionOne b j) → (r .refused ≡ 0) ↔ ((x : formats.Entry) × (entryAnswer planeFrames versionOne b j ≡ accepted x))
+  pub entry-accepts : (j : ℕ) (r : PlaneEntry) → r ≡ flatEntry (entryAnswer planeFrames (formatIn b) b j) → (r .refused ≡ 0) ↔ ((x : formats.Entry) × (entryAnswer planeFrames (formatIn b) b j ≡ accepted x))
   entry-accepts j = exactly _ _ _ _ _ entry-tells _ (numbers.entry-numbered b bs j)
 
   module _ (r : PlaneDone) (left : List ℕ) where
     -- of the frame b
-    pub open-accepts : (buf : List ℕ) → Opened b buf r left → (r .refused ≡ 0) ↔ ((u : Unit {0}) × (openAnswer planeFrames versionOne b buf ≡ accepted u))
+    pub open-accepts : (buf : List ℕ) → Opened b buf r left → (r .refused ≡ 0) ↔ ((u : Unit {0}) × (openAnswer planeFrames versionTwo b buf ≡ accepted u))
     open-accepts buf w = exactly _ _ _ _ _ done-tells _ (numbers.open-numbered b bs buf) r (w .answered)
 
-    pub edit-accepts : (c : Correction) → Edited b (asked c) r left → (r .refused ≡ 0) ↔ ((u : Unit {0}) × (editAnswer planeFrames versionOne b (asked c) ≡ accepted u))
+    pub edit-accepts : (c : Correction) → Edited b (asked c) r left → (r .refused ≡ 0) ↔ ((u : Unit {0}) × (editAnswer planeFrames versionTwo b (asked c) ≡ accepted u))
     edit-accepts c w = exactly _ _ _ _ _ done-tells _ (numbers.edit-numbered b bs c) r (w .answered)
 
-    pub restore-accepts : (k : ℕ) (out : List ℕ) → Restored b k out r left → (r .refused ≡ 0) ↔ ((u : Unit {0}) × (restoreAnswer planeFrames versionOne b k out ≡ accepted u))
+    pub restore-accepts : (k : ℕ) (out : List ℕ) → Restored b k out r left → (r .refused ≡ 0) ↔ ((u : Unit {0}) × (restoreAnswer planeFrames (formatIn b) b k out ≡ accepted u))
     restore-accepts k out w = exactly _ _ _ _ _ done-tells _ (numbers.restore-numbered b bs k out) r (w .answered)
 
 module _ (b : List ℕ) (r : PlaneDone) (left : List ℕ) (l : 1 ≤ r .refused) where
   -- of the frame f, in b
   pub open-leaves : (f : List ℕ) → Opened f b r left → left ≡ b
-  open-leaves f w = kept _ _ _ _ _ done-tells _ _ b (open-found planeFrames versionOne f b) r left w l
+  open-leaves f w = kept _ _ _ _ _ done-tells _ _ b (open-found planeFrames versionTwo f b) r left w l
 
   pub edit-leaves : (c : Correction) → Edited b (asked c) r left → left ≡ b
-  edit-leaves c w = kept _ _ _ _ _ done-tells _ _ b (edit-found planeFrames versionOne b (asked c)) r left w l
+  edit-leaves c w = kept _ _ _ _ _ done-tells _ _ b (edit-found planeFrames versionTwo b (asked c)) r left w l
 
   pub restore-leaves : (k : ℕ) (out : List ℕ) → Restored b k out r left → left ≡ out
-  restore-leaves k out w = kept _ _ _ _ _ done-tells _ _ out (restore-found planeFrames versionOne b k out) r left w l
+  restore-leaves k out w = kept _ _ _ _ _ done-tells _ _ out (restore-found planeFrames (formatIn b) b k out) r left w l
 
 -- ---- a list of corrections: where it stops, the corrections before its position were made, one by one, and the one there is refused on what they left
 -- (corrections' specs/Singly.antt, `StoppedAt`)
 
 module _ (b : List ℕ) (cs : List Correction) (r : PlaneStopped) (left : List ℕ) (w : EditedAll b (map asked cs) r left) where
-  pub edit-all-accepts : Bytes b → (r .refused ≡ 0) ↔ (listAnswer planeFrames versionOne b (map asked cs) ≡ lists.done)
+  pub edit-all-accepts : Bytes b → (r .refused ≡ 0) ↔ (listAnswer planeFrames versionTwo b (map asked cs) ≡ lists.done)
   edit-all-accepts = law.edit-all-accepts b cs r left w
 
   pub edit-all-leaves : 1 ≤ r .refused → StoppedAt b cs (r .position) (record { number = r .refused; place = r .place }) left
