@@ -22,7 +22,7 @@ pub(crate) struct Case {
 }
 
 // The number of 8 bytes that begins with the two numbers of 4 bytes.
-fn number(low: u32, high: u32) -> u64
+pub(crate) fn number(low: u32, high: u32) -> u64
     ensures { λ r. ⌜ r ≡ low + 4294967296 * high ⌝ }
 {
     low as u64 + 4294967296 * (high as u64)
@@ -163,7 +163,7 @@ impl Case {
                 Case::LONG,
                 Case::LONG,
                 Case::LONG,
-                0,
+                u64::MAX,
                 true,
                 false,
             ),

@@ -4,6 +4,7 @@ ghost use mathlib.Core.List.{map};
 ghost use lib.ListN.{take};
 ghost use Rattle.editor.specs.Views.{asked};
 ghost use Rattle.exports.specs.Promises.{EditedAll};
+use crate::cases::number;
 use crate::reply;
 use crate::reply::Reply;
 use crate::reply::no_case;
@@ -25,24 +26,8 @@ fn correction_at(q: &[u8], i: u16) -> Correction {
         value: long(q, w + 2),
         operator: long(q, w + 4),
         reason: long(q, w + 6),
+        time: number(long(q, w + 8), long(q, w + 10)),
     }
-}
-
-// Whether correction i has no time: there is none to be kept yet.
-fn is_timeless(q: &[u8], i: u16) -> bool {
-    let w = 12 * (i as usize);
-    (long(q, w + 8) == 0) & (long(q, w + 10) == 0)
-}
-
-// Whether no correction of the payload has a time.
-fn all_timeless(q: &[u8]) -> bool {
-    let mut timeless = true;
-    let mut i = 0;
-    while i < MOST {
-        timeless = timeless & is_timeless(q, i);
-        i += 1;
-    }
-    timeless
 }
 
 // The corrections of the payload; behind its end they are all zeros.
@@ -73,7 +58,7 @@ fn stopped(x: PlaneStopped) -> Reply {
     reply::line(
         Reply::REFUSED,
         Reply::AT_POSITION,
-        [number, x.place as u64, x.position as u64, 0, 0, 0],
+        [number, x.place as u64, x.position as u64, 0, 0, 0, 0],
     )
 }
 
@@ -83,7 +68,7 @@ pub(crate) fn edit_all(p: &mut [u8], q: &[u8]) -> Reply {
     if 1024 < n {
         return no_case();
     }
-    if (q.len() % SIZE != 0) | !all_timeless(q) {
+    if q.len() % SIZE != 0 {
         return no_case();
     }
     stopped(edit_first(p, corrections_of(q), n))

@@ -18,13 +18,14 @@ pub(crate) fn open(p: &mut [u8], q: &[u8]) -> Reply {
     done(plane_open(p, q))
 }
 
-// Op 15: edits p: word a0, value a1, operator a2, reason a3.
+// Op 15: edits p: word a0, value a1, operator a2, reason a3, time a4.
 pub(crate) fn edit(case: Case, p: &mut [u8]) -> Reply {
     let c = Correction {
         word: case.a0 as usize,
         value: low32(case.a1),
         operator: low32(case.a2),
         reason: low32(case.a3),
+        time: case.a4,
     };
     done(plane_edit(p, c))
 }

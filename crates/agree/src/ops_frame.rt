@@ -28,6 +28,7 @@ pub(crate) fn read(p: &[u8]) -> Reply {
         x.items as u64,
         0,
         0,
+        0,
     ];
     reply::answer(x.refused, x.place, Reply::OK, 0x1112, values)
 }
@@ -71,7 +72,7 @@ pub(crate) fn item(case: Case, p: &[u8]) -> Reply {
     let x = plane_item(p, case.a0 as usize);
     let item = x.item;
     let f = fields_of(item);
-    let values = [item.item_class as u64, f.a, f.b, f.c, x.next as u64, 0];
+    let values = [item.item_class as u64, f.a, f.b, f.c, x.next as u64, 0, 0];
     reply::answer(x.refused, x.place, Reply::OK, f.styles, values)
 }
 

@@ -32,6 +32,7 @@ pub(crate) fn event(case: Case, p: &[u8]) -> Reply {
         x.size as u64,
         x.index as u64,
         0,
+        0,
     ];
     reply::answer(x.refused, x.place, Reply::OK, styles, values)
 }

@@ -18,6 +18,14 @@ pub(crate) fn record(p: &[u8]) -> Reply {
     )
 }
 
+// The values of an entry: with the time, where it keeps one.
+fn entry_styles(timed: u8) -> u32 {
+    if timed == 0 {
+        return Reply::SIX;
+    }
+    Reply::SEVEN
+}
+
 // Op 13: entry a0 of the record p.
 pub(crate) fn entry(case: Case, p: &[u8]) -> Reply {
     let x = plane_entry(p, case.a0 as usize);
@@ -28,6 +36,8 @@ pub(crate) fn entry(case: Case, p: &[u8]) -> Reply {
         x.new_value as u64,
         x.operator_id as u64,
         x.reason as u64,
+        x.time,
     ];
-    reply::answer(x.refused, x.place, Reply::OK, Reply::SIX, values)
+    let styles = entry_styles(x.timed);
+    reply::answer(x.refused, x.place, Reply::OK, styles, values)
 }

@@ -61,7 +61,7 @@ fn is_run(p: &[u8]) -> bool {
 // Op 20: the line is the run's.
 pub(crate) fn run(p: &[u8]) -> Reply {
     if is_run(p) {
-        return reply::line(Reply::RUN, 0, [0; 6]);
+        return reply::line(Reply::RUN, 0, [0; 7]);
     }
     reply::no_case()
 }
@@ -73,7 +73,7 @@ struct Stepped {
 }
 
 fn given_up(a: PlaneAssembler) -> Stepped {
-    let told = reply::line(Reply::GIVEN, 0x6, [0; 6]);
+    let told = reply::line(Reply::GIVEN, 0x6, [0; 7]);
     let next = plane_give_up(a);
     Stepped { told, next }
 }
@@ -87,7 +87,7 @@ fn step_of(a: PlaneAssembler, step: &[u8]) -> Stepped {
         return given_up(a);
     }
     let x = plane_take(a, &step[2..]);
-    let lost = [x.lost as u64, 0, 0, 0, 0, 0];
+    let lost = [x.lost as u64, 0, 0, 0, 0, 0, 0];
     let told = reply::answer(x.refused, x.place, Reply::LOST, Reply::ONE, lost);
     let next = x.next;
     Stepped { told, next }
@@ -96,12 +96,12 @@ fn step_of(a: PlaneAssembler, step: &[u8]) -> Stepped {
 // What is open at the end.
 fn at_end(a: PlaneAssembler) -> Reply {
     if a.open == 0 {
-        return reply::line(Reply::NONE, 0, [0; 6]);
+        return reply::line(Reply::NONE, 0, [0; 7]);
     }
     reply::line(
         Reply::OPEN,
         Reply::TWO,
-        [a.number as u64, a.size as u64, 0, 0, 0, 0],
+        [a.number as u64, a.size as u64, 0, 0, 0, 0, 0],
     )
 }
 
@@ -155,6 +155,7 @@ pub(crate) fn step(case: Case, p: &[u8]) -> Reply {
         next.number as u64,
         next.size as u64,
         (next.key % 2048) as u64,
+        0,
     ];
     reply::answer(x.refused, x.place, Reply::OK, Reply::SIX, values)
 }

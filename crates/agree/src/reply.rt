@@ -13,7 +13,7 @@ pub(crate) struct Reply {
     pub word: u64,
     // How each value is written: four bits for each, those of the first lowest.
     pub styles: u32,
-    pub values: [u64; 6],
+    pub values: [u64; 7],
     // Whether a buffer was lent to be written, its length in elements and its check sum.
     pub lent: bool,
     pub elements: usize,
@@ -48,6 +48,8 @@ impl Reply {
 
     pub const SIX: u32 = 0x111111;
 
+    pub const SEVEN: u32 = 0x1111111;
+
     // And of a refusal: its number, then its place behind the word "at".
     pub const AT_PLACE: u32 = 0x51;
 
@@ -71,7 +73,7 @@ const UP: u32 = 6;
 const POSITION: u32 = 7;
 
 // A whole line that lends nothing.
-pub(crate) fn line(word: u64, styles: u32, values: [u64; 6]) -> Reply {
+pub(crate) fn line(word: u64, styles: u32, values: [u64; 7]) -> Reply {
     Reply {
         opens: true,
         ends: true,
@@ -97,7 +99,7 @@ pub(crate) fn stretch(x: Reply) -> Reply {
 pub(crate) fn opening() -> Reply {
     Reply {
         ends: false,
-        ..line(Reply::OK, 0, [0; 6])
+        ..line(Reply::OK, 0, [0; 7])
     }
 }
 
@@ -111,7 +113,7 @@ pub(crate) fn answer(
     place: usize,
     word: u64,
     styles: u32,
-    values: [u64; 6],
+    values: [u64; 7],
 ) -> Reply {
     if refused == 0 {
         return line(word, styles, values);
@@ -120,18 +122,18 @@ pub(crate) fn answer(
     line(
         Reply::REFUSED,
         Reply::AT_PLACE,
-        [number, place as u64, 0, 0, 0, 0],
+        [number, place as u64, 0, 0, 0, 0, 0],
     )
 }
 
 // The same, with "ok" and three numbers at most.
 pub(crate) fn few(refused: u32, place: usize, styles: u32, a: u64, b: u64, c: u64) -> Reply {
-    answer(refused, place, Reply::OK, styles, [a, b, c, 0, 0, 0])
+    answer(refused, place, Reply::OK, styles, [a, b, c, 0, 0, 0, 0])
 }
 
 // No listed op, or arguments that no case has.
 pub(crate) fn no_case() -> Reply {
-    line(Reply::BAD_CASE, 0, [0; 6])
+    line(Reply::BAD_CASE, 0, [0; 7])
 }
 
 // With a lent buffer, by its length and check sum.
@@ -211,7 +213,7 @@ fn word_piece(style: u32, value: u64) -> Piece {
 // Piece k of the values: of each value its word and its number.
 fn value_piece(x: Reply, k: u8) -> Piece {
     let i = k / 2;
-    if 6 <= i {
+    if 7 <= i {
         return number(false, 0);
     }
     let value = x.values[i as usize];
@@ -241,17 +243,17 @@ fn last_piece(x: Reply, k: u8) -> Piece {
 }
 
 // How many pieces a line has at most: its word, two for each value, four at its end.
-const PIECES: u8 = 17;
+const PIECES: u8 = 19;
 
 // Piece k of a line.
 fn piece_at(x: Reply, k: u8) -> Piece {
     if k == 0 {
         return first_piece(x);
     }
-    if k < 13 {
+    if k < 15 {
         return value_piece(x, k - 1);
     }
-    last_piece(x, k - 13)
+    last_piece(x, k - 15)
 }
 
 fn byte(n: u64) -> u8 {

@@ -9,10 +9,10 @@ use Rattle.agree.proofs.reply.write.Statement.{statement}
 use Rattle.agree.proofs.reply.write.Tie as tie
 
 abbrev Inv-loop : tie.InvT-loop
-Inv-loop out₀ at x end₀ k₀ out end k = (length out ≡ length out₀) × (end ≤ length out) × (k ≤ 17)
+Inv-loop out₀ at x end₀ k₀ out end k = (length out ≡ length out₀) × (end ≤ length out) × (k ≤ 19)
 
 abbrev μ-loop : tie.MeasureT-loop
-μ-loop out₀ at x end₀ k₀ out end k = 17 - k
+μ-loop out₀ at x end₀ k₀ out end k = 19 - k
 
 loop-holds : tie.Need-loop-holds Inv-loop μ-loop
 loop-holds c = search needs
