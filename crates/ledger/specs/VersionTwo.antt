@@ -42,6 +42,13 @@ stamped version suits asked limit = record {
   limit = limit;
 }
 
--- "0 for now", whatever the item; at most 512 entries
+-- "0 for now", whatever the item
+abbrev pub noDesk : ℕ → Spot → Bool
+noDesk desk s = eqb desk 0
+
+-- at most 512 entries, whatever their times: "a clock may go back"
+abbrev pub fewEntries : List Entry → Bool
+fewEntries es = leb (length es) 512
+
 unfoldable pub versionTwo : Format
-versionTwo = stamped 2 (λ desk s. eqb desk 0) (λ desk. accepted tt) (λ es. leb (length es) 512)
+versionTwo = stamped 2 noDesk (λ desk. accepted tt) fewEntries

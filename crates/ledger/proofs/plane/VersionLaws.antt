@@ -15,7 +15,7 @@ use Rattle.format.specs.Spots.{Spot}
 use Rattle.ledger.specs.Formats.{Entry, Format, LawfulFormat, size}
 use Rattle.ledger.specs.Records.{countIn, entriesIn, length-entries}
 use Rattle.ledger.specs.VersionOne.{versionOne, noExtra}
-use Rattle.ledger.specs.VersionTwo.{timeIn, stampFits, versionTwo}
+use Rattle.ledger.specs.VersionTwo.{timeIn, stampFits, noDesk, fewEntries, versionTwo}
 use Rattle.ledger.specs.Versions.{Version, v1, v2, formatOf, versionFor, formatFor, format-for}
 use Rattle.ledger.specs.Layout.{numberOf, entrySize}
 use Rattle.ledger.specs.PlaneFrames.{Asks}
@@ -59,7 +59,7 @@ version-one-lawful = record {
 version-two-lawful : LawfulFormat versionTwo
 unfolding versionTwo
 version-two-lawful =
-    stamped-lawful 2 (λ desk s. eqb desk 0) (λ desk. accepted tt) fewEnough (omega arith) (λ d s v. refl) (λ d s t. refl) (within [] (omega arith)) older (λ d e es h. h) few
+    stamped-lawful 2 noDesk (λ desk. accepted tt) fewEntries (omega arith) (λ d s v. refl) (λ d s t. refl) (within [] (omega arith)) older (λ d e es h. h) few
 
 pub format-lawful : (v : Version) → LawfulFormat (formatOf v)
 format-lawful v1 = version-one-lawful
