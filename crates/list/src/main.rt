@@ -19,7 +19,7 @@ fn print(out: &[u8], n: usize) {
     failed();
 }
 
-// Lists a buffer by way of lent memory that holds any listing, so that it is never refused (lines/proofs/Room.antt, `always-listed`).
+// Lists a buffer by way of lent memory that holds any listing, so that it is never refused (listing/proofs/Room.antt, `always-listed`).
 fn list(buf: &[u8], out: &mut [u8]) {
     let answer = listing::listing(buf, out);
     match answer {
@@ -37,7 +37,7 @@ fn run(input: &mut [u8], out: &mut [u8]) {
 }
 
 fn main() {
-    let mut input = [0u8; 16400];
+    let mut input = [0u8; 20496];
     let mut out = [0u8; Listing::MOST];
     run(&mut input, &mut out);
 }

@@ -4,25 +4,29 @@ use Prim.Native.Nat.{ℕ, suc, _+_, _-_, _*_, _≤_, _<_}
 use mathlib.Core.Path.{_≡_, refl, sym, ap, _∙_}
 use mathlib.Core.Bool.{true, false}
 use mathlib.Core.List.{List, [], _∷_, _++_}
+use native.Mathlib.Nat.{mul-le-mul, mul-suc}
 use native.Mathlib.Numerals.{add-one}
 use native.Mathlib.Omega.{arith}
 use lib.Dec.{leb}
 use lib.ListN.{length, take, drop, length-drop}
 use lib.Seq.{sets, sets-eq, take-all, take-at}
 use borrow.Author.Tests.{le-leb, lt-leb}
+use Rattle.format.specs.Words.{wordAt}
 use Rattle.format.specs.Answers.{Outcome, Done, accepted, refused, andThen}
 use Rattle.format.specs.Frames.{Frame, verdict}
 use Rattle.format.specs.Steps.{Overview, overview, readOf}
-use Rattle.ledger.specs.Formats.{Entry}
+use Rattle.ledger.specs.Formats.{Entry, Format, size}
 use Rattle.ledger.specs.Records.{lengthIn, countIn, totalIn, frameIn, entryOf, numbered, recordVerdict}
 use Rattle.ledger.specs.Calls.{Summary, recordAnswer}
-use Rattle.ledger.specs.VersionOne.{versionOne}
+use Rattle.ledger.specs.Versions.{formatFor, formatIn}
 use Rattle.ledger.specs.PlaneFrames.{planeFrames}
 use Rattle.ledger.proofs.records.Headers.{header-words, few-entries}
 use Rattle.ledger.proofs.records.Judging.{verdict-parts}
-use Rattle.ledger.proofs.plane.VersionOneLaws.{version-one-lawful}
+use Rattle.ledger.proofs.plane.VersionLaws.{for-lawful}
 use Rattle.records.proofs.RecordLaws.{judge-refused, frame-part, room, record-known}
-use Rattle.listing.specs.Listing.{frameLine, changeText, signerText, entryLine, endLine, refusedLine, entryLines, frameOf, listingOf, listing, listingAnswer, listingExit}
+use Rattle.listing.specs.Ascii.{ascii}
+use Rattle.listing.specs.Text.{decimal}
+use Rattle.listing.specs.Listing.{frameLine, changeText, timeText, signerText, entryLine, endLine, refusedLine, entryLines, frameOf, listingOf, listing, listingAnswer, listingExit}
 use Rattle.listing.specs.Writes.{Put, Known}
 use Rattle.listing.specs.Promises.{Listed}
 use Rattle.listing.proofs.Putting.{joined}
@@ -30,61 +34,86 @@ use Rattle.listing.proofs.Putting.{joined}
 -- ---- entries
 
 -- the fields of the entry that some bytes begin with
-pub entry-text : (e : List ℕ) (j : ℕ) (x : Entry) → x ≡ entryOf versionOne e
-    → changeText j (x .word) (x .kind) (x .old) (x .new) ++ signerText (x .operator) (x .reason) ≡ entryLine j (entryOf versionOne e)
+pub entry-text : (F : Format) (e : List ℕ) (j : ℕ) (x : Entry) → x ≡ entryOf F e
+    → changeText j (x .word) (x .kind) (x .old) (x .new) ++ signerText (x .operator) (x .reason) (x .extra) ≡ entryLine j (entryOf F e)
 unfolding entryLine
-entry-text e j x i = ap (entryLine j) i
+entry-text F e j x i = ap (entryLine j) i
+
+-- what an entry keeps after the reason: nothing, or a time and a desk
+pub no-time : [] ≡ timeText []
+unfolding timeText
+no-time = refl
+
+pub time-there : (time desk : ℕ) → ascii " at " ++ decimal time ≡ timeText (time ∷ desk ∷ [])
+unfolding timeText
+time-there time desk = refl
+
+-- nothing put
+pub none-written : (l : List ℕ) (at most : ℕ) → Put most l at [] l at
+none-written l at most = record { stored = refl; behind = omega arith; few = omega arith }
+
+-- the entry after j others, at byte `from`, lies in the buffer, and the next begins where it ends
+pub record Upper (F : Format) (b : List ℕ) (j s from : ℕ) : Type 0 where
+  pub inside : from + s ≤ length b
+  pub begins : from + s ≡ 16 + lengthIn b + size F * (j + 1)
+
+pub upper : (F : Format) (b : List ℕ) (j n s from : ℕ) → j < n → from ≡ 16 + lengthIn b + size F * j → 16 + lengthIn b + size F * n ≤ length b → s ≡ size F → Upper F b j s from
+upper F b j n s from l e r z =
+    let k = mul-suc (size F) j in
+    let h : size F ≤ size F = omega arith in
+    let q : suc j ≤ n = omega arith in
+    let m : size F * suc j ≤ size F * n = mul-le-mul h q in
+    record { inside = omega arith; begins = rw (add-one j) (let g : from + s ≡ 16 + lengthIn b + size F * suc j = omega arith in g) }
 
 -- lines of no entry, of one more, and of all
-pub none-put : (b l : List ℕ) (at : ℕ) → Put (160 * 0) l at (entryLines b 0) l at
+pub none-put : (b l : List ℕ) (at : ℕ) → Put (180 * 0) l at (entryLines b 0) l at
 unfolding entryLines
 none-put b l at = record { stored = refl; behind = omega arith; few = omega arith }
 
-next-entry : (b : List ℕ) (j from : ℕ) → from ≡ 16 + lengthIn b + 16 * j → from ≤ length b
-    → entryLines b j ++ entryLine (j + 1) (entryOf versionOne (take (length b - from) (drop from b))) ≡ entryLines b (j + 1)
-unfolding entryLines numbered versionOne
-next-entry b j from e h =
+next-entry : (b : List ℕ) (version j from : ℕ) → version ≡ wordAt b 0 → from ≡ 16 + lengthIn b + size (formatFor version) * j → from ≤ length b
+    → entryLines b j ++ entryLine (j + 1) (entryOf (formatFor version) (take (length b - from) (drop from b))) ≡ entryLines b (j + 1)
+unfolding entryLines numbered
+next-entry b version j from v e h =
     let d : take (length b - from) (drop from b) ≡ drop from b = take-all (length b - from) (drop from b) (rw (length-drop from b) (omega arith)) in
     let z : suc j - 1 ≡ j = omega arith in
-    rw (d, e, add-one j, z)
+    rw (d, e, v, add-one j, z)
 
-pub more-put : (b : List ℕ) (j from : ℕ) → from ≡ 16 + lengthIn b + 16 * j → from ≤ length b → {l k o : List ℕ} {at i q : ℕ} → Put (160 * j) l at (entryLines b j) k i
-    → Put 160 k i (entryLine (j + 1) (entryOf versionOne (take (length b - from) (drop from b)))) o q
-    → Put (160 * (j + 1)) l at (entryLines b (j + 1)) o q
-more-put b j from e h p q =
-    let n : 160 * j + 160 ≡ 160 * (j + 1) = omega arith in
-    rw (next-entry b j from e h, n) at (joined p q)
+pub more-put : (b : List ℕ) (version j from : ℕ) → version ≡ wordAt b 0 → from ≡ 16 + lengthIn b + size (formatFor version) * j → from ≤ length b → {l k o : List ℕ} {at i q : ℕ} → Put (180 * j) l at (entryLines b j) k i
+    → Put 180 k i (entryLine (j + 1) (entryOf (formatFor version) (take (length b - from) (drop from b)))) o q
+    → Put (180 * (j + 1)) l at (entryLines b (j + 1)) o q
+more-put b version j from v e h p q =
+    let n : 180 * j + 180 ≡ 180 * (j + 1) = omega arith in
+    rw (next-entry b version j from v e h, n) at (joined p q)
 
-pub all-put : (b : List ℕ) (j n : ℕ) → j ≡ n → {l k : List ℕ} {at i : ℕ} → Put (160 * j) l at (entryLines b j) k i → Put (160 * n) l at (entryLines b n) k i
+pub all-put : (b : List ℕ) (j n : ℕ) → j ≡ n → {l k : List ℕ} {at i : ℕ} → Put (180 * j) l at (entryLines b j) k i → Put (180 * n) l at (entryLines b n) k i
 all-put b j n e p = rw e at p
 
 -- ---- a record
 
-module _ (b : List ℕ) (size count : ℕ) (k : Known b size count) where
-  pub inside : 16 + size + 16 * count ≤ length b
-  inside =
-      let w = room b (verdict-parts planeFrames versionOne b (k .judged) .0) .within in
-      let l = k .length in
-      let n = k .entries in
-      omega arith
+module _ (b : List ℕ) (len count : ℕ) (k : Known b len count) where
+  pub inside : (version : ℕ) → version ≡ wordAt b 0 → 16 + len + size (formatFor version) * count ≤ length b
+  inside version v = rw (v, k .length, k .entries) (room (formatIn b) b (verdict-parts planeFrames (formatIn b) b (k .judged) .0) .within)
+
+  pub frame-inside : 16 + len ≤ length b
+  frame-inside = omega (arith, inside (wordAt b 0) refl)
 
   pub few : count ≤ 512
   few =
-      let f = few-entries versionOne version-one-lawful b (header-words versionOne b (verdict-parts planeFrames versionOne b (k .judged) .0)) in
+      let f = few-entries (formatIn b) (for-lawful (wordAt b 0)) b (header-words (formatIn b) b (verdict-parts planeFrames (formatIn b) b (k .judged) .0)) in
       let n = k .entries in
       omega arith
 
-  part : take (16 + size - 16) (drop 16 b) ≡ frameIn b
-  part = frame-part b size (k .length)
+  part : take (16 + len - 16) (drop 16 b) ≡ frameIn b
+  part = frame-part b len (k .length)
 
-  pub never : {A : Type 0} (n p : ℕ) → refused n p ≡ readOf (take (16 + size - 16) (drop 16 b)) → A
-  never n p e = absurd (clash (planeFrames .judge (frameIn b)) n p (verdict-parts planeFrames versionOne b (k .judged) .1) (judge-refused (frameIn b) n p (e ∙ ap readOf part)))
+  pub never : {A : Type 0} (n p : ℕ) → refused n p ≡ readOf (take (16 + len - 16) (drop 16 b)) → A
+  never n p e = absurd (clash (planeFrames .judge (frameIn b)) n p (verdict-parts planeFrames (formatIn b) b (k .judged) .1) (judge-refused (frameIn b) n p (e ∙ ap readOf part)))
     where
       clash : (o : Done) (n p : ℕ) → o ≡ accepted tt → o ≡ refused n p → ⊥
       clash o n p f g = let z : _≡_ {A = ℕ} 0 1 = cc in omega arith
 
-  pub record-text : (x : Overview) → accepted x ≡ readOf (take (16 + size - 16) (drop 16 b))
-      → frameLine (x .kind) (x .card) (x .sequence) size (x .items) ++ entryLines b count ++ endLine count ≡ listing b
+  pub record-text : (x : Overview) → accepted x ≡ readOf (take (16 + len - 16) (drop 16 b))
+      → frameLine (x .kind) (x .card) (x .sequence) len (x .items) ++ entryLines b count ++ endLine count ≡ listing b
   unfolding listing frameOf readOf
   record-text x e = rw (k .judged, k .length, k .entries) (go (verdict (frameIn b)) (e ∙ ap readOf part))
     where
@@ -96,15 +125,15 @@ module _ (b : List ℕ) (size count : ℕ) (k : Known b size count) where
       go (accepted f) q = rw (same x (overview f) q)
       go (refused n p) q = let z : _≡_ {A = ℕ} 0 1 = cc in absurd (omega arith)
 
-pub told-known : (b : List ℕ) (x : Summary) → accepted x ≡ recordAnswer planeFrames versionOne b → Known b (x .length) (x .count)
-told-known b x e = let t = record-known b x e in record { judged = t .verdict; length = t .length; entries = t .count }
+pub told-known : (b : List ℕ) (x : Summary) → accepted x ≡ recordAnswer planeFrames (formatIn b) b → Known b (x .length) (x .count)
+told-known b x e = let t = record-known (formatIn b) b x e in record { judged = t .verdict; length = t .length; entries = t .count }
 
 abbrev lengths : List ℕ → Summary
-lengths b = record { length = lengthIn b; count = countIn b; total = totalIn versionOne b }
+lengths b = record { length = lengthIn b; count = countIn b; total = totalIn (formatIn b) b }
 
-pub refused-text : (b : List ℕ) (n p : ℕ) → refused n p ≡ recordAnswer planeFrames versionOne b → refusedLine n p ≡ listing b
+pub refused-text : (b : List ℕ) (n p : ℕ) → refused n p ≡ recordAnswer planeFrames (formatIn b) b → refusedLine n p ≡ listing b
 unfolding listing frameOf recordAnswer
-refused-text b n p e = go (recordVerdict planeFrames versionOne b) e
+refused-text b n p e = go (recordVerdict planeFrames (formatIn b) b) e
   where
     number : (m q n p : ℕ) → _≡_ {A = Outcome Summary} (refused m q) (refused n p) → m ≡ n
     number m q n p f = cc

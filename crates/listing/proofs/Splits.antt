@@ -6,14 +6,14 @@ use mathlib.Core.Bool.{Bool, true, false}
 use mathlib.Core.List.{List, [], _∷_, _++_, append-assoc}
 use native.Mathlib.Omega.{arith}
 use lib.Dec.{ltb, eqb}
-use lib.ListN.{getD, drop}
+use lib.ListN.{getD, take, drop}
 use borrow.Author.Tests.{ltb-true, ltb-false}
 use Rattle.format.specs.Words.{pick}
 use Rattle.format.specs.Rules.{Kind, dataKind, monitorKind, commandKind}
 use Rattle.ledger.specs.Formats.{Entry}
 use Rattle.listing.specs.Ascii.{ascii}
 use Rattle.listing.specs.Text.{digit, decimal, hexDigit, hex}
-use Rattle.listing.specs.Listing.{letter, kindText, frameLine, changeText, signerText, entryLine, endLine}
+use Rattle.listing.specs.Listing.{letter, kindText, frameLine, changeText, timeText, signerText, entryLine, endLine}
 use Rattle.listing.proofs.Decimals.{decimal-small, decimal-large}
 
 -- ---- decimals
@@ -187,6 +187,32 @@ frame-split k l c d s t z w i j x y h g e =
     let o = number-split i j 10 10 _ _ feed feed (ap (drop 7) (n .1)) in
     record { kind = a .0; card = b .0; sequence = m .0; size = n .0; items = o .0; after = ap (drop 1) (o .1) }
 
+-- what follows a reason begins with no digit, whether a time stands there or the line ends
+record Ended (x : List ℕ) : Type 0 where
+  first : ℕ
+  rest : List ℕ
+  begins : x ≡ first ∷ rest
+  other : Digit first → ⊥
+
+ended : (s x : List ℕ) → Ended (timeText s ++ (ascii "\n" ++ x))
+unfolding timeText
+ended [] x = record { first = 10; rest = x; begins = refl; other = feed }
+ended (t ∷ s) x = record { first = 32; rest = _; begins = refl; other = space }
+
+-- the time and whether there is one; of what else an entry keeps a line says nothing
+time-split : (s t x y : List ℕ) → timeText s ++ (ascii "\n" ++ x) ≡ timeText t ++ (ascii "\n" ++ y) → (take 1 s ≡ take 1 t) × (x ≡ y)
+unfolding timeText
+time-split [] [] x y e = (refl, ap (drop 1) e)
+time-split [] (u ∷ t) x y e = let z : _≡_ {A = ℕ} 10 32 = ap (at 0) e in absurd (omega arith)
+time-split (u ∷ s) [] x y e = let z : _≡_ {A = ℕ} 32 10 = ap (at 0) e in absurd (omega arith)
+time-split (u ∷ s) (v ∷ t) x y e =
+    let f : decimal u ++ (10 ∷ x) ≡ decimal v ++ (10 ∷ y) = ap (drop 4) (behind u x ∙ e ∙ sym (behind v y)) in
+    let r = number-split u v 10 10 x y feed feed f in
+    (ap (λ (n : ℕ). n ∷ []) (r .0), ap (drop 1) (r .1))
+  where
+    behind : (n : ℕ) (z : List ℕ) → ascii " at " ++ (decimal n ++ (10 ∷ z)) ≡ (ascii " at " ++ decimal n) ++ (10 ∷ z)
+    behind n z = sym (append-assoc (ascii " at ") (decimal n) (10 ∷ z))
+
 -- two entries as their lines show them
 pub record Alike (e f : Entry) : Type 0 where
   pub word : e .word ≡ f .word
@@ -195,23 +221,24 @@ pub record Alike (e f : Entry) : Type 0 where
   pub new : e .new ≡ f .new
   pub operator : e .operator ≡ f .operator
   pub reason : e .reason ≡ f .reason
+  pub time : take 1 (e .extra) ≡ take 1 (f .extra)
 
-regroup-entry : (a j b w k o c n d p e r f x : List ℕ)
-    → (a ++ j) ++ (b ++ w) ++ (k ++ o) ++ (c ++ n) ++ ((d ++ p) ++ (e ++ r) ++ f) ++ x
-    ≡ a ++ (j ++ (b ++ (w ++ (k ++ (o ++ (c ++ (n ++ (d ++ (p ++ (e ++ (r ++ (f ++ x))))))))))))
-regroup-entry a j b w k o c n d p e r f x = simp append-assoc
+regroup-entry : (a j b w k o c n d p e r t f x : List ℕ)
+    → (a ++ j) ++ (b ++ w) ++ (k ++ o) ++ (c ++ n) ++ ((d ++ p) ++ (e ++ r) ++ t ++ f) ++ x
+    ≡ a ++ (j ++ (b ++ (w ++ (k ++ (o ++ (c ++ (n ++ (d ++ (p ++ (e ++ (r ++ (t ++ (f ++ x)))))))))))))
+regroup-entry a j b w k o c n d p e r t f x = simp append-assoc
 
 flat-entry : (j : ℕ) (e : Entry) (x : List ℕ)
     → entryLine j e ++ x
-    ≡ ascii "edit " ++ (decimal j ++ (ascii " word " ++ (decimal (e .word) ++ (kindText (e .kind) ++ (decimal (e .old) ++ (ascii " -> " ++ (decimal (e .new) ++ (ascii " by " ++ (decimal (e .operator) ++ (ascii " reason " ++ (decimal (e .reason) ++ (ascii "\n" ++ x))))))))))))
+    ≡ ascii "edit " ++ (decimal j ++ (ascii " word " ++ (decimal (e .word) ++ (kindText (e .kind) ++ (decimal (e .old) ++ (ascii " -> " ++ (decimal (e .new) ++ (ascii " by " ++ (decimal (e .operator) ++ (ascii " reason " ++ (decimal (e .reason) ++ (timeText (e .extra) ++ (ascii "\n" ++ x)))))))))))))
 unfolding entryLine changeText signerText
 flat-entry j e x =
     regroup-entry (ascii "edit ") (decimal j) (ascii " word ") (decimal (e .word)) (kindText (e .kind)) (decimal (e .old)) (ascii " -> ") (decimal (e .new)) (ascii " by ")
-    (decimal (e .operator)) (ascii " reason ") (decimal (e .reason)) (ascii "\n") x
+    (decimal (e .operator)) (ascii " reason ") (decimal (e .reason)) (timeText (e .extra)) (ascii "\n") x
 
 -- what follows the kind
 abbrev values : Entry → List ℕ → List ℕ
-values e x = decimal (e .old) ++ (ascii " -> " ++ (decimal (e .new) ++ (ascii " by " ++ (decimal (e .operator) ++ (ascii " reason " ++ (decimal (e .reason) ++ (ascii "\n" ++ x)))))))
+values e x = decimal (e .old) ++ (ascii " -> " ++ (decimal (e .new) ++ (ascii " by " ++ (decimal (e .operator) ++ (ascii " reason " ++ (decimal (e .reason) ++ (timeText (e .extra) ++ (ascii "\n" ++ x))))))))
 
 -- what follows an entry's word begins with a space, whichever kind it is
 spaced : (k : ℕ) (x : List ℕ) → (y : List ℕ) × (kindText k ++ x ≡ 32 ∷ y)
@@ -232,8 +259,11 @@ entry-split j e f x y q =
     let o = number-split (e .old) (f .old) 32 32 _ _ space space (k .1) in
     let n = number-split (e .new) (f .new) 32 32 _ _ space space (ap (drop 4) (o .1)) in
     let s = number-split (e .operator) (f .operator) 32 32 _ _ space space (ap (drop 4) (n .1)) in
-    let r = number-split (e .reason) (f .reason) 10 10 _ _ feed feed (ap (drop 8) (s .1)) in
-    (record { word = b .0; kind = k .0; old = o .0; new = n .0; operator = s .0; reason = r .0 }, ap (drop 1) (r .1))
+    let c = ended (e .extra) x in
+    let d = ended (f .extra) y in
+    let r = number-split (e .reason) (f .reason) (c .first) (d .first) (c .rest) (d .rest) (c .other) (d .other) (rw (c .begins, d .begins) at (ap (drop 8) (s .1))) in
+    let t = time-split (e .extra) (f .extra) x y (c .begins ∙ r .1 ∙ sym (d .begins)) in
+    (record { word = b .0; kind = k .0; old = o .0; new = n .0; operator = s .0; reason = r .0; time = t .0 }, t .1)
 
 pub end-split : (m n : ℕ) → endLine m ≡ endLine n → m ≡ n
 unfolding endLine

@@ -1,8 +1,9 @@
--- The record that the figures of `list` are of. Assumes nothing.
+-- The records that the figures of `list` are of. Assumes nothing.
 use Prim.Native.Nat.{ℕ}
-use mathlib.Core.List.{List, [], _∷_}
-use Rattle.ledger.specs.PlaneTable.{recorded, correction}
+use mathlib.Core.List.{List}
+use Rattle.ledger.specs.Versions.{Version}
+use Rattle.ledger.specs.PlaneTable.{recorded, first}
 
--- case 10's record after its edit
-abbrev pub edited : List ℕ
-edited = recorded (correction 11 260 ∷ [])
+-- case 10's record after its edit, in a version
+abbrev pub edited : Version → List ℕ
+edited v = recorded v (first v)

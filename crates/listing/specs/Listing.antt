@@ -1,18 +1,19 @@
--- What the program `list` prints of a buffer (document 01, "Figures to agree with").
+-- What the program `list` prints of a buffer (document 01, "Figures to agree with"; document 02, request 3: "Listing lines of version 2 end in `at`
+-- and the time"). A record is listed by the version that its first word names.
 -- Assumes nothing.
 use Prim.Native.Nat.{ℕ, zero, suc, _≤_}
 use mathlib.Core.Path.{_≡_}
-use mathlib.Core.List.{List, [], _++_}
+use mathlib.Core.List.{List, [], _∷_, _++_}
 use lib.ListN.{length}
 use lib.Seq.{sets}
 use lib.Dec.{eqb, leb}
-use Rattle.format.specs.Words.{pick}
+use Rattle.format.specs.Words.{pick, wordAt}
 use Rattle.format.specs.Answers.{Outcome, accepted, refused, andThen, need, leaves}
 use Rattle.format.specs.Rules.{Kind, dataKind, monitorKind, commandKind}
 use Rattle.format.specs.Frames.{Frame, verdict}
 use Rattle.ledger.specs.Formats.{Entry}
 use Rattle.ledger.specs.Records.{lengthIn, countIn, frameIn, numbered, recordVerdict}
-use Rattle.ledger.specs.VersionOne.{versionOne}
+use Rattle.ledger.specs.Versions.{formatIn}
 use Rattle.ledger.specs.PlaneFrames.{planeFrames}
 use Rattle.listing.specs.Ascii.{ascii}
 use Rattle.listing.specs.Text.{decimal, hex}
@@ -35,13 +36,18 @@ kindText kind = pick (eqb kind 1) (ascii " sample ") (ascii " bin ")
 unfoldable pub changeText : ℕ → ℕ → ℕ → ℕ → ℕ → List ℕ
 changeText j word kind old new = (ascii "edit " ++ decimal j) ++ (ascii " word " ++ decimal word) ++ (kindText kind ++ decimal old) ++ (ascii " -> " ++ decimal new)
 
--- " by 9 reason 2", and the line's end; what a later version keeps after the reason has its place before that
-unfoldable pub signerText : ℕ → ℕ → List ℕ
-signerText operator reason = (ascii " by " ++ decimal operator) ++ (ascii " reason " ++ decimal reason) ++ ascii "\n"
+-- " at 1773403200": the time, the first that an entry keeps after its reason; an entry of version 1 keeps nothing there
+unfoldable pub timeText : List ℕ → List ℕ
+timeText [] = []
+timeText (time ∷ x) = ascii " at " ++ decimal time
 
--- "edit 1 word 11 sample 250 -> 260 by 9 reason 2"
+-- " by 9 reason 2 at 1773403200", and the line's end
+unfoldable pub signerText : ℕ → ℕ → List ℕ → List ℕ
+signerText operator reason extra = (ascii " by " ++ decimal operator) ++ (ascii " reason " ++ decimal reason) ++ timeText extra ++ ascii "\n"
+
+-- "edit 1 word 11 sample 250 -> 260 by 9 reason 2", and in version 2 " at 1773403200"
 unfoldable pub entryLine : ℕ → Entry → List ℕ
-entryLine j e = changeText j (e .word) (e .kind) (e .old) (e .new) ++ signerText (e .operator) (e .reason)
+entryLine j e = changeText j (e .word) (e .kind) (e .old) (e .new) ++ signerText (e .operator) (e .reason) (e .extra)
 
 -- "end 1"
 unfoldable pub endLine : ℕ → List ℕ
@@ -54,11 +60,11 @@ refusedLine number place = (ascii "refused " ++ decimal number) ++ (ascii " at "
 -- the lines of the first n entries of a record, from the oldest
 unfoldable pub entryLines : List ℕ → ℕ → List ℕ
 entryLines b zero = []
-entryLines b (suc n) = entryLines b n ++ entryLine (suc n) (numbered versionOne b (suc n))
+entryLines b (suc n) = entryLines b n ++ entryLine (suc n) (numbered (formatIn b) b (suc n))
 
 -- the frame of an accepted record
 unfoldable pub frameOf : List ℕ → Outcome Frame
-frameOf b = andThen (recordVerdict planeFrames versionOne b) (λ u. verdict (frameIn b))
+frameOf b = andThen (recordVerdict planeFrames (formatIn b) b) (λ u. verdict (frameIn b))
 
 -- the frame's line, one line an entry, the entry count; or a refusal alone
 abbrev pub listingOf : Outcome Frame → List ℕ → List ℕ
@@ -77,7 +83,7 @@ unfoldable pub listingExit : List ℕ → List ℕ → List ℕ
 listingExit b found = leaves (listingAnswer b found) found (sets found 0 (listing b))
 
 -- ---- what a listing speaks of, alike in two accepted records b and c with the frames f and g: kind, card, sequence word, length and number of items
--- of the frame, and the entries
+-- of the frame, the entries as a whole, times included, and the version where there are entries: it is their lines that tell it
 pub record SameRecord (b c : List ℕ) (f g : Frame) : Type 0 where
   pub kind : f .kind ≡ g .kind
   pub card : f .card ≡ g .card
@@ -85,4 +91,5 @@ pub record SameRecord (b c : List ℕ) (f g : Frame) : Type 0 where
   pub size : lengthIn b ≡ lengthIn c
   pub items : length (f .items) ≡ length (g .items)
   pub count : countIn b ≡ countIn c
-  pub entries : (j : ℕ) → 1 ≤ j → j ≤ countIn b → numbered versionOne b j ≡ numbered versionOne c j
+  pub entries : (j : ℕ) → 1 ≤ j → j ≤ countIn b → numbered (formatIn b) b j ≡ numbered (formatIn c) c j
+  pub version : 1 ≤ countIn b → wordAt b 0 ≡ wordAt c 0

@@ -7,7 +7,7 @@ use lib.ListN.{length}
 use lib.Seq.{sets}
 use Rattle.format.specs.Answers.{accepted}
 use Rattle.ledger.specs.Records.{lengthIn, countIn, recordVerdict}
-use Rattle.ledger.specs.VersionOne.{versionOne}
+use Rattle.ledger.specs.Versions.{formatIn}
 use Rattle.ledger.specs.PlaneFrames.{planeFrames}
 
 -- a text of at most so many bytes was put at byte `at`; the byte behind it is `next`
@@ -18,6 +18,6 @@ pub record Put (most : ℕ) (found : List ℕ) (at : ℕ) (text left : List ℕ)
 
 -- a record that is accepted, with the frame length and the entry count that its header has
 pub record Known (b : List ℕ) (size count : ℕ) : Type 0 where
-  pub judged : recordVerdict planeFrames versionOne b ≡ accepted tt
+  pub judged : recordVerdict planeFrames (formatIn b) b ≡ accepted tt
   pub length : size ≡ lengthIn b
   pub entries : count ≡ countIn b

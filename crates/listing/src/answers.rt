@@ -9,8 +9,8 @@ pub enum Listing {
 }
 
 impl Listing {
-    // The most bytes of a line: at most 36 of text and six numbers of 20 digits.
-    pub const LINE: usize = 160;
+    // The most bytes of a line: at most 40 of text and seven numbers of 20 digits.
+    pub const LINE: usize = 180;
 
     // The most bytes of a listing: the frame's line, one line an entry, the last line. Lent so many, `listing` never refuses (proofs/Room.antt).
     pub const MOST: usize = (Record::MOST + 2) * Listing::LINE;

@@ -14,6 +14,7 @@ mod rows;
 use answers::Listing;
 use book::refusal::Refusal;
 use book::words::copy;
+use book::words::word;
 use frame::reading::Reading;
 use frame::reading::read;
 use records::answers::Record;
@@ -26,8 +27,8 @@ use rows::refused_line;
 
 // The lines of an accepted record of that frame length and entry count, in room for 514 of the longest.
 fn record_lines(lines: &mut [u8], buf: &[u8], size: usize, count: usize) -> usize
-    requires { ⌜ Known (now buf) size count × (82240 ≤ length (now lines)) ⌝ }
-    ensures { λ r. ⌜ Put 82240 (now (lines .entry)) 0 (listings.listing (now (buf .entry))) (now (lines .exit)) r ⌝ }
+    requires { ⌜ Known (now buf) size count × (92520 ≤ length (now lines)) ⌝ }
+    ensures { λ r. ⌜ Put 92520 (now (lines .entry)) 0 (listings.listing (now (buf .entry))) (now (lines .exit)) r ⌝ }
 {
     let end = Record::HEADER + size;
     let reading = read(&buf[Record::HEADER..end]);
@@ -37,7 +38,8 @@ fn record_lines(lines: &mut [u8], buf: &[u8], size: usize, count: usize) -> usiz
         Reading::Accepted(f) => {
             let kind = f.kind;
             let first = frame_line(lines, kind, f.card, f.sequence, size, f.items);
-            let next = entry_lines(lines, first, buf, end, count);
+            let version = word(buf, Record::VERSION_WORD);
+            let next = entry_lines(lines, first, buf, version, end, count);
             end_line(lines, next, count)
         }
     }
@@ -45,8 +47,8 @@ fn record_lines(lines: &mut [u8], buf: &[u8], size: usize, count: usize) -> usiz
 
 // All lines of a buffer.
 fn all_lines(lines: &mut [u8], buf: &[u8]) -> usize
-    requires { ⌜ 82240 ≤ length (now lines) ⌝ }
-    ensures { λ r. ⌜ Put 82240 (now (lines .entry)) 0 (listings.listing (now (buf .entry))) (now (lines .exit)) r ⌝ }
+    requires { ⌜ 92520 ≤ length (now lines) ⌝ }
+    ensures { λ r. ⌜ Put 92520 (now (lines .entry)) 0 (listings.listing (now (buf .entry))) (now (lines .exit)) r ⌝ }
 {
     let found = record(buf);
     match found {
@@ -58,7 +60,7 @@ fn all_lines(lines: &mut [u8], buf: &[u8]) -> usize
 // The listing by way of a scratch that holds any: nothing is written where it does not fit. Its length is known only when it is made, and to make it
 // twice would cost more than the copy.
 fn listing_in(scratch: &mut [u8], buf: &[u8], out: &mut [u8]) -> Listing
-    requires { ⌜ 82240 ≤ length (now scratch) ⌝ }
+    requires { ⌜ 92520 ≤ length (now scratch) ⌝ }
     ensures { λ r. ⌜ Listed (now (buf .entry)) (now (out .entry)) (viewListing r) (now (out .exit)) ⌝ }
 {
     let n = all_lines(scratch, buf);

@@ -35,7 +35,7 @@ returns c =
     let l = c .before .before in
     let f = l .before .before .before in
     let r = f .before .before in
-    wider 82240 (omega arith) (retold (refused-text _ _ _ (sym (ap viewRecord (f .found .given .1)) ∙ r .«record» .ensures)) (l .refused-line .ensures))
+    wider 92520 (omega arith) (retold (refused-text _ _ _ (sym (ap viewRecord (f .found .given .1)) ∙ r .«record» .ensures)) (l .refused-line .ensures))
 
 same-length-2 : tie.Need-same-length-2
 same-length-2 c = search needs

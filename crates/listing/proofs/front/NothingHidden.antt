@@ -1,5 +1,6 @@
 -- A listing hides nothing that it speaks of: two accepted records with the same listing have frames of the same kind, card, sequence word, length
--- and number of items, and the same entries (specs/Listing.antt, `SameRecord`). Proved by one law.
+-- and number of items, and the same entries, times and desks included; with an entry they are also of the same version (specs/Listing.antt,
+-- `SameRecord`). Without entries a listing does not tell the version: front/Figures.antt has a record of each that list alike. Proved by one law.
 -- Assumes nothing.
 use Prim.Native.Nat.{ℕ}
 use mathlib.Core.Path.{_≡_}

@@ -25,7 +25,7 @@ same-length c = search needs
 returns : tie.Need-returns
 unfolding endLine
 returns c = let t = c .before .before in
-    wider 160 (omega arith) (joined (t .before .before .before .before .before .field .ensures) (t .text .ensures))
+    wider 180 (omega arith) (joined (t .before .before .before .before .before .field .ensures) (t .text .ensures))
 
 pub end-line-spec : {M : Type 1} → statement M
 end-line-spec =

@@ -24,9 +24,8 @@ returns c =
     let s = c .before .before in
     let h = s .before .before .before .before in
     let e = h .before .before in
-    wider 160 (omega arith) (retold (entry-text _ _ _ (e .entry-of .ensures)) (joined (h .change .ensures) (s .signer .ensures)))
+    wider 180 (omega arith) (retold (entry-text _ _ _ _ (e .entry-of .ensures)) (joined (h .change .ensures) (s .signer .ensures)))
 
 pub entry-line-spec : {M : Type 1} → statement M
 entry-line-spec =
-    tie.close
-    (tie.spec entry-of-requires change-requires signer-requires same-length returns)
+    tie.close (tie.spec entry-of-requires change-requires signer-requires same-length returns)

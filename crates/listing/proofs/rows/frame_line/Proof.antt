@@ -55,7 +55,7 @@ returns c = let t = c .before .before in
     let s = h .before .before .before .before in
     let d = s .before .before .before .before .before in
     let k = d .before .before .before .before .before in
-    wider 160 (omega arith) (joined (joined (joined (joined (joined (joined (k .kind-start .ensures) (d .field .ensures)) (s .text .ensures)) (h .hex .ensures)) (b .field2 .ensures)) (i .field3 .ensures)) (t .text2 .ensures))
+    wider 180 (omega arith) (joined (joined (joined (joined (joined (joined (k .kind-start .ensures) (d .field .ensures)) (s .text .ensures)) (h .hex .ensures)) (b .field2 .ensures)) (i .field3 .ensures)) (t .text2 .ensures))
 
 pub frame-line-spec : {M : Type 1} → statement M
 frame-line-spec =

@@ -35,7 +35,7 @@ returns : tie.Need-returns
 unfolding refusedLine
 returns c = let t = c .before .before in
     let p = t .before .before .before .before .before in
-    wider 160 (omega arith) (joined (joined (p .before .before .before .before .before .field .ensures) (p .field2 .ensures)) (t .text .ensures))
+    wider 180 (omega arith) (joined (joined (p .before .before .before .before .before .field .ensures) (p .field2 .ensures)) (t .text .ensures))
 
 pub refused-line-spec : {M : Type 1} → statement M
 refused-line-spec =

@@ -18,6 +18,9 @@ slice-aggregate-field-2 c = search needs
 field-requires-2 : tie.Need-field-requires-2
 field-requires-2 c κs = search needs
 
+stamp-time-requires : tie.Need-stamp-time-requires
+stamp-time-requires c κs = search needs
+
 slice-aggregate-text : tie.Need-slice-aggregate-text
 slice-aggregate-text c = search needs
 
@@ -31,9 +34,10 @@ returns : tie.Need-returns
 unfolding signerText
 returns c =
     let t = c .before .before in
-    let r = t .before .before .before .before .before in
+    let d = t .before .before .before .before .before in
+    let r = d .before .before .before .before in
     let b = r .before .before .before .before .before in
-    joined (joined (b .field .ensures) (r .field2 .ensures)) (t .text .ensures)
+    joined (joined (joined (b .field .ensures) (r .field2 .ensures)) (d .stamp-time .ensures)) (t .text .ensures)
 
 pub signer-spec : {M : Type 1} → statement M
 signer-spec =
@@ -43,6 +47,7 @@ signer-spec =
     field-requires
     slice-aggregate-field-2
     field-requires-2
+    stamp-time-requires
     slice-aggregate-text
     text-requires
     same-length
