@@ -1,10 +1,10 @@
 -- Restoring, as laws over plain lists: one entry undone, the loop from the newest entry back, and the promise kept on each way.
 -- Assumes nothing.
-use Prim.Native.Nat.{ℕ, suc, _+_, _*_, _-_, _≤_}
+use Prim.Native.Nat.{ℕ, zero, suc, _+_, _*_, _-_, _≤_, _<_}
 use mathlib.Core.Path.{_≡_, sym, ap, subst, _∙_}
 use mathlib.Core.Bool.{true}
 use mathlib.Core.List.{List, [], _∷_, _++_}
-use native.Mathlib.Nat.{add-sub-cancel-left}
+use native.Mathlib.Nat.{add-sub-cancel-left, mul-suc}
 use native.Mathlib.Omega.{arith}
 use lib.ListN.{length, take, drop, length-drop}
 use lib.Seq.{sets, sets-eq, length-sets, take-all, take-at, drop-at}
@@ -44,6 +44,19 @@ rewind-start F b x k f j y e = record {
   fit = rw (e, j .count) (fitting F b x j);
   left = rw (e, j .count);
 }
+
+-- the newest of m entries that end at byte `at` begins its own size lower
+pub record Lower (F : Format) (b : List ℕ) (m s at : ℕ) : Type 0 where
+  pub least : s ≤ at
+  pub begins : at - s ≡ 16 + lengthIn b + size F * (m - 1)
+  pub whole : size F ≤ length b - (at - s)
+
+pub lower : (F : Format) (b : List ℕ) (m s at : ℕ) → 0 < m → at ≡ 16 + lengthIn b + size F * m → at ≤ length b → s ≡ size F → Lower F b m s at
+lower F b zero s at l q r z = absurd (omega arith)
+lower F b (suc p) s at l q r z =
+    let n : suc p - 1 ≡ p = omega arith in
+    let k = mul-suc (size F) p in
+    record { least = omega arith; begins = rw n (let g : at - s ≡ 16 + lengthIn b + size F * p = omega arith in g); whole = omega arith }
 
 -- a turn of the loop: of n entries the newest is taken off, and m are left. It stands at byte `at`
 module _ (F : Format) (b : List ℕ) (k n m : ℕ) (f : List ℕ) (r : Rewinding F b k n f) (u : n ≡ suc m) (at : ℕ) (i : at ≡ 16 + lengthIn b + size F * m) where

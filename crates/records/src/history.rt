@@ -154,17 +154,15 @@ pub fn undo_from(f: &mut [u8], s: &[u8])
     undo_at(f, kind, at, old);
 }
 
-// The number of the newest entry that does not fit, or 0: the entries from number n down, undone in f. They end at byte `end`, and each is taken
-// from where the newer one began.
-fn walk_back(f: &mut [u8], map: &[u16], b: &[u8], version: u16, end: usize, n: usize) -> usize
-    requires { ⌜ Undoing (now map) (now f) × (end ≡ 16 + lengthIn (now b) + size (formatFor version) * n) × (end ≤ length (now b)) ⌝ }
+// The number of the newest entry that does not fit, or 0: the entries from number n down, undone in f. The history begins at byte h.
+fn walk_back(f: &mut [u8], map: &[u16], b: &[u8], version: u16, h: usize, n: usize) -> usize
+    requires { ⌜ Undoing (now map) (now f) × (h ≡ 16 + lengthIn (now b)) × (h + size (formatFor version) * n ≤ length (now b)) ⌝ }
     ensures { λ r. ⌜ unfit r ≡ historyVerdict planeFrames (formatFor version) (now (f .entry)) (entriesTo (formatFor version) (now (b .entry)) n) ⌝ }
 {
     let size = entry_size(version);
-    let mut at = end;
     let mut m = n;
     while 0 < m {
-        at -= size;
+        let at = h + size * (m - 1);
         let e = entry_in(&b[at..], version);
         if entry_fits(f, map, e, version) {
             put_in(f, e.kind, e.word as usize, e.old);
@@ -184,12 +182,12 @@ pub(crate) fn unwind(
     frame: &[u8],
     b: &[u8],
     version: u16,
-    x: Record,
+    n: usize,
 ) -> usize
-    requires { ⌜ Accepted planeFrames (now frame) × (length (now f) ≡ length (now frame)) × (4096 ≤ length (now map)) × ((i : ℕ) → getD (now map) i 0 ≡ 0) × (x .total ≡ 16 + lengthIn (now b) + size (formatFor version) * x .count) × (x .total ≤ length (now b)) ⌝ }
-    ensures { λ r. ⌜ (unfit r ≡ historyVerdict planeFrames (formatFor version) (now (frame .entry)) (entriesTo (formatFor version) (now (b .entry)) (x .count))) × Heads (now (frame .entry)) (now (map .exit)) ⌝ }
+    requires { ⌜ Accepted planeFrames (now frame) × (length (now f) ≡ length (now frame)) × (4096 ≤ length (now map)) × ((i : ℕ) → getD (now map) i 0 ≡ 0) × (length (now frame) ≡ lengthIn (now b)) × (16 + lengthIn (now b) + size (formatFor version) * n ≤ length (now b)) ⌝ }
+    ensures { λ r. ⌜ (unfit r ≡ historyVerdict planeFrames (formatFor version) (now (frame .entry)) (entriesTo (formatFor version) (now (b .entry)) n)) × Heads (now (frame .entry)) (now (map .exit)) ⌝ }
 {
     note_heads(frame, map);
     copy(frame, f);
-    walk_back(f, map, b, version, x.total, x.count)
+    walk_back(f, map, b, version, Record::HEADER + frame.len(), n)
 }

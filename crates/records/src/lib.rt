@@ -56,11 +56,11 @@ fn judge_history_in(
     x: Record,
     w: usize,
 ) -> Judged
-    requires { ⌜ Accepted planeFrames (now frame) × (length (now frame) ≤ length (now scratch)) × (4096 ≤ length (now map)) × ((i : ℕ) → getD (now map) i 0 ≡ 0) × (x .total ≡ 16 + lengthIn (now b) + size (formatFor version) * x .count) × (x .total ≤ length (now b)) ⌝ }
+    requires { ⌜ Accepted planeFrames (now frame) × (length (now frame) ≤ length (now scratch)) × (4096 ≤ length (now map)) × ((i : ℕ) → getD (now map) i 0 ≡ 0) × (length (now frame) ≡ lengthIn (now b)) × (16 + lengthIn (now b) + size (formatFor version) * x .count ≤ length (now b)) ⌝ }
     ensures { λ r. ⌜ viewJudged r ≡ historyJudged (formatFor version) (now (frame .entry)) (now (b .entry)) (summaryOf x) w ⌝ }
 {
     let len = frame.len();
-    let bad = unwind(&mut scratch[..len], map, frame, b, version, x);
+    let bad = unwind(&mut scratch[..len], map, frame, b, version, x.count);
     if bad == 0 {
         return Judged::Accepted(x, spot_noted(frame, map, w));
     }
@@ -75,7 +75,7 @@ const WORDS: usize = MOST / 2;
 
 // The same with memory of its own. The arrays stand here and are lent on: in the function that works on them every goal would show all their zeros.
 fn judge_history(frame: &[u8], b: &[u8], version: u16, x: Record, w: usize) -> Judged
-    requires { ⌜ Accepted planeFrames (now frame) × (x .total ≡ 16 + lengthIn (now b) + size (formatFor version) * x .count) × (x .total ≤ length (now b)) ⌝ }
+    requires { ⌜ Accepted planeFrames (now frame) × (length (now frame) ≡ lengthIn (now b)) × (16 + lengthIn (now b) + size (formatFor version) * x .count ≤ length (now b)) ⌝ }
     ensures { λ r. ⌜ viewJudged r ≡ historyJudged (formatFor version) (now (frame .entry)) (now (b .entry)) (summaryOf x) w ⌝ }
 {
     let mut map = [0u16; WORDS];

@@ -84,8 +84,8 @@ judge-history-requires c κs =
     let v = w .before in
     let reads = sym (ap viewReading (c .before .reading2 .given .1)) ∙ c .before .before .before .read .ensures in (
       part-accepted (now (v .before .before .before .before .args .buf)) (w .word2 .result) (λ i. (v .before .before .before .shared-slice-known .given i) .fits) _ reads,
-      whole t ∙ rw (v .word .ensures, many n),
-      omega (arith, whole t, room _ _ (right (v .before)) .within),
+      ap length (lent w) ∙ room _ _ (right (v .before)) .frame,
+      rw (v .word .ensures, many n) (room _ _ (right (v .before)) .within),
     )
 
 returns : tie.Need-returns

@@ -9,8 +9,7 @@ use lib.ListN.{length}
 use Rattle.ledger.specs.Formats.{size}
 use Rattle.ledger.specs.Records.{lengthIn}
 use Rattle.ledger.specs.Versions.{formatFor, formatIn}
-use Rattle.records.proofs.UndoLaws.{Lower, lower}
-use Rattle.editor.proofs.RestoreLaws.{Rewinding, rewind-start, rewind-step, rewind-end}
+use Rattle.editor.proofs.RestoreLaws.{Lower, lower, Rewinding, rewind-start, rewind-step, rewind-end}
 use Rattle.editor.proofs.KnownLaws.{whole, inside}
 use Rattle.editor.proofs.restoring.rewind.Statement.{statement}
 use Rattle.editor.proofs.restoring.rewind.Tie as tie

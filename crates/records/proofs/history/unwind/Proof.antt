@@ -1,6 +1,9 @@
 -- `records::history::unwind` meets its contract.
 -- Assumes nothing.
 use denote.Ref.{now}
+use Prim.Native.Nat.{ℕ, _+_}
+use mathlib.Core.Path.{ap}
+use native.Mathlib.Omega.{arith}
 use Rattle.records.proofs.UndoLaws.{undoing-start, same-history}
 use borrow.Author.Needs.{needs}
 use Rattle.records.proofs.history.unwind.Statement.{statement}
@@ -12,11 +15,14 @@ note-heads-requires c κs = search needs
 copy-requires : tie.Need-copy-requires
 copy-requires c κs = search needs
 
+add-walk-back : tie.Need-add-walk-back
+add-walk-back c = search needs
+
 walk-back-requires : tie.Need-walk-back-requires
 walk-back-requires c κs = let s = c .before .before .before .before .before .before .before .before .before .before .before .before .before .before in (
   undoing-start _ (now (s .args .f)) _ (s .pre .1) (c .before .before .before .before .copy .ensures) (s .pre .0) _ (c .before .before .before .before .before .before .before .before .note-heads .ensures),
-  s .pre .4,
-  s .pre .5,
+  ap (λ (n : ℕ). 16 + n) (s .pre .4),
+  omega (arith, s .pre .4, s .pre .5),
 )
 
 same-length : tie.Need-same-length
@@ -37,6 +43,7 @@ unwind-spec =
     (tie.spec
     note-heads-requires
     copy-requires
+    add-walk-back
     walk-back-requires
     same-length
     same-length-2

@@ -11,17 +11,17 @@ use Rattle.ledger.specs.Records.{lengthIn, entriesTo, historyVerdict}
 use Rattle.ledger.specs.Versions.{formatFor}
 use Rattle.ledger.specs.PlaneFrames.{planeFrames}
 use Rattle.records.specs.Undoing.{Undoing}
-use Rattle.records.proofs.UndoLaws.{part-long, undo-inside, undo-legal, stored-before, undoing-next, Lower, lower, turn-back, turn-stop, turn-done}
+use Rattle.records.proofs.UndoLaws.{part-long, undo-inside, undo-legal, stored-before, undoing-next, Lies, lies, turn-back, turn-stop, turn-done}
 use Rattle.records.proofs.history.walk_back.Statement.{statement}
 use Rattle.records.proofs.history.walk_back.Tie as tie
 
 abbrev Inv-loop : tie.InvT-loop
-Inv-loop f₀ map b version end n s at₀ m₀ f at m =
-    Undoing map f × (m ≤ n) × (length f ≡ length f₀) × (at ≡ 16 + lengthIn b + size (formatFor version) * m) × (at ≤ length b) × (s ≡ size (formatFor version))
+Inv-loop f₀ map b version h n s m₀ f m =
+    Undoing map f × (m ≤ n) × (length f ≡ length f₀) × (h ≡ 16 + lengthIn b) × (h + size (formatFor version) * n ≤ length b) × (s ≡ size (formatFor version))
     × (historyVerdict planeFrames (formatFor version) f (entriesTo (formatFor version) b m) ≡ historyVerdict planeFrames (formatFor version) f₀ (entriesTo (formatFor version) b n))
 
 abbrev μ-loop : tie.MeasureT-loop
-μ-loop f₀ map b version end n s at₀ m₀ f at m = m
+μ-loop f₀ map b version h n s m₀ f m = m
 
 entry-size-requires : tie.Need-entry-size-requires Inv-loop μ-loop
 entry-size-requires c κs = search needs
@@ -31,23 +31,29 @@ loop-holds c = let s = c .before .before .before .before in (s .pre .0, omega ar
 
 -- where the turn's entry begins
 low : (c : tie.In-loop Inv-loop μ-loop)
-    → Lower (formatFor (c .before .before .before .before .before .before .args .version)) (now (c .before .before .before .before .before .before .args .b)) (c .before .loop .m) (c .before .before .entry-size .result) (c .before .loop .at)
-low c = let i = c .before .loop .inv in lower _ _ _ _ _ (omega arith) (i .3) (i .4) (i .5)
+    → Lies (formatFor (c .before .before .before .before .before .before .args .version)) (now (c .before .before .before .before .before .before .args .b)) (c .before .before .before .before .before .before .args .h) (c .before .loop .m) (c .before .before .entry-size .result)
+low c = let i = c .before .loop .inv in lies _ _ _ _ _ _ (i .3) (i .4) (i .5) (omega arith) (i .1)
 
 sub-at : tie.Need-sub-at Inv-loop μ-loop
-sub-at c = low c .least
+sub-at c = search needs
+
+mul-at : tie.Need-mul-at Inv-loop μ-loop
+mul-at c = omega (arith, low c .whole)
+
+add-at : tie.Need-add-at Inv-loop μ-loop
+add-at c = omega (arith, low c .whole)
 
 sub-entry-in : tie.Need-sub-entry-in Inv-loop μ-loop
-sub-entry-in c = omega (arith, c .before .loop .inv .4)
+sub-entry-in c = omega (arith, low c .whole)
 
 part-entry-in-start : tie.Need-part-entry-in-start Inv-loop μ-loop
-part-entry-in-start c = omega (arith, c .before .loop .inv .4)
+part-entry-in-start c = omega (arith, low c .whole)
 
 part-entry-in-end : tie.Need-part-entry-in-end Inv-loop μ-loop
-part-entry-in-end c = omega (arith, c .before .loop .inv .4)
+part-entry-in-end c = search needs
 
 entry-in-requires : tie.Need-entry-in-requires Inv-loop μ-loop
-entry-in-requires c κs = rw part-long (low (c .before) .whole)
+entry-in-requires c κs = rw part-long (omega (arith, low (c .before) .whole))
 
 entry-fits-requires : tie.Need-entry-fits-requires Inv-loop μ-loop
 entry-fits-requires c κs = c .before .before .before .before .loop .inv .0
@@ -82,10 +88,10 @@ loop-again c =
       undoing-next _ _ (i .0 .frame) _ t _ _ (i .0) g,
       omega arith,
       u .put-in .kept .0 ∙ i .2,
-      w .begins,
-      omega (arith, i .4),
+      i .3,
+      i .4,
       i .5,
-      turn-back _ _ _ _ (l .m) _ (omega arith) (r .entry-in .ensures) (omega (arith, i .4)) (w .begins) t _ g ∙ i .6,
+      turn-back _ _ _ _ (l .m) _ (omega arith) (r .entry-in .ensures) (omega (arith, w .whole)) (w .begins) t _ g ∙ i .6,
     )
 
 same-length : tie.Need-same-length Inv-loop μ-loop
@@ -98,7 +104,7 @@ returns c =
     let l = k .before .loop in
     let i = l .inv in
     let w = low k in
-    turn-stop _ _ _ _ (l .m) _ (omega arith) (r .entry-in .ensures) (omega (arith, i .4)) (w .begins) (sym (c .before .entry-fits .ensures) ∙ c .if1 .left) ∙ i .6
+    turn-stop _ _ _ _ (l .m) _ (omega arith) (r .entry-in .ensures) (omega (arith, w .whole)) (w .begins) (sym (c .before .entry-fits .ensures) ∙ c .if1 .left) ∙ i .6
 
 same-length-2 : tie.Need-same-length-2 Inv-loop μ-loop
 same-length-2 c = c .before .loop .inv .2
@@ -115,6 +121,8 @@ walk-back-spec =
     entry-size-requires
     loop-holds
     sub-at
+    mul-at
+    add-at
     sub-entry-in
     part-entry-in-start
     part-entry-in-end
