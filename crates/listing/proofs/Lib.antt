@@ -1,5 +1,6 @@
 pub mod front
 pub mod Decimals
+pub mod TimedFigure
 pub mod Putting
 pub mod Listings
 pub mod Unique

@@ -1,5 +1,5 @@
 -- Demand 3 in the client's words, sentence by sentence, each a theorem. They hold for ANY book of frames and ANY format of entries that have the
--- laws of specs/Frames.antt and specs/Formats.antt; document 01's format is `versionOne`, shown lawful in VersionOneLaws.antt. What a name means stands in
+-- laws of specs/Frames.antt and specs/Formats.antt; those of the two versions are shown lawful in plane/VersionLaws.antt. What a name means stands in
 -- specs/; how a theorem is proved, in the file it cites. Nothing else is assumed.
 --
 -- Everywhere: `Bytes x` says that x is a list of bytes, as every lent slice is. `openAnswer`, `editAnswer`, `restoreAnswer` are what the calls

@@ -66,7 +66,7 @@ module _ (v : Version) where
   refused-opening = demand3.refused-opening planeFrames (formatOf v) (plane-lawful v)
 
   -- > "and an edit only for a listed reason;"
-  -- accepted exactly where none of document 01's reasons forbids it (specs/House.antt, `Free`)
+  -- accepted exactly where none of document 01's reasons forbids it (specs/PlaneFrames.antt, `Free`)
   pub edited-exactly : (b : List ℕ) (c : Correction) → Bytes b → Asks v (c .extra) → recordVerdict planeFrames (formatOf v) b ≡ accepted tt
       → (editAnswer planeFrames (formatOf v) b c ≡ accepted tt) ↔ Free v b c
   edited-exactly = edits.edit-free v
