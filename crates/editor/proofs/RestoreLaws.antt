@@ -2,14 +2,15 @@
 -- Assumes nothing.
 use Prim.Native.Nat.{ℕ, zero, suc, _+_, _*_, _-_, _≤_, _<_}
 use mathlib.Core.Path.{_≡_, sym, ap, subst, _∙_}
-use mathlib.Core.Bool.{true}
+use mathlib.Core.Bool.{Bool, true}
 use mathlib.Core.List.{List, [], _∷_, _++_}
 use native.Mathlib.Nat.{add-sub-cancel-left, mul-suc}
 use native.Mathlib.Omega.{arith}
 use lib.ListN.{length, take, drop, length-drop}
 use lib.Seq.{sets, sets-eq, length-sets, take-all, take-at, drop-at}
 use lib.Dec.{leb}
-use Rattle.format.specs.Words.{Bytes, wordAt, longAt}
+use borrow.Author.Tests.{le-leb}
+use Rattle.format.specs.Words.{pick, Bytes, wordAt, longAt}
 use Rattle.format.specs.Answers.{Done, accepted, refused, need, firstOf}
 use Rattle.ledger.specs.Frames.{Accepted}
 use Rattle.ledger.specs.Records.{lengthIn, countIn, frameIn, entryOf, numbered, entriesTo, entries-more, fits, before, historyVerdict, recordVerdict}
@@ -24,7 +25,7 @@ use Rattle.ledger.proofs.answers.Answering.{leaves-found, leaves-written}
 use Rattle.ledger.proofs.calls.Restoring.{restore-parts, restored-long}
 use Rattle.ledger.proofs.plane.PlaneFrames.{plane-lawful-for}
 use Rattle.records.specs.Stored.{stored, storedOld}
-use Rattle.records.proofs.UndoLaws.{stored-before, before-accepted}
+use Rattle.records.proofs.UndoLaws.{part-long, stored-before, before-accepted}
 use Rattle.editor.specs.Views.{also}
 use Rattle.editor.specs.Promises.{Restored}
 use Rattle.editor.specs.Writes.{Known}
@@ -72,14 +73,22 @@ module _ (F : Format) (b : List ℕ) (k n m : ℕ) (f : List ℕ) (r : Rewinding
   step : (fits planeFrames F f (numbered F b (suc m)) ≡ true) × (historyVerdict planeFrames F (before planeFrames f (numbered F b (suc m))) (entriesTo F b m) ≡ accepted tt)
   step = step-accepted planeFrames F f (numbered F b (suc m)) (entriesTo F b m) (ap (historyVerdict planeFrames F f) (sym (entries-more F b m)) ∙ turned .fit)
 
-  -- word index, kind and old value stand at the same words in every version
-  old : {g : List ℕ} → g ≡ stored f (wordAt (take (length b - at) (drop at b)) 1) (wordAt (take (length b - at) (drop at b)) 0) (longAt (take (length b - at) (drop at b)) 2) → g ≡ storedOld f (entryOf F (take (length b - at) (drop at b)))
-  unfolding entryOf
-  old d = d
+  -- the part of the buffer that the entry begins; word index, kind and old value stand at the same words in every version
+  part : List ℕ
+  part = take (length b - at) (drop at b)
 
-  pub rewind-step : (g : List ℕ) → g ≡ stored f (wordAt (take (length b - at) (drop at b)) 1) (wordAt (take (length b - at) (drop at b)) 0) (longAt (take (length b - at) (drop at b)) 2) → k ≤ m → Rewinding F b k m g
-  rewind-step g d l =
-      let g′ : g ≡ before planeFrames f (numbered F b (suc m)) = old d ∙ ap (storedOld f) (sym newest) ∙ stored-before F f (r .frame) (numbered F b (suc m)) (step .0) in
+  old : (g : List ℕ) → size F ≤ length b - at → g ≡ pick (leb 16 (length part)) (stored f (wordAt part 1) (wordAt part 0) (longAt part 2)) f → g ≡ storedOld f (entryOf F part)
+  unfolding entryOf part
+  old g w d =
+      let l : 16 ≤ length part = rw (part-long b at) (omega arith) in
+      d ∙ ap (λ (t : Bool). pick t (stored f (wordAt part 1) (wordAt part 0) (longAt part 2)) f) (le-leb 16 (length part) l)
+
+  pub rewind-step : (g : List ℕ) → size F ≤ length b - at
+      → g ≡ pick (leb 16 (length (take (length b - at) (drop at b)))) (stored f (wordAt (take (length b - at) (drop at b)) 1) (wordAt (take (length b - at) (drop at b)) 0) (longAt (take (length b - at) (drop at b)) 2)) f
+      → k ≤ m → Rewinding F b k m g
+  unfolding part
+  rewind-step g w d l =
+      let g′ : g ≡ before planeFrames f (numbered F b (suc m)) = old g w d ∙ ap (storedOld f) (sym newest) ∙ stored-before F f (r .frame) (numbered F b (suc m)) (step .0) in
       record {
         frame = before-accepted F f (r .frame) (numbered F b (suc m)) (step .0) g g′;
         fit = ap (λ (h : List ℕ). historyVerdict planeFrames F h (entriesTo F b m)) g′ ∙ step .1;

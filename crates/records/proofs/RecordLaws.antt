@@ -42,13 +42,17 @@ pub legal-sample : (k v : ℕ) → k ≡ 1 → leb v 4095 ≡ legalValue k v
 unfolding legalValue
 legal-sample k v e = rw (eq-eqb k 1 e)
 
-pub legal-bin : (k v : ℕ) → (k ≡ 1 → ⊥) → v < 4294967296 → (eqb k 2 && leb 1 v) ≡ legalValue k v
+pub legal-bin : (k v : ℕ) → k ≡ 2 → v < 4294967296 → leb 1 v ≡ legalValue k v
 unfolding legalValue
-legal-bin k v n h = rw (ne-eqb k 1 n, lt-ltb v 4294967296 h) (sym (and-true (eqb k 2 && leb 1 v)))
+legal-bin k v e h = rw (e, lt-ltb v 4294967296 h) (sym (and-true (leb 1 v)))
   where
     and-true : (a : Bool) → (a && true) ≡ a
     and-true true = refl
     and-true false = refl
+
+pub legal-none : (k v : ℕ) → (k ≡ 1 → ⊥) → (k ≡ 2 → ⊥) → false ≡ legalValue k v
+unfolding legalValue
+legal-none k v n m = rw (ne-eqb k 1 n, ne-eqb k 2 m)
 
 -- the version is one that there is
 two-versions : (a : ℕ) → (eqb a 1 || eqb a 2) ≡ eqb a (formatFor a .version)

@@ -4,7 +4,7 @@
 use Prim.Native.Nat.{ℕ, zero, suc, _+_, _-_, _*_, _<_, _≤_}
 use mathlib.Core.Path.{_≡_, refl, sym, ap, subst, _∙_}
 use mathlib.Core.List.{List, [], _∷_}
-use mathlib.Core.Bool.{Bool, true, false, not, _&&_}
+use mathlib.Core.Bool.{Bool, true, false, not, _&&_, true≢false}
 use mathlib.Core.Logic.{⊎-elim, by-cases}
 use mathlib.Core.Option.{Option, none, some}
 use native.Mathlib.Omega.{arith}
@@ -13,7 +13,7 @@ use native.Mathlib.Decide.{decLt}
 use lib.Dec.{eqb, leb, ltb}
 use lib.ListN.{length, getD, take, drop, length-drop}
 use lib.Seq.{sets, length-take-le}
-use borrow.Author.Tests.{eqb-true, ne-eqb, lt-ltb, le-ltb, le-leb, lt-leb}
+use borrow.Author.Tests.{eq-eqb, ne-eqb, lt-ltb, le-ltb, le-leb, lt-leb}
 use Rattle.format.specs.Words.{Bytes, bytes}
 use Rattle.format.specs.Answers.{Done}
 use Rattle.format.specs.Items.{ItemOf, Item, Channel, Histogram, HitCount, Sample, Bin, LastCell, TimeBin, Text, StartEvent, ContinueEvent, EndEvent, wordsOf}
@@ -28,7 +28,7 @@ use Rattle.format.proofs.spots.ScanLaws.{spot-by, by-noted, no-spot, noted-ther
 use Rattle.ledger.specs.Tests.{all}
 use Rattle.ledger.specs.Frames.{Accepted, Settable}
 use Rattle.ledger.specs.Formats.{Entry, Format, size}
-use Rattle.ledger.specs.Records.{lengthIn, entryOf, numbered, entriesTo, signed, before, fitsItem, fits, historyVerdict}
+use Rattle.ledger.specs.Records.{lengthIn, entryOf, numbered, entriesTo, signed, atSpot, before, fitsItem, fits, historyVerdict}
 use Rattle.ledger.specs.Chains.{Fits}
 use Rattle.ledger.specs.VersionOne.{versionOne}
 use Rattle.ledger.specs.VersionTwo.{versionTwo}
@@ -41,13 +41,10 @@ use Rattle.ledger.proofs.plane.VersionLaws.{for-which}
 use Rattle.ledger.proofs.records.Walking.{judge-none, judge-back, judge-stop}
 use Rattle.ledger.proofs.plane.PlaneFrames.{stands-there, plane-frames-lawful}
 use Rattle.records.specs.Views.{unfit}
+use Rattle.records.specs.Sound.{soundAt, leftBy}
 use Rattle.records.specs.Stored.{stored, Inside}
 use Rattle.records.specs.Undoing.{Heads, Undoing}
 use Rattle.records.proofs.RecordLaws.{entry-from}
-
-and-split : (a b c : Bool) → (a && (b && c)) ≡ ((a && b) && c)
-and-split true b c = refl
-and-split false b c = refl
 
 -- the words of an item that stands there lie in the frame
 item-inside : (s : List ℕ) → Bytes s → (w : ℕ) (p : Spot) → spot s w ≡ some p → Inside (p .kind) w s
@@ -119,20 +116,78 @@ module _ (map f : List ℕ) (g : Undoing map f) (w : ℕ) where
       unfolding fits
       item-fits t kind value i q = q (headerAt f (getD map w 0)) ∙ sym (rw (at, stands-here n z next shown, ← i (headerAt f (getD map w 0))))
 
--- the tests of an entry at an item: its kind is asked first, so that its legal values may be asked of either kind
-pub item-tests : (F : Format) (e : Entry) (kind value : ℕ) (lawful named kept : Bool) → lawful ≡ legalValue kind (e .old) → named ≡ signed (e .operator) (e .reason)
-    → ((s : Spot) → kept ≡ (F .good (e .extra) && F .suits (e .extra) s)) → (h : Header)
-    → (((((eqb kind (e .kind) && eqb value (e .new)) && lawful) && not (eqb (e .old) (e .new))) && named) && kept) ≡ fitsItem planeFrames F e (record { kind = kind; value = value; header = h })
-unfolding fitsItem all planeFrames
-item-tests F e kind value lawful named kept l i k h = go (eqb kind (e .kind)) refl
+-- the tests of an entry, those that ask for no item first
+all-left : (a c s g t : Bool) → ((c && s) && (g && t)) ≡ true → ((((a && c) && s) && g) && t) ≡ a
+all-left true true true true true e = refl
+all-left false true true true true e = refl
+all-left a false s g t e = absurd (true≢false (sym e))
+all-left a true false g t e = absurd (true≢false (sym e))
+all-left a true true false t e = absurd (true≢false (sym e))
+all-left a true true true false e = absurd (true≢false (sym e))
+
+none-left : (a c s g t : Bool) → ((c && s) && (g && t)) ≡ false → ((((a && c) && s) && g) && t) ≡ false
+none-left false c s g t e = refl
+none-left true false s g t e = refl
+none-left true true false g t e = refl
+none-left true true true false t e = refl
+none-left true true true true t e = e
+
+module _ (F : Format) (e : Entry) (s : Spot) where
+  sound-fits : soundAt F e s ≡ true → fitsItem planeFrames F e s ≡ leftBy e (s .kind) (s .value)
+  unfolding fitsItem all planeFrames soundAt leftBy
+  sound-fits h = all-left ((eqb (s .kind) (e .kind) && eqb (s .value) (e .new)) && legalValue (e .kind) (e .old)) (not (eqb (e .old) (e .new))) (signed (e .operator) (e .reason)) (F .good (e .extra)) (F .suits (e .extra) s) h
+
+  unsound : soundAt F e s ≡ false → fitsItem planeFrames F e s ≡ false
+  unfolding fitsItem all planeFrames soundAt
+  unsound h = none-left ((eqb (s .kind) (e .kind) && eqb (s .value) (e .new)) && legalValue (e .kind) (e .old)) (not (eqb (e .old) (e .new))) (signed (e .operator) (e .reason)) (F .good (e .extra)) (F .suits (e .extra) s) h
+
+-- an entry that is not sound fits no frame
+pub unsound-fits : (F : Format) (f : List ℕ) (e : Entry) → ((s : Spot) → false ≡ soundAt F e s) → false ≡ fits planeFrames F f e
+unfolding fits
+unsound-fits F f e h = go (planeFrames .spot f (e .word))
   where
-    go : (b : Bool) → eqb kind (e .kind) ≡ b
-        → (((((eqb kind (e .kind) && eqb value (e .new)) && lawful) && not (eqb (e .old) (e .new))) && named) && kept) ≡ fitsItem planeFrames F e (record { kind = kind; value = value; header = h })
-    go true q =
-        let m : lawful ≡ legalValue (e .kind) (e .old) = l ∙ ap (λ (x : ℕ). legalValue x (e .old)) (eqb-true kind (e .kind) q) in
-        rw (m, i, k (record { kind = kind; value = value; header = h }))
-        (and-split ((((eqb kind (e .kind) && eqb value (e .new)) && legalValue (e .kind) (e .old)) && not (eqb (e .old) (e .new))) && signed (e .operator) (e .reason)) (F .good (e .extra)) (F .suits (e .extra) (record { kind = kind; value = value; header = h })))
-    go false q = rw q
+    go : (o : Option Spot) → false ≡ atSpot o (fitsItem planeFrames F e)
+    go none = refl
+    go (some s) = sym (unsound F e s (sym (h s)))
+
+-- and of a sound one the tests at the item are left
+pub left-fits : (F : Format) (e : Entry) (kind value : ℕ) (sound t : Bool) → ((s : Spot) → sound ≡ soundAt F e s) → sound ≡ true → t ≡ leftBy e kind value
+    → (h : Header) → t ≡ fitsItem planeFrames F e (record { kind = kind; value = value; header = h })
+left-fits F e kind value sound t i l q h =
+    let s : Spot = record { kind = kind; value = value; header = h } in
+    q ∙ sym (sound-fits F e s (sym (i s) ∙ l))
+
+-- the tests one by one: what leaves at once, and what is asked last
+module _ (F : Format) (e : Entry) where
+  pub unchanged-sound : e .old ≡ e .new → (s : Spot) → false ≡ soundAt F e s
+  unfolding soundAt
+  unchanged-sound q s = rw (eq-eqb (e .old) (e .new) q)
+
+  pub unsigned-sound : (named : Bool) → named ≡ signed (e .operator) (e .reason) → named ≡ false → (s : Spot) → false ≡ soundAt F e s
+  unfolding soundAt
+  unsigned-sound named n q s = rw (sym n ∙ q) (sym (no (not (eqb (e .old) (e .new)))))
+    where
+      no : (a : Bool) → ((a && false) && (F .good (e .extra) && F .suits (e .extra) s)) ≡ false
+      no true = refl
+      no false = refl
+
+  pub kept-sound : (e .old ≡ e .new → ⊥) → (named : Bool) → named ≡ signed (e .operator) (e .reason) → named ≡ true
+      → (kept : Bool) → ((s : Spot) → kept ≡ (F .good (e .extra) && F .suits (e .extra) s)) → (s : Spot) → kept ≡ soundAt F e s
+  unfolding soundAt
+  kept-sound c named n q kept k s = k s ∙ sym (rw (ne-eqb (e .old) (e .new) c, sym n ∙ q))
+
+module _ (e : Entry) (kind value : ℕ) where
+  pub other-kind : (kind ≡ e .kind → ⊥) → false ≡ leftBy e kind value
+  unfolding leftBy
+  other-kind n = rw (ne-eqb kind (e .kind) n)
+
+  pub other-value : kind ≡ e .kind → (value ≡ e .new → ⊥) → false ≡ leftBy e kind value
+  unfolding leftBy
+  other-value q n = rw (eq-eqb kind (e .kind) q, ne-eqb value (e .new) n)
+
+  pub old-left : kind ≡ e .kind → value ≡ e .new → (t : Bool) → t ≡ legalValue kind (e .old) → t ≡ leftBy e kind value
+  unfolding leftBy
+  old-left q w t l = l ∙ sym (rw (eq-eqb kind (e .kind) q, eq-eqb value (e .new) w, ← q))
 
 -- what an entry keeps: nothing in version 1, a time and desk 0 in version 2
 pub stamp-missing : (version : ℕ) (s : Spot) → eqb version 1 ≡ (formatFor version .good [] && formatFor version .suits [] s)

@@ -4,8 +4,10 @@ use Prim.Native.Nat.{ℕ}
 use mathlib.Core.Path.{_≡_, refl, ap}
 use mathlib.Core.Bool.{Bool}
 use mathlib.Core.List.{List, [], _∷_}
+use lib.Dec.{leb}
+use lib.ListN.{length}
 use lib.Seq.{sets}
-use Rattle.format.specs.Words.{bytes, wordAt, longAt}
+use Rattle.format.specs.Words.{pick, bytes, wordAt, longAt}
 use mathlib.Core.Option.{Option, none, some}
 use Rattle.format.specs.Answers.{Outcome, accepted, refused}
 use Rattle.format.specs.Spots as spots
@@ -134,7 +136,7 @@ pub put-entry-once : (f : List ℕ) (at : ℕ) (e : Entry) (r q : List ℕ) → 
 put-entry-once f at e = equal-once (sets f at (entryBytes versionTwo (asEntry e)))
 
 pub undo-from-once : (f s r q : List ℕ) → UndoneFrom f s r → UndoneFrom f s q → r ≡ q
-undo-from-once f s = equal-once (stored f (wordAt s 1) (wordAt s 0) (longAt s 2))
+undo-from-once f s = equal-once (pick (leb 16 (length s)) (stored f (wordAt s 1) (wordAt s 0) (longAt s 2)) f)
 
 pub legal-once : (kind value : ℕ) (r q : Bool) → MayHold kind value r → MayHold kind value q → r ≡ q
 legal-once kind value = equal-once (legalValue kind value)

@@ -5,8 +5,10 @@ use Prim.Native.Nat.{ℕ}
 use mathlib.Core.Path.{_≡_}
 use mathlib.Core.Bool.{Bool}
 use mathlib.Core.List.{List, [], _∷_}
+use lib.Dec.{leb}
+use lib.ListN.{length}
 use lib.Seq.{sets}
-use Rattle.format.specs.Words.{bytes, wordAt, longAt}
+use Rattle.format.specs.Words.{pick, bytes, wordAt, longAt}
 use Rattle.format.specs.Spots as spots
 use Rattle.format.specs.Spots.{legalValue}
 use Rattle.ledger.specs.Records as records
@@ -60,9 +62,10 @@ EntryPut found at e exit = exit ≡ sets found at (entryBytes versionTwo (asEntr
 abbrev pub SignedBy : ℕ → ℕ → Bool → Type 0
 SignedBy operator reason r = r ≡ records.signed operator reason
 
--- the entry that a slice begins with undone in the bytes of a frame: word index, kind and old value stand at the same words in every version
+-- the entry that a slice begins with undone in the bytes of a frame: word index, kind and old value stand at the same words in every version, and a slice
+-- too short for an entry has none
 abbrev pub UndoneFrom : List ℕ → List ℕ → List ℕ → Type 0
-UndoneFrom found s exit = exit ≡ stored found (wordAt s 1) (wordAt s 0) (longAt s 2)
+UndoneFrom found s exit = exit ≡ pick (leb 16 (length s)) (stored found (wordAt s 1) (wordAt s 0) (longAt s 2)) found
 
 -- ---- values
 

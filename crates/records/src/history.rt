@@ -5,11 +5,12 @@ ghost use Prim.Native.Nat.{ℕ, _+_, _*_, _≤_};
 ghost use lib.ListN.{length, getD};
 ghost use Rattle.ledger.specs.Frames.{Accepted};
 ghost use Rattle.ledger.specs.Formats.{size};
-ghost use Rattle.ledger.specs.Records.{lengthIn, entriesTo, fitsItem, fits, historyVerdict};
+ghost use Rattle.ledger.specs.Records.{lengthIn, entriesTo, fits, historyVerdict};
 ghost use Rattle.ledger.specs.Versions.{formatFor};
 ghost use Rattle.ledger.specs.PlaneFrames.{planeFrames};
 ghost use Rattle.format.specs.Spots as spots;
 ghost use Rattle.records.specs.Views.{viewSpot, viewStamp, asEntry, unfit};
+ghost use Rattle.records.specs.Sound.{soundAt, leftBy};
 ghost use Rattle.records.specs.Stored.{stored};
 ghost use Rattle.records.specs.Undoing.{Heads, Undoing};
 ghost use Rattle.records.specs.Promises.{SignedBy, UndoneFrom};
@@ -32,8 +33,6 @@ use crate::values::put_in;
 use crate::values::put_value;
 use book::items::Item;
 use book::words::copy;
-use book::words::long;
-use book::words::word;
 use cursor::standing::Standing;
 use cursor::standing::item_at;
 
@@ -69,14 +68,32 @@ fn stamp_fits(stamp: Stamp, version: u16) -> bool
     }
 }
 
-// Whether an entry fits an item of the kind with the value; none of its tests asks for the item's header.
-fn fits_item(e: Entry, version: u16, kind: u16, value: u32) -> bool
-    ensures { λ r. ⌜ ((h : spots.Header) → r ≡ fitsItem planeFrames (formatFor version) (asEntry e) (record { kind = kind; value = value; header = h })) ⌝ }
+// Whether an entry is sound by itself, whatever item it points to: it changes a value, it is signed, and it keeps what its version keeps. Each test
+// leaves at once, so that none of what it asked is carried along.
+fn is_sound(e: Entry, version: u16) -> bool
+    ensures { λ r. ⌜ ((s : spots.Spot) → r ≡ soundAt (formatFor version) (asEntry e) s) ⌝ }
 {
-    let named = signed(e.operator as u32, e.reason as u32);
+    if e.old == e.new {
+        return false;
+    }
+    if !signed(e.operator as u32, e.reason as u32) {
+        return false;
+    }
     let stamp = e.stamp;
-    let kept = stamp_fits(stamp, version);
-    (kind == e.kind) & (value == e.new) & legal(kind, e.old) & (e.old != e.new) & named & kept
+    stamp_fits(stamp, version)
+}
+
+// Whether the item of the kind with the value is the one that a sound entry left, and may have held the old value.
+fn fits_item(e: Entry, kind: u16, value: u32) -> bool
+    ensures { λ r. ⌜ r ≡ leftBy (asEntry e) kind value ⌝ }
+{
+    if kind != e.kind {
+        return false;
+    }
+    if value != e.new {
+        return false;
+    }
+    legal(kind, e.old)
 }
 
 // Whether an entry fits a frame whose headers are noted in the map: the item answer at its word is taken apart, and anything but a Sample or
@@ -85,6 +102,9 @@ fn entry_fits(f: &[u8], map: &[u16], e: Entry, version: u16) -> bool
     requires { ⌜ Undoing (now map) (now f) ⌝ }
     ensures { λ r. ⌜ r ≡ fits planeFrames (formatFor version) (now (f .entry)) (asEntry e) ⌝ }
 {
+    if !is_sound(e, version) {
+        return false;
+    }
     let at = e.word as usize;
     if head_at(map, at) == NONE {
         return false;
@@ -95,8 +115,8 @@ fn entry_fits(f: &[u8], map: &[u16], e: Entry, version: u16) -> bool
     };
     let item = found.item;
     match item {
-        Item::Sample(x) => fits_item(e, version, Spot::SAMPLE, x.value as u32),
-        Item::Bin(x) => fits_item(e, version, Spot::BIN, x.count),
+        Item::Sample(x) => fits_item(e, Spot::SAMPLE, x.value as u32),
+        Item::Bin(x) => fits_item(e, Spot::BIN, x.count),
         _ => false,
     }
 }
@@ -135,17 +155,11 @@ fn undo_at(f: &mut [u8], kind: u16, w: u16, old: u32)
     put_value(f, kind, at, old);
 }
 
-// Undoes the entry that a slice begins with, of any version: no more is read than that takes.
+// Undoes the entry that a slice begins with, of any version: no more is read than that takes. A slice that is too short for one is let be.
 pub fn undo_from(f: &mut [u8], s: &[u8])
     ensures { λ _. ⌜ UndoneFrom (now (f .entry)) (now (s .entry)) (now (f .exit)) ⌝ }
 {
     if s.len() < Entry::FIRST_SIZE {
-        undo_at(
-            f,
-            word(s, Entry::KIND_WORD),
-            word(s, Entry::INDEX_WORD),
-            long(s, Entry::OLD_WORD),
-        );
         return;
     }
     let kind = word_in(s, Entry::KIND_WORD);

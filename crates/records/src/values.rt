@@ -20,7 +20,10 @@ pub fn legal(kind: u16, value: u32) -> bool
     if kind == Spot::SAMPLE {
         return value <= Sample::LAST as u32;
     }
-    (kind == Spot::BIN) & (Bin::LEAST_COUNT <= value)
+    if kind == Spot::BIN {
+        return Bin::LEAST_COUNT <= value;
+    }
+    false
 }
 
 // Stores a word at byte `at`, low byte first, where there is room.

@@ -68,7 +68,7 @@ loop-again c =
     let l = r .before .loop in
     let i = l .inv in
     let w = low r in
-    (omega arith, w .begins, omega (arith, i .2), i .3, u .undo-from .kept .0 ∙ i .4, rewind-step _ _ _ _ (l .n - 1) _ (i .5) (omega arith) _ (w .begins) _ (u .undo-from .ensures) (omega arith))
+    (omega arith, w .begins, omega (arith, i .2), i .3, u .undo-from .kept .0 ∙ i .4, rewind-step _ _ _ _ (l .n - 1) _ (i .5) (omega arith) _ (w .begins) _ (w .whole) (u .undo-from .ensures) (omega arith))
 
 same-length : tie.Need-same-length Inv-loop μ-loop
 same-length c = c .before .loop .inv .4
