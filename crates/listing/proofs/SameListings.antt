@@ -16,7 +16,7 @@ use Rattle.format.specs.Spots.{legalValue}
 use Rattle.format.proofs.verdict.Acceptance.{exactly}
 use Rattle.format.proofs.book.PrefixLaws.{and-left}
 use Rattle.ledger.specs.Formats.{Entry, Format}
-use Rattle.ledger.specs.Records.{lengthIn, countIn, frameIn, entryOf, numbered, entriesIn, length-entries, recordVerdict}
+use Rattle.ledger.specs.Records.{lengthIn, countIn, frameIn, numbered, entriesIn, length-entries, recordVerdict}
 use Rattle.ledger.specs.Chains.{Fits}
 use Rattle.ledger.specs.VersionOne.{versionOne, noExtra}
 use Rattle.ledger.specs.VersionTwo.{timeIn, deskIn, versionTwo}
