@@ -1,7 +1,7 @@
 -- From the header, the frame's verdict and the history to what the questions on a record answer.
 -- Assumes nothing.
 use Prim.Native.Nat.{ℕ, zero, suc, _+_, _-_, _*_, _<_, _≤_}
-use mathlib.Core.Path.{_≡_, refl, sym, ap, ap₂, _∙_}
+use mathlib.Core.Path.{_≡_, refl, sym, ap, ap₂, subst, _∙_}
 use mathlib.Core.List.{List, [], _∷_}
 use mathlib.Core.Bool.{Bool, true, false, _&&_, _||_}
 use mathlib.Core.Logic.{⊎-elim}
@@ -10,9 +10,9 @@ use native.Mathlib.Nat.{add-sub-cancel-left, mul-le-mul, mul-suc}
 use native.Mathlib.Omega.{arith}
 use lib.Dec.{eqb, leb}
 use lib.ListN.{length, getD, take, drop, length-drop, replicate}
-use lib.Seq.{take-all, length-take-le, getD-drop}
-use borrow.Author.Tests.{leb-true, eq-eqb, ne-eqb, lt-ltb}
-use Rattle.format.specs.Words.{Bytes, wordAt, longAt}
+use lib.Seq.{take-all, length-take-le, getD-drop, sets}
+use borrow.Author.Tests.{leb-true, eqb-true, eqb-false, eq-eqb, ne-eqb, lt-ltb}
+use Rattle.format.specs.Words.{Bytes, pick, wordAt, longAt}
 use Rattle.format.specs.Answers.{Outcome, accepted, refused, Done, andThen, firstOf}
 use Rattle.format.specs.Frames.{Frame, verdict}
 use Rattle.format.specs.Steps.{Overview, overview, readOf}
@@ -25,7 +25,7 @@ use Rattle.ledger.specs.Tests.{all}
 use Rattle.ledger.specs.Frames.{Accepted}
 use Rattle.ledger.specs.Formats.{Entry, Format, size}
 use Rattle.ledger.specs.Records.{lengthIn, countIn, totalIn, frameIn, entryOf, numbered, entriesTo, entriesIn, length-entries, headerRight, historyVerdict, recordVerdict}
-use Rattle.ledger.specs.Calls.{Summary, recordAnswer, entryAnswer}
+use Rattle.ledger.specs.Calls.{Summary, recordAnswer, entryAnswer, restored, restoreAnswer, restoreExit}
 use Rattle.ledger.specs.Judged.{Judged, judgedAt}
 use Rattle.ledger.specs.VersionOne.{versionOne}
 use Rattle.ledger.specs.VersionTwo.{versionTwo}
@@ -34,7 +34,8 @@ use Rattle.ledger.specs.PlaneFrames.{planeFrames, plane-frames-judge}
 use Rattle.ledger.proofs.records.Headers.{header-words}
 use Rattle.ledger.proofs.plane.VersionLaws.{limit-is, for-one, for-other, for-which, for-lawful}
 use Rattle.ledger.proofs.records.Judging.{verdict-parts, parts-verdict, frame-refused}
-use Rattle.records.specs.Views.{unfit, historyJudged}
+use Rattle.records.specs.Views.{unfit, framedAnswer, historyJudged}
+use Rattle.records.specs.Undoing.{Framed, Kept}
 
 -- ---- the tests of the code, as the rules have them
 
@@ -174,20 +175,91 @@ room F b h =
 abbrev pub lengths : Judged → Summary
 lengths j = record { length = j .length; count = j .count; total = j .total }
 
-module _ (F : Format) (b : List ℕ) (w : ℕ) where
-  pub wrong-header : headerRight F b ≡ false → refused 20 0 ≡ judgedAt planeFrames F b w
-  unfolding judgedAt recordVerdict firstOf
-  wrong-header h = rw h
+-- ---- the header and the frame
 
-  pub wrong-frame : (n p : ℕ) → headerRight F b ≡ true → planeFrames .judge (frameIn b) ≡ refused n p → refused n p ≡ judgedAt planeFrames F b w
+module _ (F : Format) (b : List ℕ) where
+  pub framed-header : headerRight F b ≡ false → refused 20 0 ≡ framedAnswer F b
+  unfolding framedAnswer
+  framed-header h = rw h
+
+  pub framed-frame : (n p : ℕ) → headerRight F b ≡ true → planeFrames .judge (frameIn b) ≡ refused n p → refused n p ≡ framedAnswer F b
+  unfolding framedAnswer
+  framed-frame n p h j = rw (h, j)
+
+  pub framed-right : headerRight F b ≡ true → planeFrames .judge (frameIn b) ≡ accepted tt → (len n total : ℕ) → len ≡ lengthIn b → n ≡ countIn b → total ≡ totalIn F b
+      → accepted (record { length = len; count = n; total = total }) ≡ framedAnswer F b
+  unfolding framedAnswer
+  framed-right h j len n total el en et = rw (h, j, el, en, et)
+
+  -- refused there, a record is refused
+  pub framed-verdict : (n p : ℕ) → refused n p ≡ framedAnswer F b → recordVerdict planeFrames F b ≡ refused n p
+  unfolding framedAnswer recordVerdict firstOf
+  framed-verdict n p e = go (headerRight F b) refl (planeFrames .judge (frameIn b)) refl
+    where
+      same : (m q n p : ℕ) → _≡_ {A = Outcome Summary} (refused n p) (refused m q) → _≡_ {A = Done} (refused m q) (refused n p)
+      same m q n p f = let i : n ≡ m = cc in let k : p ≡ q = cc in rw (i, k)
+
+      go : (t : Bool) → headerRight F b ≡ t → (o : Done) → planeFrames .judge (frameIn b) ≡ o → recordVerdict planeFrames F b ≡ refused n p
+      go false h o q = rw h (same 20 0 n p (e ∙ rw h))
+      go true h (accepted u) q = let x : Summary = record { length = lengthIn b; count = countIn b; total = totalIn F b } in let z : _≡_ {A = Outcome Summary} (refused n p) (accepted x) = e ∙ rw (h, q) in let y : _≡_ {A = ℕ} 0 1 = cc in absurd (omega arith)
+      go true h (refused m r) q = frame-refused planeFrames F b m r (header-words F b h) q ∙ same m r n p (e ∙ rw (h, q))
+
+-- what is known of a record whose header and frame are right
+pub record FramedKnown (F : Format) (b : List ℕ) (x : Summary) : Type 0 where
+  pub header : headerRight F b ≡ true
+  pub judged : planeFrames .judge (frameIn b) ≡ accepted tt
+  pub length : x .length ≡ lengthIn b
+  pub count : x .count ≡ countIn b
+  pub total : x .total ≡ totalIn F b
+
+pub framed-known : (F : Format) (b : List ℕ) (x : Summary) → accepted x ≡ framedAnswer F b → FramedKnown F b x
+unfolding framedAnswer
+framed-known F b x e = go (headerRight F b) refl (planeFrames .judge (frameIn b)) refl
+  where
+    inner : (x y : Summary) → accepted x ≡ accepted y → x ≡ y
+    inner x y q = cc
+
+    go : (t : Bool) → headerRight F b ≡ t → (o : Done) → planeFrames .judge (frameIn b) ≡ o → FramedKnown F b x
+    go false h o q = let z : _≡_ {A = Outcome Summary} (accepted x) (refused 20 0) = e ∙ rw h in let y : _≡_ {A = ℕ} 0 1 = cc in absurd (omega arith)
+    go true h (refused m r) q = let z : _≡_ {A = Outcome Summary} (accepted x) (refused m r) = e ∙ rw (h, q) in let y : _≡_ {A = ℕ} 0 1 = cc in absurd (omega arith)
+    go true h (accepted u) q =
+        let i = inner x (record { length = lengthIn b; count = countIn b; total = totalIn F b }) (e ∙ rw (h, q)) in
+        record { header = h; judged = q; length = ap (λ (y : Summary). y .length) i; count = ap (λ (y : Summary). y .count) i; total = ap (λ (y : Summary). y .total) i }
+
+module _ (F : Format) (b : List ℕ) (x : Summary) (k : FramedKnown F b x) where
+  frame-lent : take (16 + x .length - 16) (drop 16 b) ≡ frameIn b
+  frame-lent = frame-part b (x .length) (k .length)
+
+  pub framed-part : Bytes b → Framed F (take (16 + x .length - 16) (drop 16 b)) b (x .count)
+  framed-part y =
+      let r = room F b (k .header) in
+      subst (λ (f : List ℕ). Framed F f b (x .count)) (sym frame-lent)
+      (record {
+        accepted = record { bytes = frame-bytes b y; judged = k .judged };
+        whole = r .frame;
+        inside = rw (k .count) (r .within);
+      })
+
+  pub part-inside : 16 + x .length ≤ length b
+  part-inside = let r = room F b (k .header) .within in let l = k .length in omega arith
+
+pub record-refused : (F : Format) (b : List ℕ) (n p : ℕ) → refused n p ≡ framedAnswer F b → refused n p ≡ recordAnswer planeFrames F b
+unfolding recordAnswer
+record-refused F b n p e = rw (framed-verdict F b n p e)
+
+module _ (F : Format) (b : List ℕ) (w : ℕ) where
+  pub judged-refused : (n p : ℕ) → refused n p ≡ framedAnswer F b → refused n p ≡ judgedAt planeFrames F b w
   unfolding judgedAt
-  wrong-frame n p h j = rw (frame-refused planeFrames F b n p (header-words F b h) j)
+  judged-refused n p e = rw (framed-verdict F b n p e)
 
   pub right-frame : headerRight F b ≡ true → planeFrames .judge (frameIn b) ≡ accepted tt
       → (len n total : ℕ) → len ≡ lengthIn b → n ≡ countIn b → total ≡ totalIn F b → (f : List ℕ) → f ≡ frameIn b
       → (o : Outcome Judged) → o ≡ historyJudged F f b (record { length = len; count = n; total = total }) w → o ≡ judgedAt planeFrames F b w
   unfolding judgedAt historyJudged
   right-frame h j len n total el en et f ef o eo = eo ∙ rw (parts-verdict planeFrames F b h j, et, ef, el, en)
+
+  pub judged-framed : (x : Summary) → FramedKnown F b x → (o : Outcome Judged) → o ≡ historyJudged F (take (16 + x .length - 16) (drop 16 b)) b x w → o ≡ judgedAt planeFrames F b w
+  judged-framed x k o e = right-frame (k .header) (k .judged) (x .length) (x .count) (x .total) (k .length) (k .count) (k .total) (take (16 + x .length - 16) (drop 16 b)) (frame-lent F b x k) o e
 
   -- the record's answer is what is told, without what stands at the word
   judged-told : andThen (judgedAt planeFrames F b w) (λ j. accepted (lengths j)) ≡ recordAnswer planeFrames F b
@@ -326,3 +398,58 @@ pub zeros : (n i : ℕ) → _≡_ {A = ℕ} (getD (replicate n 0) i 0) 0
 zeros zero i = refl
 zeros (suc n) zero = refl
 zeros (suc n) (suc i) = zeros n i
+
+-- ---- restoring
+module _ (F : Format) (b : List ℕ) (k : ℕ) (found : List ℕ) where
+  pub restore-refused : (n p : ℕ) → recordVerdict planeFrames F b ≡ refused n p → found ≡ restoreExit planeFrames F b k found
+  unfolding restoreExit restoreAnswer firstOf
+  restore-refused n p e = rw e
+
+  restore-known : recordVerdict planeFrames F b ≡ accepted tt
+      → restoreExit planeFrames F b k found ≡ pick (leb k (countIn b) && leb (lengthIn b) (length found)) (sets found 0 (restored planeFrames F b k)) found
+  unfolding restoreExit restoreAnswer firstOf
+  restore-known e = go (leb k (countIn b)) refl (leb (lengthIn b) (length found)) refl
+    where
+      go : (s : Bool) → leb k (countIn b) ≡ s → (t : Bool) → leb (lengthIn b) (length found) ≡ t
+          → restoreExit planeFrames F b k found ≡ pick (leb k (countIn b) && leb (lengthIn b) (length found)) (sets found 0 (restored planeFrames F b k)) found
+      go false p t q = rw (e, p)
+      go true p false q = rw (e, p, q)
+      go true p true q = rw (e, p, q)
+
+module _ (b : List ℕ) (x : Summary) (f : FramedKnown (formatIn b) b x) (k bad : ℕ) (found exit : List ℕ) (version : ℕ) (v : version ≡ wordAt b 0)
+    (t : Kept (formatFor version) (take (16 + x .length - 16) (drop 16 b)) b (x .count) k found bad exit) where
+  history : unfit bad ≡ historyVerdict planeFrames (formatIn b) (frameIn b) (entriesIn (formatIn b) b)
+  history =
+      t .verdict
+      ∙ ap₂ (λ (F : Format) (g : List ℕ). historyVerdict planeFrames F g (entriesTo F b (x .count))) (ap formatFor v) (frame-lent (formatIn b) b x f)
+      ∙ ap (λ (n : ℕ). historyVerdict planeFrames (formatIn b) (frameIn b) (entriesTo (formatIn b) b n)) (f .count)
+
+  verdict-is : recordVerdict planeFrames (formatIn b) b ≡ unfit bad
+  verdict-is = parts-verdict planeFrames (formatIn b) b (f .header) (f .judged) ∙ sym history
+
+  fits-all : bad ≡ 0 → recordVerdict planeFrames (formatIn b) b ≡ accepted tt
+  fits-all z = verdict-is ∙ ap (λ (n : ℕ). unfit n) z
+
+  fits-not : (bad ≡ 0 → ⊥) → recordVerdict planeFrames (formatIn b) b ≡ refused 21 bad
+  fits-not n = let q : unfit bad ≡ refused 21 bad = rw (ne-eqb bad 0 n) in verdict-is ∙ q
+
+  pub kept-record : bad ≡ 0 → accepted x ≡ recordAnswer planeFrames (formatIn b) b
+  unfolding recordAnswer
+  kept-record z =
+      let q : x ≡ record { length = lengthIn b; count = countIn b; total = totalIn (formatIn b) b } = (λ i. record { length = f .length i; count = f .count i; total = f .total i }) in
+      rw (fits-all z) (ap accepted q)
+
+  pub kept-refused : (bad ≡ 0 → ⊥) → refused 21 bad ≡ recordAnswer planeFrames (formatIn b) b
+  unfolding recordAnswer
+  kept-refused n = rw (fits-not n)
+
+  told : exit ≡ pick ((eqb bad 0 && leb k (countIn b)) && leb (lengthIn b) (length found)) (sets found 0 (restored planeFrames (formatIn b) b k)) found
+  unfolding restored
+  told = rw (v, frame-lent (formatIn b) b x f, f .count, room (formatIn b) b (f .header) .frame) at (t .left)
+
+  pub kept-left : exit ≡ restoreExit planeFrames (formatIn b) b k found
+  kept-left = go (eqb bad 0) refl
+    where
+      go : (c : Bool) → eqb bad 0 ≡ c → exit ≡ restoreExit planeFrames (formatIn b) b k found
+      go true q = rw q at told ∙ sym (restore-known (formatIn b) b k found (fits-all (eqb-true bad 0 q)))
+      go false q = rw q at told ∙ restore-refused (formatIn b) b k found 21 bad (fits-not (eqb-false bad 0 q))

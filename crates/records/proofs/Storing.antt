@@ -7,9 +7,9 @@ use mathlib.Core.List.{List, [], _∷_, _++_}
 use native.Mathlib.Omega.{arith}
 use lib.ListN.{length}
 use lib.Seq.{sets}
-use borrow.Author.Tests.{eq-eqb, ne-eqb, le-leb, lt-leb}
-use lib.Dec.{leb, eqb}
-use Rattle.format.specs.Words.{pick, bytes, wordAt, longAt, longWords}
+use borrow.Author.Tests.{eq-eqb, ne-eqb}
+use lib.Dec.{eqb}
+use Rattle.format.specs.Words.{pick, bytes, longWords}
 use Rattle.format.specs.Spots.{legalValue, valueWord, valueWords}
 use Rattle.format.proofs.items.StoringLaws.{sets-out, sets-next}
 use Rattle.format.proofs.front.Stability.{legal-sample}
@@ -63,14 +63,6 @@ module _ (f : List ℕ) (kind w v : ℕ) where
         let i : 2 * (w + 1) ≡ 2 * w + 2 = omega arith in
         let j : 2 * w + 4 ≡ suc (suc (2 * w + 2)) = omega arith in
         rw (t, s, l, ne-eqb kind 1 n, i, j)
-
--- a slice that is too short for an entry has none; one that is not has it whole
-pub short-left : (f s : List ℕ) → length s < 16 → f ≡ pick (leb 16 (length s)) (stored f (wordAt s 1) (wordAt s 0) (longAt s 2)) f
-short-left f s h = rw (lt-leb 16 (length s) h)
-
-pub old-left : (f s g : List ℕ) (k w old : ℕ) → 16 ≤ length s → k ≡ wordAt s 1 → w ≡ wordAt s 0 → old ≡ longAt s 2 → g ≡ stored f k w old
-    → g ≡ pick (leb 16 (length s)) (stored f (wordAt s 1) (wordAt s 0) (longAt s 2)) f
-old-left f s g k w old h ek ew eo e = rw (le-leb 16 (length s) h) (e ∙ rw (ek, ew, eo))
 
 -- ---- an entry
 

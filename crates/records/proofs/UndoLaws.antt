@@ -2,8 +2,8 @@
 -- a frame that the map still tells the headers of.
 -- Assumes nothing.
 use Prim.Native.Nat.{ℕ, zero, suc, _+_, _-_, _*_, _<_, _≤_}
-use mathlib.Core.Path.{_≡_, refl, sym, ap, subst, _∙_}
-use mathlib.Core.List.{List, [], _∷_}
+use mathlib.Core.Path.{_≡_, refl, sym, ap, ap₂, subst, _∙_}
+use mathlib.Core.List.{List, [], _∷_, _++_}
 use mathlib.Core.Bool.{Bool, true, false, not, _&&_, true≢false}
 use mathlib.Core.Logic.{⊎-elim, by-cases}
 use mathlib.Core.Option.{Option, none, some}
@@ -11,16 +11,17 @@ use native.Mathlib.Omega.{arith}
 use native.Mathlib.Nat.{mul-suc, mul-le-mul}
 use native.Mathlib.Decide.{decLt}
 use lib.Dec.{eqb, leb, ltb}
-use lib.ListN.{length, getD, take, drop, length-drop}
-use lib.Seq.{sets, length-take-le}
-use borrow.Author.Tests.{eq-eqb, ne-eqb, lt-ltb, le-ltb, le-leb, lt-leb}
+use lib.ListN.{length, getD, take, drop, length-drop, length-append}
+use lib.Seq.{sets, length-take-le, take-at}
+use borrow.Author.Tests.{leb-true, eqb-true, eqb-false, eq-eqb, ne-eqb, lt-ltb, le-ltb, le-leb, lt-leb}
 use Rattle.format.specs.Words.{Bytes, bytes}
-use Rattle.format.specs.Answers.{Done}
+use Rattle.format.specs.Answers.{Done, refused}
 use Rattle.format.specs.Items.{ItemOf, Item, Channel, Histogram, HitCount, Sample, Bin, LastCell, TimeBin, Text, StartEvent, ContinueEvent, EndEvent, wordsOf}
 use Rattle.format.specs.Frames.{lastOf}
 use Rattle.format.specs.Cursor.{standingAt, shownBy}
 use Rattle.format.specs.Spots.{Header, noHeader, Spot, spotOf, underAll, spot, put, legalValue}
 use Rattle.format.specs.Scans.{head, headerAt, spotBy, Noted}
+use Rattle.format.proofs.book.PrefixLaws.{and-left, and-right}
 use Rattle.format.proofs.spots.PutLaws.{stands, put-stores}
 use Rattle.format.proofs.questions.ItemQuestions.{no-some}
 use Rattle.format.proofs.reader.CursorLaws.{next-there}
@@ -29,6 +30,7 @@ use Rattle.ledger.specs.Tests.{all}
 use Rattle.ledger.specs.Frames.{Accepted, Settable}
 use Rattle.ledger.specs.Formats.{Entry, Format, size}
 use Rattle.ledger.specs.Records.{lengthIn, entryOf, numbered, entriesTo, signed, atSpot, before, fitsItem, fits, historyVerdict}
+use Rattle.ledger.specs.Calls.{undone}
 use Rattle.ledger.specs.Chains.{Fits}
 use Rattle.ledger.specs.VersionOne.{versionOne}
 use Rattle.ledger.specs.VersionTwo.{versionTwo}
@@ -38,12 +40,12 @@ use Rattle.ledger.proofs.records.Judging.{fits-right}
 use Rattle.format.proofs.items.StoringLaws.{sets-whole}
 use Rattle.ledger.proofs.records.Codecs.{numbered-suc}
 use Rattle.ledger.proofs.plane.VersionLaws.{for-which}
-use Rattle.ledger.proofs.records.Walking.{judge-none, judge-back, judge-stop}
+use Rattle.ledger.proofs.records.Walking.{judge-none, judge-back, judge-stop, restore-done, restore-back}
 use Rattle.ledger.proofs.plane.PlaneFrames.{stands-there, plane-frames-lawful}
 use Rattle.records.specs.Views.{unfit}
 use Rattle.records.specs.Sound.{soundAt, leftBy}
 use Rattle.records.specs.Stored.{stored, Inside}
-use Rattle.records.specs.Undoing.{Heads, Undoing}
+use Rattle.records.specs.Undoing.{Heads, Undoing, Walked, Kept}
 use Rattle.records.proofs.RecordLaws.{entry-from}
 
 -- the words of an item that stands there lie in the frame
@@ -281,8 +283,45 @@ module _ (F : Format) (f b : List ℕ) (e : Entry) where
       let j : e ≡ numbered F b (suc p) = entry-from F b at e i v ∙ numbered-at F b p at (rw n at w) in
       rw (ne-eqb (suc p) 0 (λ z. omega arith)) (sym (judge-stop planeFrames F f b p (rw j at t)))
 
-pub turn-done : (F : Format) (f b : List ℕ) (m : ℕ) → m ≤ 0 → unfit 0 ≡ historyVerdict planeFrames F f (entriesTo F b m)
-turn-done F f b m l = let z : m ≡ 0 = omega arith in rw z (sym (judge-none planeFrames F f b))
+  -- and what undoing gives, down to number k + 1
+  pub turn-undone : (m at k : ℕ) → 0 < m → e ≡ entryOf F (take (length b - at) (drop at b)) → at ≤ length b → at ≡ 16 + lengthIn b + size F * (m - 1) → k < m → (g : List ℕ) → g ≡ before planeFrames f e
+      → undone planeFrames g (take (m - 1 - k) (entriesTo F b (m - 1))) ≡ undone planeFrames f (take (m - k) (entriesTo F b m))
+  turn-undone zero at k l i v w d g q = absurd (omega arith)
+  turn-undone (suc p) at k l i v w d g q =
+      let n : suc p - 1 ≡ p = omega arith in
+      let j : e ≡ numbered F b (suc p) = entry-from F b at e i v ∙ numbered-at F b p at (rw n at w) in
+      rw (n, q, j) (sym (restore-back planeFrames F f b p k (omega arith)))
+
+module _ (F : Format) (map f b : List ℕ) (n k : ℕ) where
+  -- entry m does not fit
+  pub walked-stop : (m : ℕ) (g : List ℕ) → 0 < m → unfit m ≡ historyVerdict planeFrames F f (entriesTo F b n) → Walked F map f b n k m g
+  walked-stop m g l e = record {
+    stops = λ z. (let q : unfit m ≡ refused 21 m = rw (ne-eqb m 0 z) in sym e ∙ q);
+    goes-on = λ z. absurd (omega arith);
+    undoes = λ z. absurd (omega arith);
+    undoing = λ z. absurd (omega arith);
+  }
+
+  -- all down to number k + 1 do
+  pub walked-done : (m : ℕ) (g : List ℕ) → m ≡ k → historyVerdict planeFrames F g (entriesTo F b m) ≡ historyVerdict planeFrames F f (entriesTo F b n)
+      → undone planeFrames g (take (m - k) (entriesTo F b m)) ≡ undone planeFrames f (take (n - k) (entriesTo F b n)) → Undoing map g → Walked F map f b n k 0 g
+  walked-done m g z h d u = record {
+    stops = λ q. absurd (q refl);
+    goes-on = λ q. rw z at h;
+    undoes = λ q. sym (restore-done planeFrames F g b k) ∙ rw z at d;
+    undoing = λ q. u;
+  }
+
+  pub walked-bad : (bad : ℕ) (g : List ℕ) → Walked F map f b n k bad g → (bad ≡ 0 → ⊥) → unfit bad ≡ historyVerdict planeFrames F f (entriesTo F b n)
+  walked-bad bad g w z = let q : unfit bad ≡ refused 21 bad = rw (ne-eqb bad 0 z) in q ∙ sym (w .stops z)
+
+  -- no entry is left below number 0
+  pub walked-all : (bad : ℕ) (g : List ℕ) → k ≡ 0 → Walked F map f b n k bad g → unfit bad ≡ historyVerdict planeFrames F f (entriesTo F b n)
+  walked-all bad g z w = go (eqb bad 0) refl
+    where
+      go : (t : Bool) → eqb bad 0 ≡ t → unfit bad ≡ historyVerdict planeFrames F f (entriesTo F b n)
+      go true q = rw q (sym (judge-none planeFrames F g b) ∙ rw z at (w .goes-on (eqb-true bad 0 q)))
+      go false q = rw q (sym (w .stops (eqb-false bad 0 q)))
 
 -- ---- a copy of the frame
 
@@ -295,3 +334,32 @@ module _ (frame found g : List ℕ) (l : length found ≡ length frame) (e : g �
 
   pub same-history : (F : Format) (es : List Entry) (o : Done) → o ≡ historyVerdict planeFrames F g es → o ≡ historyVerdict planeFrames F frame es
   same-history F es o q = q ∙ ap (λ (s : List ℕ). historyVerdict planeFrames F s es) copied
+
+-- fewer entries lie in the buffer too
+pub fewer-inside : (F : Format) (b : List ℕ) (h n k : ℕ) → h + size F * n ≤ length b → k ≤ n → h + size F * k ≤ length b
+fewer-inside F b h n k r l =
+    let m : size F * k ≤ size F * n = mul-le-mul (let g : size F ≤ size F = omega arith in g) l in
+    omega arith
+
+-- the frame on the way, kept: a copy of a copy of the frame with the newer entries undone
+pub kept-frame : (F : Format) (frame f g₀ kept kept′ g b : List ℕ) (n k stop : ℕ) → length f ≡ length frame → g₀ ≡ sets f 0 frame → length kept ≡ length frame → kept′ ≡ sets kept 0 g
+    → length g ≡ length g₀ → g ≡ undone planeFrames g₀ (take (n - stop) (entriesTo F b n)) → stop ≡ k → kept′ ≡ undone planeFrames frame (take (n - k) (entriesTo F b n))
+kept-frame F frame f g₀ kept kept′ g b n k stop l e m d w u z =
+    let c : g₀ ≡ frame = copied frame f g₀ l e in
+    let q : length g ≡ length kept = w ∙ ap length c ∙ sym m in
+    d ∙ sets-whole kept g q ∙ u ∙ ap₂ (λ (h : List ℕ) (i : ℕ). undone planeFrames h (take (n - i) (entriesTo F b n))) c z
+
+-- the part of a slice that was lent to be written, and what was not
+pub part-kept : (x y : List ℕ) (n : ℕ) → length x ≡ n → n ≤ length (x ++ y)
+part-kept x y n e = let l = length-append x y in omega arith
+
+module _ (F : Format) (frame b : List ℕ) (n k : ℕ) (found : List ℕ) (bad : ℕ) (v : unfit bad ≡ historyVerdict planeFrames F frame (entriesTo F b n)) where
+  pub kept-written : (exit x y : List ℕ) → ((eqb bad 0 && leb k n) && leb (length frame) (length found)) ≡ true → length x ≡ length frame
+      → (bad ≡ 0 → k ≤ n → x ≡ undone planeFrames frame (take (n - k) (entriesTo F b n))) → exit ≡ sets found 0 (take (length frame) (x ++ y)) → Kept F frame b n k found bad exit
+  kept-written exit x y t l u e =
+      let a = and-left (eqb bad 0 && leb k n) (leb (length frame) (length found)) t in
+      let w = u (eqb-true bad 0 (and-left (eqb bad 0) (leb k n) a)) (leb-true k n (and-right (eqb bad 0) (leb k n) a)) in
+      record { verdict = v; left = rw t (e ∙ ap (λ (l : List ℕ). sets found 0 l) (take-at x y (length frame) l ∙ w)) }
+
+  pub kept-none : ((eqb bad 0 && leb k n) && leb (length frame) (length found)) ≡ false → Kept F frame b n k found bad found
+  kept-none t = record { verdict = v; left = rw t }

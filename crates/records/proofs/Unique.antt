@@ -1,13 +1,11 @@
 -- T39, T40. What an answer says on paper fixes the answer: each view is injective, so each promise of this crate has one answer.
 -- Assumes nothing.
 use Prim.Native.Nat.{ℕ}
-use mathlib.Core.Path.{_≡_, refl, ap}
+use mathlib.Core.Path.{_≡_, refl, sym, ap, _∙_}
 use mathlib.Core.Bool.{Bool}
 use mathlib.Core.List.{List, [], _∷_}
-use lib.Dec.{leb}
-use lib.ListN.{length}
 use lib.Seq.{sets}
-use Rattle.format.specs.Words.{pick, bytes, wordAt, longAt}
+use Rattle.format.specs.Words.{bytes}
 use mathlib.Core.Option.{Option, none, some}
 use Rattle.format.specs.Answers.{Outcome, accepted, refused}
 use Rattle.format.specs.Spots as spots
@@ -36,7 +34,7 @@ use Rattle.records.specs.declared.answers.EntryFound.{EntryFound}
 use Rattle.records.specs.declared.answers.EntryFound.the-variants as entries
 use Rattle.records.specs.Views.{viewSpot, viewRecord, viewJudged, viewStamp, asEntry, viewEntry}
 use Rattle.records.specs.Stored.{stored}
-use Rattle.records.specs.Promises.{SpotTold, Recorded, JudgedTo, EntryTold, EntrySized, EntryRead, EntryPut, SignedBy, UndoneFrom, MayHold, WordPut, ValuePut}
+use Rattle.records.specs.Promises.{SpotTold, Recorded, JudgedTo, EntryTold, RestoredTo, EntrySized, EntryRead, EntryPut, SignedBy, MayHold, WordPut, ValuePut}
 
 -- T40: the way back from each answer on paper
 
@@ -122,6 +120,9 @@ judge-once b w = one viewJudged same-judged (judged.judgedAt planeFrames (format
 pub entry-once : (b : List ℕ) (j : ℕ) (r q : EntryFound) → EntryTold b j r → EntryTold b j q → r ≡ q
 entry-once b j = one viewEntry same-entry (entryAnswer planeFrames (formatIn b) b j)
 
+pub restored-to-once : (b : List ℕ) (k : ℕ) (found : List ℕ) (r q : RecordFound) (e g : List ℕ) → RestoredTo b k found r e → RestoredTo b k found q g → (r ≡ q) × (e ≡ g)
+restored-to-once b k found r q e g x y = (same-record r q (x .answered ∙ sym (y .answered)), x .left ∙ sym (y .left))
+
 pub entry-size-once : (version r q : ℕ) → EntrySized version r → EntrySized version q → r ≡ q
 entry-size-once version = equal-once (size (formatFor version))
 
@@ -134,9 +135,6 @@ signed-once operator reason = equal-once (ledger.signed operator reason)
 -- of the functions that answer nothing, the list that they leave, whole
 pub put-entry-once : (f : List ℕ) (at : ℕ) (e : Entry) (r q : List ℕ) → EntryPut f at e r → EntryPut f at e q → r ≡ q
 put-entry-once f at e = equal-once (sets f at (entryBytes versionTwo (asEntry e)))
-
-pub undo-from-once : (f s r q : List ℕ) → UndoneFrom f s r → UndoneFrom f s q → r ≡ q
-undo-from-once f s = equal-once (pick (leb 16 (length s)) (stored f (wordAt s 1) (wordAt s 0) (longAt s 2)) f)
 
 pub legal-once : (kind value : ℕ) (r q : Bool) → MayHold kind value r → MayHold kind value q → r ≡ q
 legal-once kind value = equal-once (legalValue kind value)

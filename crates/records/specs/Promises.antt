@@ -5,15 +5,13 @@ use Prim.Native.Nat.{ℕ}
 use mathlib.Core.Path.{_≡_}
 use mathlib.Core.Bool.{Bool}
 use mathlib.Core.List.{List, [], _∷_}
-use lib.Dec.{leb}
-use lib.ListN.{length}
 use lib.Seq.{sets}
-use Rattle.format.specs.Words.{pick, bytes, wordAt, longAt}
+use Rattle.format.specs.Words.{bytes}
 use Rattle.format.specs.Spots as spots
 use Rattle.format.specs.Spots.{legalValue}
 use Rattle.ledger.specs.Records as records
 use Rattle.ledger.specs.Records.{entryOf, entryBytes}
-use Rattle.ledger.specs.Calls.{recordAnswer, entryAnswer}
+use Rattle.ledger.specs.Calls.{recordAnswer, entryAnswer, restoreExit}
 use Rattle.ledger.specs.Judged.{judgedAt}
 use Rattle.ledger.specs.Formats.{size}
 use Rattle.ledger.specs.VersionTwo.{versionTwo}
@@ -45,6 +43,11 @@ JudgedTo b w r = viewJudged r ≡ judgedAt planeFrames (formatIn b) b w
 abbrev pub EntryTold : List ℕ → ℕ → EntryFound → Type 0
 EntryTold b j r = viewEntry r ≡ entryAnswer planeFrames (formatIn b) b j
 
+-- the record question, and restoring to k into a second buffer
+pub record RestoredTo (b : List ℕ) (k : ℕ) (found : List ℕ) (r : RecordFound) (exit : List ℕ) : Type 0 where
+  pub answered : viewRecord r ≡ recordAnswer planeFrames (formatIn b) b
+  pub left : exit ≡ restoreExit planeFrames (formatIn b) b k found
+
 -- ---- entries
 
 -- the bytes of one in a record of that version
@@ -61,11 +64,6 @@ EntryPut found at e exit = exit ≡ sets found at (entryBytes versionTwo (asEntr
 
 abbrev pub SignedBy : ℕ → ℕ → Bool → Type 0
 SignedBy operator reason r = r ≡ records.signed operator reason
-
--- the entry that a slice begins with undone in the bytes of a frame: word index, kind and old value stand at the same words in every version, and a slice
--- too short for an entry has none
-abbrev pub UndoneFrom : List ℕ → List ℕ → List ℕ → Type 0
-UndoneFrom found s exit = exit ≡ pick (leb 16 (length s)) (stored found (wordAt s 1) (wordAt s 0) (longAt s 2)) found
 
 -- ---- values
 

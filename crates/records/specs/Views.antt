@@ -10,7 +10,7 @@ use Rattle.book.specs.Views.{refusal}
 use Rattle.ledger.specs.Formats as formats
 use Rattle.ledger.specs.Calls.{Summary}
 use Rattle.ledger.specs.Judged as judged
-use Rattle.ledger.specs.Records.{entriesTo, historyVerdict}
+use Rattle.ledger.specs.Records.{lengthIn, countIn, totalIn, frameIn, headerRight, entriesTo, historyVerdict}
 use Rattle.ledger.specs.PlaneFrames.{planeFrames}
 use Rattle.records.specs.declared.answers.Header.{Header}
 use Rattle.records.specs.declared.answers.SpotFound.{SpotFound}
@@ -59,6 +59,12 @@ viewEntry (entries.Refused r) = refusal r
 -- the number of the newest entry that does not fit, or 0, as an answer
 abbrev pub unfit : ℕ → Done
 unfit n = need (eqb n 0) 21 n
+
+-- what the header and the frame of a record tell, with no entry tested
+unfoldable pub framedAnswer : formats.Format → List ℕ → Outcome Summary
+framedAnswer F b =
+    andThen (need (headerRight F b) 20 0)
+    (λ u. andThen (planeFrames .judge (frameIn b)) (λ v. accepted (record { length = lengthIn b; count = countIn b; total = totalIn F b })))
 
 -- what is told of a record of a format, with these lengths and this count, whose header and frame f are right
 unfoldable pub historyJudged : formats.Format → List ℕ → List ℕ → Summary → ℕ → Outcome judged.Judged

@@ -1,19 +1,19 @@
 // The history of a record: its entries, tested and undone from the newest back on a copy of the frame.
 ghost use mathlib.Core.Path.{_≡_};
 ghost use mathlib.Core.Bool.{_&&_};
-ghost use Prim.Native.Nat.{ℕ, _+_, _*_, _≤_};
-ghost use lib.ListN.{length, getD};
+ghost use Prim.Native.Nat.{ℕ, _+_, _-_, _*_, _≤_};
+ghost use lib.ListN.{length, getD, take};
 ghost use Rattle.ledger.specs.Frames.{Accepted};
 ghost use Rattle.ledger.specs.Formats.{size};
 ghost use Rattle.ledger.specs.Records.{lengthIn, entriesTo, fits, historyVerdict};
+ghost use Rattle.ledger.specs.Calls.{undone};
 ghost use Rattle.ledger.specs.Versions.{formatFor};
 ghost use Rattle.ledger.specs.PlaneFrames.{planeFrames};
 ghost use Rattle.format.specs.Spots as spots;
 ghost use Rattle.records.specs.Views.{viewSpot, viewStamp, asEntry, unfit};
 ghost use Rattle.records.specs.Sound.{soundAt, leftBy};
-ghost use Rattle.records.specs.Stored.{stored};
-ghost use Rattle.records.specs.Undoing.{Heads, Undoing};
-ghost use Rattle.records.specs.Promises.{SignedBy, UndoneFrom};
+ghost use Rattle.records.specs.Undoing.{Heads, Undoing, Unwinding, Walked};
+ghost use Rattle.records.specs.Promises.{SignedBy};
 use crate::answers::Entry;
 use crate::answers::Record;
 use crate::answers::Spot;
@@ -24,17 +24,21 @@ use crate::entries::entry_size;
 use crate::scan::NONE;
 use crate::scan::header_at;
 use crate::scan::item_noted;
-use crate::scan::long_in;
 use crate::scan::note_heads;
 use crate::scan::spot_of;
-use crate::scan::word_in;
 use crate::values::legal;
 use crate::values::put_in;
-use crate::values::put_value;
 use book::items::Item;
 use book::words::copy;
 use cursor::standing::Standing;
 use cursor::standing::item_at;
+
+// The lesser of two numbers.
+fn least(a: usize, b: usize) -> usize
+    ensures { λ r. ⌜ (r ≤ a) × (r ≤ b) × (a ≤ b → r ≡ a) ⌝ }
+{
+    if a <= b { a } else { b }
+}
 
 // The word noted for a word.
 fn head_at(map: &[u16], w: usize) -> u16
@@ -140,42 +144,22 @@ pub(crate) fn spot_noted(f: &[u8], map: &[u16], w: usize) -> SpotFound
     spot_of(item, header)
 }
 
-// Takes the old value of an entry as standing: an entry that fits says by its own kind where the value is, so the frame is not walked. Its word index
-// has 16 bits, so that one test tells whether the words surely lie in the frame, as in every record: then no byte is tested again.
-fn undo_at(f: &mut [u8], kind: u16, w: u16, old: u32)
-    ensures { λ _. ⌜ now (f .exit) ≡ stored (now (f .entry)) kind w old ⌝ }
-{
-    let at = w as usize;
-    if at + 2 < f.len() / 2 {
-        if legal(kind, old) {
-            put_in(f, kind, at, old);
-        }
-        return;
-    }
-    put_value(f, kind, at, old);
-}
-
-// Undoes the entry that a slice begins with, of any version: no more is read than that takes. A slice that is too short for one is let be.
-pub fn undo_from(f: &mut [u8], s: &[u8])
-    ensures { λ _. ⌜ UndoneFrom (now (f .entry)) (now (s .entry)) (now (f .exit)) ⌝ }
-{
-    if s.len() < Entry::FIRST_SIZE {
-        return;
-    }
-    let kind = word_in(s, Entry::KIND_WORD);
-    let at = word_in(s, Entry::INDEX_WORD);
-    let old = long_in(s, Entry::OLD_WORD);
-    undo_at(f, kind, at, old);
-}
-
-// The number of the newest entry that does not fit, or 0: the entries from number n down, undone in f. The history begins at byte h.
-fn walk_back(f: &mut [u8], map: &[u16], b: &[u8], version: u16, h: usize, n: usize) -> usize
-    requires { ⌜ Undoing (now map) (now f) × (h ≡ 16 + lengthIn (now b)) × (h + size (formatFor version) * n ≤ length (now b)) ⌝ }
-    ensures { λ r. ⌜ unfit r ≡ historyVerdict planeFrames (formatFor version) (now (f .entry)) (entriesTo (formatFor version) (now (b .entry)) n) ⌝ }
+// The number of the newest entry that does not fit, or 0: the entries from number n down to number k + 1, undone in f. The history begins at byte h.
+fn walk_back(
+    f: &mut [u8],
+    map: &[u16],
+    b: &[u8],
+    version: u16,
+    h: usize,
+    n: usize,
+    k: usize,
+) -> usize
+    requires { ⌜ Undoing (now map) (now f) × (h ≡ 16 + lengthIn (now b)) × (h + size (formatFor version) * n ≤ length (now b)) × (k ≤ n) ⌝ }
+    ensures { λ r. ⌜ Walked (formatFor version) (now (map .entry)) (now (f .entry)) (now (b .entry)) n k r (now (f .exit)) ⌝ }
 {
     let size = entry_size(version);
     let mut m = n;
-    while 0 < m {
+    while k < m {
         let at = h + size * (m - 1);
         let e = entry_in(&b[at..], version);
         if entry_fits(f, map, e, version) {
@@ -188,8 +172,8 @@ fn walk_back(f: &mut [u8], map: &[u16], b: &[u8], version: u16, h: usize, n: usi
     0
 }
 
-// The same over a copy of the frame, made in f, with its headers noted in a map of zeros. A copy and not the frame itself: the frame is lent to be
-// read only and a refused call changes nothing, but each entry is judged on the frame as it stood before the newer ones were made.
+// The same of all entries over a copy of the frame, made in f, with its headers noted in a map of zeros. A copy and not the frame itself: the frame is
+// lent to be read only and a refused call changes nothing, but each entry is judged on the frame as it stood before the newer ones were made.
 pub(crate) fn unwind(
     f: &mut [u8],
     map: &mut [u16],
@@ -198,10 +182,36 @@ pub(crate) fn unwind(
     version: u16,
     n: usize,
 ) -> usize
-    requires { ⌜ Accepted planeFrames (now frame) × (length (now f) ≡ length (now frame)) × (4096 ≤ length (now map)) × ((i : ℕ) → getD (now map) i 0 ≡ 0) × (length (now frame) ≡ lengthIn (now b)) × (16 + lengthIn (now b) + size (formatFor version) * n ≤ length (now b)) ⌝ }
+    requires { ⌜ Unwinding (formatFor version) (now frame) (now f) (now map) (now b) n ⌝ }
     ensures { λ r. ⌜ (unfit r ≡ historyVerdict planeFrames (formatFor version) (now (frame .entry)) (entriesTo (formatFor version) (now (b .entry)) n)) × Heads (now (frame .entry)) (now (map .exit)) ⌝ }
 {
     note_heads(frame, map);
     copy(frame, f);
-    walk_back(f, map, b, version, Record::HEADER + frame.len(), n)
+    walk_back(f, map, b, version, Record::HEADER + frame.len(), n, 0)
+}
+
+// The same, and the frame as it stood after the first k entries, where there are so many, kept on the way: no entry is undone twice.
+pub(crate) fn unwind_to(
+    f: &mut [u8],
+    map: &mut [u16],
+    kept: &mut [u8],
+    frame: &[u8],
+    b: &[u8],
+    version: u16,
+    n: usize,
+    k: usize,
+) -> usize
+    requires { ⌜ Unwinding (formatFor version) (now frame) (now f) (now map) (now b) n × (length (now kept) ≡ length (now frame)) ⌝ }
+    ensures { λ r. ⌜ (unfit r ≡ historyVerdict planeFrames (formatFor version) (now (frame .entry)) (entriesTo (formatFor version) (now (b .entry)) n)) × (r ≡ 0 → k ≤ n → now (kept .exit) ≡ undone planeFrames (now (frame .entry)) (take (n - k) (entriesTo (formatFor version) (now (b .entry)) n))) ⌝ }
+{
+    note_heads(frame, map);
+    copy(frame, f);
+    let h = Record::HEADER + frame.len();
+    let stop = least(k, n);
+    let bad = walk_back(f, map, b, version, h, n, stop);
+    if bad != 0 {
+        return bad;
+    }
+    copy(f, kept);
+    walk_back(f, map, b, version, h, stop, 0)
 }

@@ -1,19 +1,17 @@
 // The plane record, a frame with its edit history, is judged: record, entry, and what stands at a word of its frame.
 ghost use mathlib.Core.Path.{_≡_};
-ghost use Prim.Native.Nat.{ℕ, _+_, _*_, _≤_};
+ghost use Prim.Native.Nat.{ℕ, _≤_};
 ghost use lib.ListN.{length, getD};
-ghost use Rattle.ledger.specs.Frames.{Accepted};
-ghost use Rattle.ledger.specs.Formats.{size};
-ghost use Rattle.ledger.specs.Records.{lengthIn};
-ghost use Rattle.ledger.specs.Versions.{formatFor};
-ghost use Rattle.ledger.specs.PlaneFrames.{planeFrames};
-ghost use Rattle.records.specs.Views.{viewJudged, summaryOf, historyJudged};
+ghost use Rattle.ledger.specs.Versions.{formatFor, formatIn};
+ghost use Rattle.records.specs.Views.{viewRecord, viewJudged, summaryOf, framedAnswer, historyJudged};
+ghost use Rattle.records.specs.Undoing.{Framed};
 ghost use Rattle.records.specs.Promises.{SpotTold, JudgedTo, Recorded, EntryTold};
 
 pub mod answers;
 pub mod entries;
 pub mod header;
 pub mod history;
+pub mod restoring;
 pub mod scan;
 pub mod values;
 
@@ -56,7 +54,7 @@ fn judge_history_in(
     x: Record,
     w: usize,
 ) -> Judged
-    requires { ⌜ Accepted planeFrames (now frame) × (length (now frame) ≤ length (now scratch)) × (4096 ≤ length (now map)) × ((i : ℕ) → getD (now map) i 0 ≡ 0) × (length (now frame) ≡ lengthIn (now b)) × (16 + lengthIn (now b) + size (formatFor version) * x .count ≤ length (now b)) ⌝ }
+    requires { ⌜ Framed (formatFor version) (now frame) (now b) (x .count) × (length (now frame) ≤ length (now scratch)) × (4096 ≤ length (now map)) × ((i : ℕ) → getD (now map) i 0 ≡ 0) ⌝ }
     ensures { λ r. ⌜ viewJudged r ≡ historyJudged (formatFor version) (now (frame .entry)) (now (b .entry)) (summaryOf x) w ⌝ }
 {
     let len = frame.len();
@@ -71,11 +69,11 @@ fn judge_history_in(
 }
 
 // The most words of a frame.
-const WORDS: usize = MOST / 2;
+pub(crate) const WORDS: usize = MOST / 2;
 
 // The same with memory of its own. The arrays stand here and are lent on: in the function that works on them every goal would show all their zeros.
 fn judge_history(frame: &[u8], b: &[u8], version: u16, x: Record, w: usize) -> Judged
-    requires { ⌜ Accepted planeFrames (now frame) × (length (now frame) ≡ lengthIn (now b)) × (16 + lengthIn (now b) + size (formatFor version) * x .count ≤ length (now b)) ⌝ }
+    requires { ⌜ Framed (formatFor version) (now frame) (now b) (x .count) ⌝ }
     ensures { λ r. ⌜ viewJudged r ≡ historyJudged (formatFor version) (now (frame .entry)) (now (b .entry)) (summaryOf x) w ⌝ }
 {
     let mut map = [0u16; WORDS];
@@ -83,36 +81,45 @@ fn judge_history(frame: &[u8], b: &[u8], version: u16, x: Record, w: usize) -> J
     judge_history_in(&mut map, &mut scratch, frame, b, version, x, w)
 }
 
-// Whether a buffer begins with a record, as `record` answers, and what stands at word w of its frame, as `spot` answers. Both versions are judged here:
-// the version word says how long an entry is and what it keeps.
+// The header and the frame of a record: refused, or its lengths and its entry count, with no entry tested. Both versions are judged here: the version
+// word says how long an entry is.
+pub(crate) fn framed(buf: &[u8]) -> RecordFound
+    ensures { λ r. ⌜ viewRecord r ≡ framedAnswer (formatIn (now (buf .entry))) (now (buf .entry)) ⌝ }
+{
+    if !header_right(buf) {
+        return RecordFound::Refused(Refusal {
+            number: Refusal::HEADER,
+            place: 0,
+        });
+    }
+    let length = word(buf, Record::LENGTH_WORD) as usize;
+    let count = word(buf, Record::COUNT_WORD) as usize;
+    let total = word(buf, Record::TOTAL_WORD) as usize;
+    let start = Record::HEADER;
+    let end = start + length;
+    let reading = read(&buf[start..end]);
+    match reading {
+        Reading::Refused(r) => RecordFound::Refused(r),
+        Reading::Accepted(_frame) => RecordFound::Record(Record {
+            length,
+            count,
+            total,
+        }),
+    }
+}
+
+// Whether a buffer begins with a record, as `record` answers, and what stands at word w of its frame, as `spot` answers.
 pub fn judge(buf: &[u8], w: usize) -> Judged
     ensures { λ r. ⌜ JudgedTo (now (buf .entry)) w r ⌝ }
 {
-    if header_right(buf) {
-        let version = word(buf, Record::VERSION_WORD);
-        let length = word(buf, Record::LENGTH_WORD) as usize;
-        let count = word(buf, Record::COUNT_WORD) as usize;
-        let total = word(buf, Record::TOTAL_WORD) as usize;
-        let start = Record::HEADER;
-        let end = start + length;
-        let part = &buf[start..end];
-        let reading = read(part);
-        match reading {
-            Reading::Refused(r) => Judged::Refused(r),
-            Reading::Accepted(_frame) => {
-                let x = Record {
-                    length,
-                    count,
-                    total,
-                };
-                judge_history(part, buf, version, x, w)
-            }
+    let found = framed(buf);
+    match found {
+        RecordFound::Refused(r) => Judged::Refused(r),
+        RecordFound::Record(x) => {
+            let end = Record::HEADER + x.length;
+            let version = word(buf, Record::VERSION_WORD);
+            judge_history(&buf[Record::HEADER..end], buf, version, x, w)
         }
-    } else {
-        Judged::Refused(Refusal {
-            number: Refusal::HEADER,
-            place: 0,
-        })
     }
 }
 

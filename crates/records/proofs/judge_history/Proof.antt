@@ -14,10 +14,16 @@ slice-aggregate-judge-history-in-2 : tie.Need-slice-aggregate-judge-history-in-2
 slice-aggregate-judge-history-in-2 c = search needs
 
 judge-history-in-requires : tie.Need-judge-history-in-requires
-judge-history-in-requires c κs = let p = c .before .before .before .before .pre in (p .0, plane-frames-lawful .short _ (p .0), omega arith, zeros 4096, p .1, p .2)
+judge-history-in-requires c κs = let p = c .before .before .before .before .pre in (p, plane-frames-lawful .short _ (p .accepted), omega arith, zeros 4096)
 
 returns : tie.Need-returns
 returns c = search needs
 
 pub judge-history-spec : {M : Type 1} → statement M
-judge-history-spec = tie.close (tie.spec slice-aggregate-judge-history-in slice-aggregate-judge-history-in-2 judge-history-in-requires returns)
+judge-history-spec =
+    tie.close
+    (tie.spec
+    slice-aggregate-judge-history-in
+    slice-aggregate-judge-history-in-2
+    judge-history-in-requires
+    returns)

@@ -14,12 +14,10 @@ slice-aggregate-unwind : tie.Need-slice-aggregate-unwind
 slice-aggregate-unwind c = sym (length-take-le _ _ (c .before .before .before .before .before .pre .1))
 
 unwind-requires : tie.Need-unwind-requires
-unwind-requires c κs = let p = c .before .before .before .before .before .before .pre in (p .0, length-take-le _ _ (p .1), p .2, p .3, p .4, p .5)
+unwind-requires c κs = let p = c .before .before .before .before .before .before .pre in record { framed = p .0; room = length-take-le _ _ (p .1); long = p .2; zeros = p .3 }
 
 spot-noted-requires : tie.Need-spot-noted-requires
-spot-noted-requires c κs =
-    let h = c .before .before .before .before .before .before in
-    record { frame = h .before .before .before .before .before .before .before .pre .0; heads = h .unwind .ensures .1 }
+spot-noted-requires c κs = search needs
 
 same-length : tie.Need-same-length
 same-length c = search needs

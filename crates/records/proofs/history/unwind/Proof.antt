@@ -2,9 +2,9 @@
 -- Assumes nothing.
 use denote.Ref.{now}
 use Prim.Native.Nat.{ℕ, _+_}
-use mathlib.Core.Path.{ap}
+use mathlib.Core.Path.{refl, ap}
 use native.Mathlib.Omega.{arith}
-use Rattle.records.proofs.UndoLaws.{undoing-start, same-history}
+use Rattle.records.proofs.UndoLaws.{undoing-start, same-history, walked-all}
 use borrow.Author.Needs.{needs}
 use Rattle.records.proofs.history.unwind.Statement.{statement}
 use Rattle.records.proofs.history.unwind.Tie as tie
@@ -19,11 +19,15 @@ add-walk-back : tie.Need-add-walk-back
 add-walk-back c = search needs
 
 walk-back-requires : tie.Need-walk-back-requires
-walk-back-requires c κs = let s = c .before .before .before .before .before .before .before .before .before .before .before .before .before .before in (
-  undoing-start _ (now (s .args .f)) _ (s .pre .1) (c .before .before .before .before .copy .ensures) (s .pre .0) _ (c .before .before .before .before .before .before .before .before .note-heads .ensures),
-  ap (λ (n : ℕ). 16 + n) (s .pre .4),
-  omega (arith, s .pre .4, s .pre .5),
-)
+walk-back-requires c κs =
+    let y = c .before .before .before .before in
+    let n = y .before .before .before .before in
+    let s = n .before .before .before .before .before .before in (
+      undoing-start _ (now (s .args .f)) _ (s .pre .room) (y .copy .ensures) (s .pre .framed .accepted) _ (n .note-heads .ensures),
+      ap (λ (n : ℕ). 16 + n) (s .pre .framed .whole),
+      omega (arith, s .pre .framed .whole, s .pre .framed .inside),
+      omega arith,
+    )
 
 same-length : tie.Need-same-length
 same-length c = search needs
@@ -33,9 +37,11 @@ same-length-2 c = search needs
 
 returns : tie.Need-returns
 returns c =
-    let k = c .before .before .before .before .before .before .before .before .before .before .before in
-    let s = c .before .before .before .before .before .before .before .before .before .before .before .before .before .before .before .before .before in
-    (same-history _ (now (s .args .f)) _ (s .pre .1) (c .before .before .before .before .before .before .before .copy .ensures) _ _ _ (c .before .before .walk-back .ensures), k .note-heads .ensures)
+    let w = c .before .before in
+    let y = w .before .before .before .before .before in
+    let n = y .before .before .before .before in
+    let s = n .before .before .before .before .before .before in
+    (same-history _ (now (s .args .f)) _ (s .pre .room) (y .copy .ensures) _ _ _ (walked-all _ _ _ _ _ _ _ _ refl (w .walk-back .ensures)), n .note-heads .ensures)
 
 pub unwind-spec : {M : Type 1} → statement M
 unwind-spec =

@@ -1,33 +1,35 @@
 -- `records::history::walk_back` meets its contract: what the entries left do to the frame at hand is what all of them do to the first.
 -- Assumes nothing.
 use denote.Ref.{now}
-use Prim.Native.Nat.{_+_, _*_, _≤_}
+use Prim.Native.Nat.{_+_, _-_, _*_, _≤_}
 use mathlib.Core.Path.{_≡_, refl, sym, _∙_}
-use lib.ListN.{length}
+use lib.ListN.{length, take}
 use borrow.Author.Needs.{needs}
 use native.Mathlib.Omega.{arith}
 use Rattle.ledger.specs.Formats.{size}
 use Rattle.ledger.specs.Records.{lengthIn, entriesTo, historyVerdict}
+use Rattle.ledger.specs.Calls.{undone}
 use Rattle.ledger.specs.Versions.{formatFor}
 use Rattle.ledger.specs.PlaneFrames.{planeFrames}
 use Rattle.records.specs.Undoing.{Undoing}
-use Rattle.records.proofs.UndoLaws.{part-long, undo-inside, undo-legal, stored-before, undoing-next, Lies, lies, turn-back, turn-stop, turn-done}
+use Rattle.records.proofs.UndoLaws.{part-long, undo-inside, undo-legal, stored-before, undoing-next, Lies, lies, turn-back, turn-stop, turn-undone, walked-stop, walked-done}
 use Rattle.records.proofs.history.walk_back.Statement.{statement}
 use Rattle.records.proofs.history.walk_back.Tie as tie
 
 abbrev Inv-loop : tie.InvT-loop
-Inv-loop f₀ map b version h n s m₀ f m =
+Inv-loop f₀ map b version h n k s m₀ f m =
     Undoing map f × (m ≤ n) × (length f ≡ length f₀) × (h ≡ 16 + lengthIn b) × (h + size (formatFor version) * n ≤ length b) × (s ≡ size (formatFor version))
     × (historyVerdict planeFrames (formatFor version) f (entriesTo (formatFor version) b m) ≡ historyVerdict planeFrames (formatFor version) f₀ (entriesTo (formatFor version) b n))
+    × (k ≤ m) × (undone planeFrames f (take (m - k) (entriesTo (formatFor version) b m)) ≡ undone planeFrames f₀ (take (n - k) (entriesTo (formatFor version) b n)))
 
 abbrev μ-loop : tie.MeasureT-loop
-μ-loop f₀ map b version h n s m₀ f m = m
+μ-loop f₀ map b version h n k s m₀ f m = m
 
 entry-size-requires : tie.Need-entry-size-requires Inv-loop μ-loop
 entry-size-requires c κs = search needs
 
 loop-holds : tie.Need-loop-holds Inv-loop μ-loop
-loop-holds c = let s = c .before .before .before .before in (s .pre .0, omega arith, refl, s .pre .1, s .pre .2, c .entry-size .ensures, refl)
+loop-holds c = let s = c .before .before .before .before in (s .pre .0, omega arith, refl, s .pre .1, s .pre .2, c .entry-size .ensures, refl, s .pre .3, refl)
 
 -- where the turn's entry begins
 low : (c : tie.In-loop Inv-loop μ-loop)
@@ -92,6 +94,8 @@ loop-again c =
       i .4,
       i .5,
       turn-back _ _ _ _ (l .m) _ (omega arith) (r .entry-in .ensures) (omega (arith, w .whole)) (w .begins) t _ g ∙ i .6,
+      omega arith,
+      turn-undone _ _ _ _ (l .m) _ _ (omega arith) (r .entry-in .ensures) (omega (arith, w .whole)) (w .begins) (omega arith) _ g ∙ i .8,
     )
 
 same-length : tie.Need-same-length Inv-loop μ-loop
@@ -104,13 +108,15 @@ returns c =
     let l = k .before .loop in
     let i = l .inv in
     let w = low k in
-    turn-stop _ _ _ _ (l .m) _ (omega arith) (r .entry-in .ensures) (omega (arith, w .whole)) (w .begins) (sym (c .before .entry-fits .ensures) ∙ c .if1 .left) ∙ i .6
+    walked-stop _ _ _ _ _ _ _ _ (omega arith) (turn-stop _ _ _ _ (l .m) _ (omega arith) (r .entry-in .ensures) (omega (arith, w .whole)) (w .begins) (sym (c .before .entry-fits .ensures) ∙ c .if1 .left) ∙ i .6)
 
 same-length-2 : tie.Need-same-length-2 Inv-loop μ-loop
 same-length-2 c = c .before .loop .inv .2
 
 returns-2 : tie.Need-returns-2 Inv-loop μ-loop
-returns-2 c = turn-done _ _ _ _ (omega arith) ∙ c .before .loop .inv .6
+returns-2 c =
+    let i = c .before .loop .inv in
+    walked-done _ _ _ _ _ _ _ _ (omega (arith, i .7)) (i .6) (i .8) (i .0)
 
 pub walk-back-spec : {M : Type 1} → statement M
 walk-back-spec =
