@@ -96,9 +96,6 @@ pub size-two : (version : ℕ) → (version ≡ 1 → ⊥) → 24 ≡ size (form
 unfolding versionTwo
 size-two version e = sym (ap (λ (F : Format). size F) (for-other version e))
 
-pub size-least : (version : ℕ) → 16 ≤ size (formatFor version)
-size-least version = omega arith
-
 -- what it keeps after the reason
 pub nothing-kept : (s : List ℕ) (version : ℕ) → version ≡ 1 → [] ≡ formatFor version .read (drop 16 s)
 unfolding versionOne
@@ -374,13 +371,6 @@ length-is b v e = e
 pub count-is : (b : List ℕ) (v : ℕ) → v ≡ wordAt b 5 → v ≡ countIn b
 unfolding countIn
 count-is b v e = e
-
-module _ (b : List ℕ) (len : ℕ) where
-  part-bytes : Bytes b → Bytes (take (16 + len - 16) (drop 16 b))
-  part-bytes y = below-take (16 + len - 16) (drop 16 b) 256 (omega arith) (below-drop 16 b 256 y)
-
-  pub part-accepted : Bytes b → (x : Overview) → accepted x ≡ readOf (take (16 + len - 16) (drop 16 b)) → Accepted planeFrames (take (16 + len - 16) (drop 16 b))
-  part-accepted y x e = record { bytes = part-bytes y; judged = judge-accepted (take (16 + len - 16) (drop 16 b)) x e }
 
 -- an entry number from 1 to the count
 pub numbers : (j n : ℕ) → (leb 1 j && leb j n) ≡ true → (1 ≤ j) × (j ≤ n)

@@ -8,15 +8,10 @@ use lib.ListN.{length}
 use lib.Seq.{sets}
 use Rattle.format.specs.Words.{pick, bytes}
 use Rattle.format.specs.Spots.{valueWord, valueWords, legalValue}
-use Rattle.ledger.specs.Formats.{Entry}
 
 -- some bytes with the value v in the item of that kind whose first word is word w; as they are where an item of that kind may not hold v
 unfoldable pub stored : List ℕ → ℕ → ℕ → ℕ → List ℕ
 stored f kind w v = pick (legalValue kind v) (sets f (2 * valueWord kind w) (bytes (valueWords kind v))) f
-
--- some bytes with the old value of an entry
-abbrev pub storedOld : List ℕ → Entry → List ℕ
-storedOld f e = stored f (e .kind) (e .word) (e .old)
 
 -- the words that hold the value of an item of that kind at word w lie in the bytes
 pub record Inside (kind w : ℕ) (f : List ℕ) : Type 0 where
