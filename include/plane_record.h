@@ -5,7 +5,7 @@
  * Every call is proved to answer, and to leave in the memory lent to it, exactly what document 01 and the first three requests of document 02 (events
  * over several frames, many corrections in one call, the time of a correction) say, for all bytes and all arguments. It ends, reads and writes
  * nothing but what it is lent, and keeps nothing: no heap, no globals, no clock, so threads may call it at once, each on memory of its own. Judging a
- * record takes two arrays of 12 KByte together on the stack.
+ * record takes arrays of 16 KByte on the stack, restoring one 24 KByte.
  *
  * Answers. `refused` is PLANE_ACCEPTED, 0, or the number of a refusal, with its `place`; any field that an answer does not use is 0, on a refusal all
  * but these two (a follower or an assembler is given back, and plane_edit_all tells a position). A refused call has left all lent memory as it was,
