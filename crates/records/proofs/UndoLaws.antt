@@ -254,18 +254,16 @@ part-long b at = length-take-le (length b - at) (drop at b) (rw (length-drop at 
 numbered-at : (F : Format) (b : List ℕ) (p at : ℕ) → at ≡ 16 + lengthIn b + size F * p → entryOf F (drop at b) ≡ numbered F b (suc p)
 numbered-at F b p at q = sym (numbered-suc F b p ∙ ap (λ (i : ℕ). entryOf F (drop i b)) (sym q))
 
--- entry m of n, of a history that begins at byte h: where it begins, which is small, and that it is whole
-pub record Lies (F : Format) (b : List ℕ) (h m s : ℕ) : Type 0 where
-  pub begins : h + s * (m - 1) ≡ 16 + lengthIn b + size F * (m - 1)
-  pub whole : h + s * (m - 1) + size F ≤ length b
+-- the entry behind the first p of n, of a history that begins at byte h: where it begins, which is small, and that it is whole
+pub record Lies (F : Format) (b : List ℕ) (h p s : ℕ) : Type 0 where
+  pub begins : h + s * p ≡ 16 + lengthIn b + size F * p
+  pub whole : h + s * p + size F ≤ length b
 
-pub lies : (F : Format) (b : List ℕ) (h n m s : ℕ) → h ≡ 16 + lengthIn b → h + size F * n ≤ length b → s ≡ size F → 0 < m → m ≤ n → Lies F b h m s
-lies F b h n zero s e r z l k = absurd (omega arith)
-lies F b h n (suc p) s e r z l k =
-    let q : suc p - 1 ≡ p = omega arith in
+pub lies : (F : Format) (b : List ℕ) (h n p s : ℕ) → h ≡ 16 + lengthIn b → h + size F * n ≤ length b → s ≡ size F → p < n → Lies F b h p s
+lies F b h n p s e r z k =
     let a = mul-suc (size F) p in
     let w : size F * suc p ≤ size F * n = mul-le-mul (let g : size F ≤ size F = omega arith in g) k in
-    record { begins = rw (q, z, e); whole = rw (q, z) (let g : h + size F * p + size F ≤ length b = omega arith in g) }
+    record { begins = rw (z, e); whole = rw z (let g : h + size F * p + size F ≤ length b = omega arith in g) }
 
 module _ (F : Format) (f b : List ℕ) (e : Entry) where
   pub turn-back : (m at : ℕ) → 0 < m → e ≡ entryOf F (take (length b - at) (drop at b)) → at ≤ length b → at ≡ 16 + lengthIn b + size F * (m - 1) → fits planeFrames F f e ≡ true → (g : List ℕ) → g ≡ before planeFrames f e

@@ -33,8 +33,8 @@ loop-holds c = let s = c .before .before .before .before in (s .pre .0, omega ar
 
 -- where the turn's entry begins
 low : (c : tie.In-loop Inv-loop μ-loop)
-    → Lies (formatFor (c .before .before .before .before .before .before .args .version)) (now (c .before .before .before .before .before .before .args .b)) (c .before .before .before .before .before .before .args .h) (c .before .loop .m) (c .before .before .entry-size .result)
-low c = let i = c .before .loop .inv in lies _ _ _ _ _ _ (i .3) (i .4) (i .5) (omega arith) (i .1)
+    → Lies (formatFor (c .before .before .before .before .before .before .args .version)) (now (c .before .before .before .before .before .before .args .b)) (c .before .before .before .before .before .before .args .h) (c .before .loop .m - 1) (c .before .before .entry-size .result)
+low c = let i = c .before .loop .inv in lies _ _ _ _ _ _ (i .3) (i .4) (i .5) (omega arith)
 
 sub-at : tie.Need-sub-at Inv-loop μ-loop
 sub-at c = search needs
