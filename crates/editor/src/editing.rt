@@ -119,8 +119,9 @@ fn edit_item(buf: &mut [u8], c: Correction, x: Record, spot: SpotFound) -> Done
 
 // Edits a record of version 2; one of version 1 is refused by 20 before its frame is judged. Refuses as judging the record does, then by 22 where no
 // Sample or Bin begins at the word, by 23 for a value that the item may not hold or already has, by 24 for an operator, reason or time out of
-// range, by 25 where 512 entries stand, and by 12 where the buffer has no room for one entry more. The time is kept as given, earlier ones are not asked. Accepted, it has written the value, the two header words that change and one entry, and nothing else; refused,
-// the buffer is as found.
+// range, by 25 where 512 entries stand, and by 12 where the buffer has no room for one entry more. The time is kept as given, whatever the times of
+// earlier entries. Accepted, it has written the value, the two header words that change and one entry, and nothing else; refused, the buffer is as
+// found.
 pub fn edit(buf: &mut [u8], c: Correction) -> Done
     ensures { λ r. ⌜ Edited (now (buf .entry)) (asked c) (viewDone r) (now (buf .exit)) ⌝ }
 {
