@@ -20,14 +20,21 @@ use Rattle.book.specs.declared.items.TimeBin.{TimeBin}
 use Rattle.book.specs.declared.items.Text.{Text}
 use Rattle.book.specs.declared.items.StartEvent.{StartEvent}
 use Rattle.book.specs.Fields.{channelOf, histogramOf, hitsOf, binOf, cellOf, typeOf, channelWord, histogramWord, hitsWord, sampleWord, binWord, cellWord, timeBinWord, textWord, startWord, channelItem, histogramItem, hitsItem, sampleItem, binItem, cellItem, timeItem, startItem}
+use Rattle.book.specs.Page.{onPage, bookPage}
 use Rattle.book.specs.Views.{view}
-use Rattle.book.specs.Promises.{Classified, RowTold, TextLong, WordsAfter, KeyTold, ChannelRead, ChannelWord, ChannelValid, HistogramRead, HistogramWord, HistogramValid, HitCountRead, HitCountWord, HitCountValid, SampleRead, SampleWord, SampleValid, BinRead, BinWord, BinValid, LastCellRead, LastCellWord, LastCellValid, TimeBinRead, TimeBinWord, TimeBinValid, TextRead, TextWord, StartEventRead, StartEventWord, StartEventValid, EndEventLow, ContinueEventLow, WordRead, LongRead, TimeRead, Copied}
+use Rattle.book.specs.Promises.{Classified, PageTold, ClassifiedOn, RowTold, TextLong, WordsAfter, KeyTold, ChannelRead, ChannelWord, ChannelValid, HistogramRead, HistogramWord, HistogramValid, HitCountRead, HitCountWord, HitCountValid, SampleRead, SampleWord, SampleValid, BinRead, BinWord, BinValid, LastCellRead, LastCellWord, LastCellValid, TimeBinRead, TimeBinWord, TimeBinValid, TextRead, TextWord, StartEventRead, StartEventWord, StartEventValid, EndEventLow, ContinueEventLow, WordRead, LongRead, TimeRead, Copied}
 use Rattle.book.proofs.Unique.{one, undone, same-class, equal-once}
 
 -- ---- the class of a word, and the words that come after it
 
 pub classify-once : (w : ℕ) (r q : Class) → Classified w r → Classified w q → r ≡ q
 classify-once w = one view same-class (classOf w)
+
+pub page-once : (r q : List ℕ) → PageTold r → PageTold q → r ≡ q
+page-once = equal-once bookPage
+
+pub classify-on-once : (page : List ℕ) (w : ℕ) (r q : Class) → ClassifiedOn page w r → ClassifiedOn page w q → r ≡ q
+classify-on-once page w = one view same-class (onPage page w)
 
 pub row-once : (c : Class) (r q : ℕ) → RowTold c r → RowTold c q → r ≡ q
 row-once c = equal-once (rowOf (view c))

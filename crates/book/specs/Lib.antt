@@ -1,3 +1,4 @@
 pub mod Views
 pub mod Fields
+pub mod Page
 pub mod Promises

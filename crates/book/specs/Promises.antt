@@ -21,11 +21,20 @@ use Rattle.book.specs.declared.items.Text.{Text}
 use Rattle.book.specs.declared.items.StartEvent.{StartEvent}
 use Rattle.book.specs.Fields.{channelOf, histogramOf, hitsOf, binOf, cellOf, typeOf, channelWord, histogramWord, hitsWord, sampleWord, binWord, cellWord, timeBinWord, textWord, startWord, channelItem, histogramItem, hitsItem, sampleItem, binItem, cellItem, timeItem, startItem}
 use Rattle.book.specs.Views.{view}
+use Rattle.book.specs.Page.{onPage, bookPage}
 
 -- ---- the class of a word, and the words that come after it
 
 abbrev pub Classified : ℕ → Class → Type 0
 Classified w r = view r ≡ classOf w
+
+-- the book's page
+abbrev pub PageTold : List ℕ → Type 0
+PageTold r = r ≡ bookPage
+
+-- by any page
+abbrev pub ClassifiedOn : List ℕ → ℕ → Class → Type 0
+ClassifiedOn page w r = view r ≡ onPage page w
 
 -- its row in document 01's table
 abbrev pub RowTold : Class → ℕ → Type 0

@@ -4,6 +4,8 @@ ghost use Prim.Native.Nat.{_<_};
 ghost use Rattle.format.specs.Book.{classOf, after, textWords};
 ghost use Rattle.book.specs.Views.{view};
 ghost use Rattle.book.specs.Promises.{Classified, RowTold, TextLong, WordsAfter};
+use crate::page::classify_on;
+use crate::page::page;
 
 // A class of document 01's word book, in its order, or none; behind them those of document 02.
 pub enum Class {
@@ -28,6 +30,13 @@ pub enum Class {
 impl Class {
     // The first words of two classes with longer prefixes. Below a Text's are the words of events and of a frame's end.
     pub const TEXT: u16 = 0x0100;
+
+    // of words with high byte 0
+    pub const START_EVENT: u16 = 0x00F0;
+
+    pub const END_EVENT: u16 = 0x00E0;
+
+    pub const FRAME_END: u16 = 0x000F;
 
     pub const TIME_BIN: u16 = 0x0E00;
 
@@ -103,75 +112,12 @@ impl Class {
     }
 }
 
-// The class of a word below 0x1800, by the prefixes of seven bits and more.
-fn classify_long(w: u16) -> Class
-    requires { ⌜ w < 0x1800 ⌝ }
-    ensures { λ r. ⌜ view r ≡ classOf w ⌝ }
-{
-    let seven = w >> 9;
-    if seven == 7 {
-        return Class::TimeBin;
-    }
-    if seven == 4 {
-        return Class::DataFrame;
-    }
-    if seven == 3 {
-        return Class::MonitorFrame;
-    }
-    if seven == 2 {
-        return Class::CommandFrame;
-    }
-    if w >> 8 == 1 {
-        return Class::Text;
-    }
-    let twelve = w >> 4;
-    if twelve == 15 {
-        return Class::StartEvent;
-    }
-    if twelve == 14 {
-        return Class::EndEvent;
-    }
-    if w == 15 {
-        return Class::FrameEnd;
-    }
-    if seven == 5 {
-        return Class::ContinueEvent;
-    }
-    Class::Unassigned
-}
-
-// The class of a word whose first two bits are 0, by the prefixes of four bits and more.
-fn classify_low(w: u16) -> Class
-    requires { ⌜ w < 0x4000 ⌝ }
-    ensures { λ r. ⌜ view r ≡ classOf w ⌝ }
-{
-    if Class::SAMPLE <= w {
-        return Class::Sample;
-    }
-    if Class::BIN <= w {
-        return Class::Bin;
-    }
-    if Class::LAST_CELL <= w {
-        return Class::LastCell;
-    }
-    classify_long(w)
-}
-
-// The class of a word. It is that of the search, shortest prefix first; where a prefix is the highest of those left, a comparison with its
-// first word stands for the shift and the test, since most words of a frame are told so and it is the cheaper.
+// The class of a word: that of the search, shortest prefix first. It stands on the page.
 pub fn classify(w: u16) -> Class
     ensures { λ r. ⌜ Classified w r ⌝ }
 {
-    if w < Class::HIT_COUNT {
-        return classify_low(w);
-    }
-    if w < Class::HISTOGRAM {
-        return Class::HitCount;
-    }
-    if w < Class::CHANNEL {
-        return Class::Histogram;
-    }
-    Class::Channel
+    let rows = page();
+    classify_on(&rows, w)
 }
 
 // The words that a text of n bytes takes, n in the word's low byte: n/2, rounded up.

@@ -2,5 +2,6 @@
 // answers is said by the definitions of the crate `format`; none has a `requires`.
 pub mod class;
 pub mod items;
+pub mod page;
 pub mod refusal;
 pub mod words;

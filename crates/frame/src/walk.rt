@@ -6,6 +6,7 @@ ghost use lib.Dec.{eqb};
 ghost use Rattle.format.specs.Words.{pick, wordAt};
 ghost use Rattle.format.specs.Book as book;
 ghost use Rattle.format.specs.Steps.{stepOf, summed};
+ghost use Rattle.book.specs.Page.{bookPage};
 ghost use Rattle.rules.specs.Views.{viewKind, viewState, viewStep};
 ghost use Rattle.frame.specs.Views.{viewWalk};
 use crate::inside::long;
@@ -14,7 +15,6 @@ use crate::inside::word;
 use crate::repeats::ahead;
 use crate::repeats::repeats_at;
 use book::class::Class;
-use book::class::classify;
 use book::class::text_words;
 use book::items::Bin;
 use book::items::Channel;
@@ -26,6 +26,8 @@ use book::items::LastCell;
 use book::items::Sample;
 use book::items::StartEvent;
 use book::items::TimeBin;
+use book::page::classify_on;
+use book::page::page;
 use book::refusal::Refusal;
 use cursor::texts::is_closed;
 use rules::state::Kind;
@@ -116,13 +118,14 @@ fn text_at(s: &[u8], last: usize, at: usize, w: u16, st: State) -> Step
     text(st, closed, next)
 }
 
-// One turn at the word `at`, of the words before word `last`. It has one caller, the loop below: with a second one the compiler no longer inlines it.
-fn step(s: &[u8], last: usize, at: usize, card: u16, st: State) -> Step
-    requires { ⌜ (at < last) × (2 * last ≤ length (now s)) ⌝ }
+// One turn at the word `at`, of the words before word `last`, by its class on the book's page. It has one caller, the loop below: with a second one
+// the compiler no longer inlines it.
+fn step(s: &[u8], rows: &[u8; 256], last: usize, at: usize, card: u16, st: State) -> Step
+    requires { ⌜ (at < last) × (2 * last ≤ length (now s)) × (now rows ≡ bookPage) ⌝ }
     ensures { λ r. ⌜ viewStep r ≡ stepOf card (now (s .entry)) last at (viewState st) ⌝ }
 {
     let w = word(s, at);
-    let class = classify(w);
+    let class = classify_on(rows, w);
     match class {
         Class::Channel => channel(card, st, Channel::of_word(w), at + 1),
         Class::Histogram => histogram(card, st, Histogram::of_word(w), at + 1),
@@ -166,18 +169,19 @@ fn noted(count: usize, n: usize, at: usize, index: usize) -> usize
 }
 
 // Item by item from the left, over the words before word `last`, and many at once where they repeat; the index of item n is noted on the
-// way.
+// way. The page is taken once and lent to each turn.
 pub(crate) fn walk(s: &[u8], last: usize, kind: Kind, card: u16, n: usize) -> Walked
     requires { ⌜ 2 * last ≤ length (now s) ⌝ }
     ensures { λ r. ⌜ viewWalk r ≡ summed (viewKind kind) card (now (s .entry)) last n ⌝ }
 {
+    let rows = page();
     let mut at: usize = 3;
     let mut count: usize = 0;
     let mut index: usize = 0;
     let mut st = State::start(kind);
     while at < last {
         index = noted(count, n, at, index);
-        let turn = step(s, last, at, card, st);
+        let turn = step(s, &rows, last, at, card, st);
         match turn {
             Step::Moved(after, next) => {
                 count += 1;

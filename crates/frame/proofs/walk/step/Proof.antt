@@ -1,8 +1,10 @@
 -- `frame::walk::step` meets its contract: each arm is the turn of its class.
 -- Assumes nothing.
 use mathlib.Core.Path.{_≡_, ap, sym, _∙_}
+use native.Mathlib.Omega.{arith}
 use Rattle.format.specs.Book.{classOf}
 use Rattle.book.specs.Views.{view}
+use Rattle.book.proofs.PageLaws.{page-tells}
 use Rattle.book.specs.declared.class.Class.{Class}
 use Rattle.frame.proofs.Steps.{channel-step, histogram-step, hit-step, sample-step, cell-step, time-step, data-step, monitor-step, command-step, end-step, unassigned-step}
 use borrow.Author.Needs.{needs}
@@ -10,14 +12,14 @@ use Rattle.frame.proofs.walk.step.Statement.{statement}
 use Rattle.frame.proofs.walk.step.Tie as tie
 
 -- the class that was found is that of the word
-class-is : (c : tie.After-classify) (k : Class) → c .classify .result ≡ k → view k ≡ classOf (c .before .word .result)
-class-is c k e = ap view (sym e) ∙ c .classify .ensures
+class-is : (c : tie.After-classify-on) (k : Class) → c .classify-on .result ≡ k → view k ≡ classOf (c .before .word .result)
+class-is c k e = ap view (sym e) ∙ c .classify-on .ensures ∙ page-tells _ _ (c .before .before .before .pre .2) (omega arith)
 
 word-requires : tie.Need-word-requires
 word-requires c κs = search needs
 
-classify-requires : tie.Need-classify-requires
-classify-requires c κs = search needs
+classify-on-requires : tie.Need-classify-on-requires
+classify-on-requires c κs = search needs
 
 enum-told : tie.Need-enum-told
 enum-told c = search needs
@@ -231,7 +233,7 @@ step-spec =
     tie.close
     (tie.spec
     word-requires
-    classify-requires
+    classify-on-requires
     enum-told
     of-word-requires
     add-channel
