@@ -1,7 +1,6 @@
-// The class of a word, by prefixes of varying length, tried shortest first.
+// The class of a word, by prefixes of varying length, tried shortest first; the page tells it.
 ghost use mathlib.Core.Path.{_≡_};
-ghost use Prim.Native.Nat.{_<_};
-ghost use Rattle.format.specs.Book.{classOf, after, textWords};
+ghost use Rattle.format.specs.Book.{after, textWords};
 ghost use Rattle.book.specs.Views.{view};
 ghost use Rattle.book.specs.Promises.{Classified, RowTold, TextLong, WordsAfter};
 use crate::page::classify_on;
@@ -28,15 +27,15 @@ pub enum Class {
 }
 
 impl Class {
-    // The first words of two classes with longer prefixes. Below a Text's are the words of events and of a frame's end.
-    pub const TEXT: u16 = 0x0100;
-
-    // of words with high byte 0
-    pub const START_EVENT: u16 = 0x00F0;
+    // The first words of the classes of high byte 0: a frame's end has no other word, an event's end reaches to its start, that to the last of them.
+    pub const FRAME_END: u16 = 0x000F;
 
     pub const END_EVENT: u16 = 0x00E0;
 
-    pub const FRAME_END: u16 = 0x000F;
+    pub const START_EVENT: u16 = 0x00F0;
+
+    // The first words of two classes with longer prefixes.
+    pub const TEXT: u16 = 0x0100;
 
     pub const TIME_BIN: u16 = 0x0E00;
 
@@ -112,7 +111,7 @@ impl Class {
     }
 }
 
-// The class of a word: that of the search, shortest prefix first. It stands on the page.
+// The class of a word: that of the search, shortest prefix first.
 pub fn classify(w: u16) -> Class
     ensures { λ r. ⌜ Classified w r ⌝ }
 {

@@ -307,7 +307,7 @@ impl TimeBin {
     pub fn word(self) -> u16
         ensures { λ r. ⌜ TimeBinWord self r ⌝ }
     {
-        self.time & 0x1FF | 0x0E00
+        self.time & 0x1FF | Class::TIME_BIN
     }
 
     pub fn valid(self) -> bool
@@ -331,7 +331,7 @@ impl Text {
     pub fn word(self) -> u16
         ensures { λ r. ⌜ TextWord self r ⌝ }
     {
-        self.length & 0xFF | 0x0100
+        self.length & 0xFF | Class::TEXT
     }
 }
 
@@ -351,7 +351,7 @@ impl StartEvent {
     pub fn word(self) -> u16
         ensures { λ r. ⌜ StartEventWord self r ⌝ }
     {
-        self.kind & 0xF | 0x00F0
+        self.kind & 0xF | Class::START_EVENT
     }
 
     pub fn valid(self) -> bool
@@ -363,7 +363,7 @@ impl StartEvent {
 
 impl EndEvent {
     // The first word of the item; its low four bits are zero.
-    pub const WORD: u16 = 0x00E0;
+    pub const WORD: u16 = Class::END_EVENT;
 
     // The low four bits of a word.
     pub fn low_bits(w: u16) -> u16

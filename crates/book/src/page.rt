@@ -1,5 +1,5 @@
-// The word book as a page: a row for each high byte, with the class of its words; in row 00 alone the low byte decides. That the page tells every word
-// as the search for its prefix does is proved once, over all rows. docs/BOOK.md shows it.
+// The word book as a page: a row for each high byte, with the class of its words; in row 00 alone the low byte decides. docs/BOOK.md shows it. That
+// it tells every word as the search for its prefix does is proved once, over all rows.
 ghost use mathlib.Core.Path.{_≡_};
 ghost use Prim.Native.Nat.{_<_};
 ghost use Rattle.format.specs.Book.{classOf};
@@ -303,7 +303,7 @@ const PAGE: [u8; 256] = [
     CHANNEL, // FF
 ];
 
-// The page. Whoever asks it of many words takes it once and lends it to `classify_on`: the compiler lays all its rows out anew wherever it is named.
+// The page. Whoever asks it of many words takes it once and lends it to `classify_on`: the compiler lays out all its rows anew wherever it is named.
 pub fn page() -> [u8; 256]
     ensures { λ r. ⌜ PageTold r ⌝ }
 {

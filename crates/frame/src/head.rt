@@ -4,6 +4,7 @@ ghost use mathlib.Core.Bool.{true};
 ghost use Rattle.format.specs.Book.{classOf};
 ghost use Rattle.format.specs.Frames.{startFits, kindOf, headFault};
 ghost use Rattle.rules.specs.Views.{viewKind};
+use book::class::Class;
 use book::refusal::Refusal;
 use book::words::word;
 use follower::Follower;
@@ -18,7 +19,7 @@ pub const MOST: usize = 8192;
 pub const LAST_SEQUENCE: u16 = Follower::START;
 
 // The last word of a frame.
-pub const END: u16 = 0x000F;
+pub const END: u16 = Class::FRAME_END;
 
 // The word is a frame start of version 0: its kind and version are its high eleven bits.
 pub(crate) fn is_start(w: u16) -> bool
