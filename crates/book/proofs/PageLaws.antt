@@ -18,7 +18,7 @@ use Rattle.format.proofs.book.TableLaws.{class-range}
 use Rattle.format.proofs.book.PageLaws.{by-page}
 use Rattle.format.proofs.book.Unassigned.{book-paged}
 use Rattle.format.proofs.book.BookFigures.{row-stands}
-use Rattle.book.specs.Page.{lowByte, onRow, onPage, rowAt, numbers, bookPage}
+use Rattle.book.specs.Page.{named, lowByte, onRow, onPage, rowAt, numbers, bookPage}
 
 -- ---- what a row says
 
@@ -34,12 +34,12 @@ past-all row (suc n) h =
     let d : row ≡ n → ⊥ = h .1 in
     omega (arith, e, d)
 
--- a number that is no class's leaves it to the low byte
-pub other-row : (row low : ℕ) → NoneBelow row 16 → classOf low ≡ onRow row low
-other-row row low h = rw (le-ltb row 16 (past-all row 16 h))
+-- a number that names no class leaves it to the low byte
+pub other-row : (row low : ℕ) → NoneBelow row named → classOf low ≡ onRow row low
+other-row row low h = rw (le-ltb row named (past-all row named h))
 
--- each class has a number below that
-row-below : (c : Class) → ltb (rowOf c) lowByte ≡ true
+-- each class is named
+row-below : (c : Class) → ltb (rowOf c) named ≡ true
 row-below channel = refl
 row-below histogram = refl
 row-below hitCount = refl
@@ -85,7 +85,7 @@ low-byte-alone high h = (λ e. there e (eqb high 0) refl, λ z. row-for high h �
     there e true t = eqb-true _ _ t
     there e false t =
         let c = classOf (256 * high) in
-        let r : rowOf c ≡ 16 = sym (row-not-zero high (eqb-false _ _ t)) ∙ sym (row-for high h) ∙ e in
+        let r : rowOf c ≡ 255 = sym (row-not-zero high (eqb-false _ _ t)) ∙ sym (row-for high h) ∙ e in
         let l : rowOf c < 16 = ltb-true _ _ (row-below c) in
         absurd (omega (arith, r, l))
 
@@ -101,7 +101,7 @@ as-printed w c h a r n =
     ∙ ap rowOf (high-alone (256 * (w / 256)) w (omega arith) n ∙ class-range w c a .1 r)
 
 -- the page in runs, by the printed ranges: from 00 on so many high bytes, and what their rows hold
-pub in-runs : bookPage ≡ replicate 1 16 ++ replicate 1 11 ++ replicate 2 0 ++ replicate 2 10 ++ replicate 2 9 ++ replicate 2 8 ++ replicate 2 15 ++ replicate 2 0
+pub in-runs : bookPage ≡ replicate 1 255 ++ replicate 1 11 ++ replicate 2 0 ++ replicate 2 10 ++ replicate 2 9 ++ replicate 2 8 ++ replicate 2 15 ++ replicate 2 0
     ++ replicate 2 7 ++ replicate 8 0 ++ replicate 8 6 ++ replicate 16 5 ++ replicate 16 4 ++ replicate 64 3 ++ replicate 64 2 ++ replicate 64 1
 unfolding bookPage numbers classOf find
 in-runs = refl

@@ -3,17 +3,21 @@
 use Prim.Native.Nat.{ℕ, zero, suc, _*_, _/_, _%_}
 use mathlib.Core.List.{List, [], _∷_, map}
 use lib.Dec.{eqb, ltb}
-use lib.ListN.{getD}
+use lib.ListN.{length, getD}
 use Rattle.format.specs.Words.{pick}
-use Rattle.format.specs.Book.{Class, classOf, rowOf, classAt}
+use Rattle.format.specs.Book.{Class, book, classOf, rowOf, classAt}
 
--- a row holds the number of its class in document 01's table, from 0 for none to 15, or this: the low byte decides
+-- the numbers that name a class: 0 for none, and one for each row of the documents' table
+abbrev pub named : ℕ
+named = suc (length book)
+
+-- a row holds such a number, or this one, which names none: the low byte decides
 abbrev pub lowByte : ℕ
-lowByte = 16
+lowByte = 255
 
--- what a row says of a word with this low byte; where the low byte decides, the word is as if its high byte were 0
+-- what a row says of a word with this low byte; where it names no class, the word is told as if its high byte were 0
 abbrev pub onRow : ℕ → ℕ → Class
-onRow row low = pick (ltb row lowByte) (classAt row) (classOf low)
+onRow row low = pick (ltb row named) (classAt row) (classOf low)
 
 -- what a page says of a word: the row is that of its high byte
 unfoldable pub onPage : List ℕ → ℕ → Class

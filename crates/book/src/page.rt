@@ -41,8 +41,8 @@ const FRAME_END: u8 = Class::ROW_FRAME_END as u8;
 
 const CONTINUE_EVENT: u8 = Class::ROW_CONTINUE_EVENT as u8;
 
-// Or this: the low byte decides.
-const LOW_BYTE: u8 = 16;
+// Or this, which names no class: the low byte decides.
+const LOW_BYTE: u8 = 255;
 
 const PAGE: [u8; 256] = [
     LOW_BYTE, // 00

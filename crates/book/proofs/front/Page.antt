@@ -34,6 +34,6 @@ pub page-printed : (w : ℕ) (c : Class) → w < 65536 → assigned c ≡ true �
 page-printed = page.as-printed
 
 -- FIGURE: the page in runs, written from the printed ranges: from 00 on so many high bytes, and the number that their rows hold.
-pub page-figure : bookPage ≡ replicate 1 16 ++ replicate 1 11 ++ replicate 2 0 ++ replicate 2 10 ++ replicate 2 9 ++ replicate 2 8 ++ replicate 2 15 ++ replicate 2 0
+pub page-figure : bookPage ≡ replicate 1 255 ++ replicate 1 11 ++ replicate 2 0 ++ replicate 2 10 ++ replicate 2 9 ++ replicate 2 8 ++ replicate 2 15 ++ replicate 2 0
     ++ replicate 2 7 ++ replicate 8 0 ++ replicate 8 6 ++ replicate 16 5 ++ replicate 16 4 ++ replicate 64 3 ++ replicate 64 2 ++ replicate 64 1
 page-figure = page.in-runs
