@@ -358,5 +358,5 @@ pub fn classify_on(page: &[u8; 256], w: u16) -> Class
     ensures { λ r. ⌜ ClassifiedOn (now (page .entry)) w r ⌝ }
 {
     let high = (w >> 8) as usize;
-    on_row(page[high], w & 0xFF)
+    on_row(page[high], w % 256)
 }
