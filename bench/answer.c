@@ -40,10 +40,7 @@ static void frame(const struct a_case *c) {
 }
 
 // How many fields a class of the word book has.
-static const u8 fields[18] = {
-    [CHANNEL] = 3, [HISTOGRAM] = 3, [HIT_COUNT] = 3, [SAMPLE] = 1, [BIN] = 2, [LAST_CELL] = 2, [TIME_BIN] = 1, [TEXT] = 1, [START_EVENT] = 3,
-    [END_EVENT] = 1, [CONTINUE_EVENT] = 1, [EXTENDED_CHANNEL] = 3, [EXTENDED_HISTOGRAM] = 3
-};
+static const u8 fields[16] = { [1] = 3, [2] = 3, [3] = 3, [4] = 1, [5] = 2, [6] = 2, [7] = 1, [11] = 1, [12] = 3, [13] = 1, [15] = 1 };
 
 static void item(const struct a_case *c) {
     struct item x;
@@ -200,12 +197,13 @@ static void run(const struct a_case *c) {
     else printf(" none");
 }
 
-// One step. A case has the latest Channel header as 1 + its chip and channel, or 0, which is the key.
+// One step. A case has the latest Channel header as 1 + its low 9 bits, or 0; here the key stands behind it.
 static void take(const struct a_case *c) {
-    const struct assembler a = { (u32)c->a[0], (u32)c->a[1], (u32)c->a[2], (u32)c->a[3], (u32)c->a[4], (u32)c->a[5] };
+    const u32 card = (u32)c->a[0], header = (u32)c->a[5];
+    const struct assembler a = { card, (u32)c->a[1], (u32)c->a[2], (u32)c->a[3], (u32)c->a[4], header ? 512 * card + header : 0 };
     const struct taken t = baseline_take(a, c->p, c->n);
     if (refused((struct refusal){ t.number, t.place })) return;
-    printf("ok %u %u %u %u %u %u", t.lost, t.next.follower, t.next.open, t.next.number, t.next.size, t.next.key);
+    printf("ok %u %u %u %u %u %u", t.lost, t.next.follower, t.next.open, t.next.number, t.next.size, t.next.key ? t.next.key - 512 * card : 0);
 }
 
 int main(void) {

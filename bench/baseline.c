@@ -20,9 +20,7 @@ static struct item item_at(const u8 *s, usize at) {
     if (w >= 0x0100) return (struct item){ TEXT, next + ((w & 255) + 1) / 2, { w & 255 } };
     if (w >= 0x00F0)
         return (struct item){ START_EVENT, next + 5, { w & 15, word32(s, at + 1) | (u64)word(s, at + 3) << 32, word32(s, at + 4) } };
-    if (w >= 0x00E0) return (struct item){ END_EVENT, next + 2, { word32(s, at + 1) } };
-    const u32 v = word(s, at + 1);
-    return (struct item){ w == WORD_EXTENDED_CHANNEL ? EXTENDED_CHANNEL : EXTENDED_HISTOGRAM, next + 1, { v >> 11, v >> 7 & 15, v & 127 } };
+    return (struct item){ END_EVENT, next + 2, { word32(s, at + 1) } };
 }
 
 struct refusal baseline_item(const u8 *s, usize n, u64 ordinal, struct item *out) {
@@ -34,21 +32,11 @@ struct refusal baseline_item(const u8 *s, usize n, u64 ordinal, struct item *out
     return only(v);
 }
 
-// Behind the items of one word from here on, inside an event of an accepted frame: they are from 0E00 up.
-static usize past_words(const u8 *s, usize at) {
+// The End event from a word inside an event of an accepted frame on, or the last word: all else inside has one word, and that from 0E00 up.
+static usize end_from(const u8 *s, usize at) {
     while (word(s, at) >= 0x0E00) at += 1;
     return at;
 }
-
-// The End event from an item inside an event of an accepted frame on, or the last word: all else inside is an extended header, or has one word.
-static usize end_from(const u8 *s, usize at) {
-    at = past_words(s, at);
-    while (word(s, at) == WORD_EXTENDED_CHANNEL) at = past_words(s, at + 2);
-    return at;
-}
-
-// Behind a header of the chip, which decides on its spelling.
-static usize behind(usize header, u32 chip) { return header + (chip > LAST_PLAIN_CHIP ? 2 : 1); }
 
 struct refusal baseline_event(const u8 *s, usize n, u64 ordinal, struct event *out) {
     usize found = 0;
@@ -75,7 +63,7 @@ struct refusal baseline_samples(const u8 *s, usize n, u64 ordinal, u32 chip, u32
     if (!found || chip > LAST_CHIP || channel > LAST_CHANNEL) return fault(ABSENT, 0);
     for (usize t = 0; t < TIMES; t++) out[t] = 0xFFFF;
     usize t = 0;
-    for (usize at = behind(found, chip);; at++) {
+    for (usize at = found + 1;; at++) {
         const u32 w = word(s, at);
         if (w >> 12 == 3) out[t++] = w & 4095;
         else if (w >> 9 == 7) t = w & 511;
@@ -91,7 +79,7 @@ struct refusal baseline_counts(const u8 *s, usize n, u32 chip, u32 channel, u32 
     if (room < BINS) return fault(ROOM, 0);
     if (!found || chip > LAST_CHIP || channel > LAST_CHANNEL) return fault(ABSENT, 0);
     for (usize b = 0; b < BINS; b++) out[b] = 0;
-    for (usize at = behind(found, chip); word(s, at) >> 12 == 2; at += 3) out[word(s, at) & 4095] = word32(s, at + 1);
+    for (usize at = found + 1; word(s, at) >> 12 == 2; at += 3) out[word(s, at) & 4095] = word32(s, at + 1);
     return only(v);
 }
 
@@ -102,7 +90,7 @@ struct refusal baseline_sample_word(const u8 *s, usize n, u64 ordinal, u32 chip,
     if (v.number) return only(v);
     if (!found || chip > LAST_CHIP || channel > LAST_CHANNEL) return fault(ABSENT, 0);
     usize t = 0;
-    for (usize at = behind(found, chip);; at++) {
+    for (usize at = found + 1;; at++) {
         const u32 w = word(s, at);
         if (w >> 12 == 3) {
             if (t++ != time) continue;
@@ -120,7 +108,7 @@ struct refusal baseline_bin_word(const u8 *s, usize n, u32 chip, u32 channel, u3
     const struct verdict v = judge(s, n, q, &found);
     if (v.number) return only(v);
     if (!found || chip > LAST_CHIP || channel > LAST_CHANNEL) return fault(ABSENT, 0);
-    for (usize at = behind(found, chip); word(s, at) >> 12 == 2; at += 3) {
+    for (usize at = found + 1; word(s, at) >> 12 == 2; at += 3) {
         if ((word(s, at) & 4095) != bin) continue;
         *out = at;
         return only(v);

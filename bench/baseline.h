@@ -18,14 +18,7 @@ struct verdict {
     u32 items;
 };
 
-// The rows of the word book.
-enum classes {
-    CHANNEL = 1, HISTOGRAM, HIT_COUNT, SAMPLE, BIN, LAST_CELL, TIME_BIN, DATA_FRAME, MONITOR_FRAME, COMMAND_FRAME, TEXT, START_EVENT,
-    END_EVENT, FRAME_END, CONTINUE_EVENT, EXTENDED_CHANNEL, EXTENDED_HISTOGRAM
-};
-
-// The fields stand in the book's order; an extended header has those of a plain one. Which of the two a header is goes by its chip, where it is
-// written too, whichever class is named there.
+// The class is a row of the word book, from 1; the fields stand in the book's order.
 struct item {
     u32 class;
     u32 next;
@@ -49,8 +42,7 @@ struct refusal {
 };
 
 // What the items so far leave behind, for the next one: where it would stand (0 is no mode), the least that a header may be, the time of the
-// next sample or the least number of the next bin, and the latest Start event (0 is none: an open event began in another frame). A header is its chip
-// and channel, in 11 bits: its card is the frame's.
+// next sample or the least number of the next bin, and the latest Start event (0 is none: an open event began in another frame).
 struct state {
     u32 mode;
     u32 key;
@@ -66,7 +58,7 @@ struct draft {
 };
 
 // The assembler of a card's events: its follower (0 idle, 1 + e expecting e), and the event that is open, if one is: its number, its bytes in all
-// parts so far, and the least that its next Channel header may be, by its chip and channel. All is 0 but card and follower where none is open.
+// parts so far, and the least that its next Channel header may be, by its low 14 bits. All is 0 but card and follower where none is open.
 struct assembler {
     u32 card;
     u32 follower;

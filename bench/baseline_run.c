@@ -59,7 +59,6 @@ static int words_after(u32 w) {
     if (w >> 12 == 2 || w >> 9 == 5 || w >> 4 == 0xE) return 2; // Bin, Continue event, End event
     if (w >> 8 == 1) return (int)((w & 255) + 1) / 2;
     if (w >> 4 == 0xF) return 5;
-    if (w == WORD_EXTENDED_CHANNEL || w == WORD_EXTENDED_HISTOGRAM) return 1;
     return w >= 0x1800 || (w >= 0x0E00 && w < 0x1000) || (w >= 0x0400 && w < 0x0A00) || w == 0x000F ? 0 : -1;
 }
 
@@ -105,9 +104,9 @@ outside:
 inside:
     w = word(s, at);
 again:
-    if (w >= 0xC000) { // Channel
-        const u32 low = w & 511;
-        if (w >> 9 != (0x60 | card) || (w & 127) > LAST_CHANNEL) return fault(VALUE, at);
+    if (w >= 0xC000) { // Channel, and all that is its own
+        const u32 low = w & 0x3FFF;
+        if (low >> 9 != card || (w & 127) > LAST_CHANNEL) return fault(VALUE, at);
         if (low < key) {
             if (opener || fallen || key != given) return fault(ORDER, at); // only the first one is below `given`
             fallen = 1;
@@ -115,7 +114,6 @@ again:
         key = low + 1;
         at += 1;
         w = word(s, at);
-    timed: // all that is the channel's own
         if (w >> 9 != 7) return at == last ? fault(OPEN, at) : misplaced(s, last, at);
         for (;;) { // a Time bin and its Samples
             const usize first = at + 1, time = w & 511;
@@ -135,19 +133,6 @@ again:
     if (w >> 11 == 3) { // Last cell
         at += 1;
         goto inside;
-    }
-    if (w == WORD_EXTENDED_CHANNEL) {
-        if (at + 1 >= last) return fault(CUT, at);
-        const u32 v = word(s, at + 1), low = v & 2047;
-        if (!is_right_extended(v, card)) return fault(VALUE, at);
-        if (low < key) {
-            if (opener || fallen || key != given) return fault(ORDER, at);
-            fallen = 1;
-        }
-        key = low + 1;
-        at += 2;
-        w = word(s, at);
-        goto timed;
     }
     if (w >> 4 == 0xE) { // End event
         if (at + 2 >= last) return fault(CUT, at);

@@ -1,5 +1,5 @@
-// The walk of the hand-written baseline, from document 01 and requests 1 and 5 of document 02 alone: one pass over the words, the state in locals, a
-// word's class by a tree of comparisons. It is inlined into each call, which says what to look out for on the way.
+// The walk of the hand-written baseline, from document 01 and request 1 of document 02 alone: one pass over the words, the state in locals, a word's
+// class by a tree of comparisons. It is inlined into each call, which says what to look out for on the way.
 #ifndef BASELINE_WALK_H
 #define BASELINE_WALK_H
 #include "baseline.h"
@@ -9,15 +9,17 @@ enum refusals {
     NEW_VALUE, SIGNER, FULL, NO_ENTRY
 };
 
+enum classes {
+    CHANNEL = 1, HISTOGRAM, HIT_COUNT, SAMPLE, BIN, LAST_CELL, TIME_BIN, DATA_FRAME, MONITOR_FRAME, COMMAND_FRAME, TEXT, START_EVENT,
+    END_EVENT, FRAME_END, CONTINUE_EVENT
+};
+
 // Where the next item would stand, one bit each, so that "one of these" is one test.
 enum modes {
     OUTSIDE = 1, INSIDE = 2, AFTER_CHANNEL = 4, AFTER_TIME = 8, AFTER_SAMPLE = 16, UNHEADED = 32, HEADED = 64, COMMANDS = 128
 };
 
-enum { FIRST_ITEM = 3, LAST_CHANNEL = 78, MOST_HITS = 79, LAST_TIME = 511, LAST_CHIP = 15, LAST_PLAIN_CHIP = 3, TIMES = 512, BINS = 4096 };
-
-// The words of the extended headers: card, chip and channel stand in the word after each.
-enum { WORD_EXTENDED_CHANNEL = 0x000D, WORD_EXTENDED_HISTOGRAM };
+enum { FIRST_ITEM = 3, LAST_CHANNEL = 78, MOST_HITS = 79, LAST_TIME = 511, LAST_CHIP = 3, TIMES = 512, BINS = 4096 };
 
 // The modes in which no frame ends: an event may be open there, but a channel's samples stand in one frame.
 enum { UNFINISHED = AFTER_CHANNEL | AFTER_TIME };
@@ -28,7 +30,7 @@ enum asked { NOTHING, AN_ITEM, AN_EVENT, A_CHANNEL, A_HISTOGRAM, KINDS };
 struct question {
     enum asked asked;
     u64 ordinal; // of the item or event
-    u32 low;     // chip and channel, as the low 11 bits of an extended header's second word
+    u32 low;     // chip and channel, as the low 9 bits of a header
     u8 *kinds;   // by word: 1 where a Sample begins, 2 where a Bin does
 };
 
@@ -45,9 +47,6 @@ static inline void put_word32(u8 *s, usize i, u32 n) {
     put_word(s, i, n);
     put_word(s, i + 1, n >> 16);
 }
-
-// Whether the second word of an extended header holds what it may: the card, a chip that has no plain spelling, and a channel.
-static inline int is_right_extended(u32 v, u32 card) { return v >> 11 == card && (v & 2047) >> 7 > LAST_PLAIN_CHIP && (v & 127) <= LAST_CHANNEL; }
 
 static const struct refusal accepted = { 0, 0 };
 
@@ -78,24 +77,24 @@ static inline __attribute__((always_inline)) struct refusal walk(
         const u32 w = word(s, at);
         if (q.asked == AN_ITEM && items == q.ordinal) *found = at;
         if (w >= 0x4000) {
-            const u32 low = w & 511, channel = w & 127;
+            const u32 low = w & 0x3FFF, channel = w & 127;
             if (w < 0x8000) { // Hit count
                 if (!(mode & (INSIDE | AFTER_SAMPLE))) return fault(PLACE, at);
-                if ((w >> 9 & 31) != card || channel > MOST_HITS) return fault(VALUE, at);
+                if (low >> 9 != card || channel > MOST_HITS) return fault(VALUE, at);
                 mode = INSIDE;
             } else if (w < 0xC000) { // Histogram
                 if (!(mode & (UNHEADED | HEADED))) return fault(PLACE, at);
-                if ((w >> 9 & 31) != card || channel > LAST_CHANNEL) return fault(VALUE, at);
+                if (low >> 9 != card || channel > LAST_CHANNEL) return fault(VALUE, at);
                 if (low < key) return fault(ORDER, at);
-                if (q.asked == A_HISTOGRAM && low == q.low) *found = at;
+                if (q.asked == A_HISTOGRAM && (w & 511) == q.low) *found = at;
                 key = low + 1;
                 next = 0;
                 mode = HEADED;
             } else { // Channel
                 if (!(mode & (INSIDE | AFTER_SAMPLE))) return fault(PLACE, at);
-                if ((w >> 9 & 31) != card || channel > LAST_CHANNEL) return fault(VALUE, at);
+                if (low >> 9 != card || channel > LAST_CHANNEL) return fault(VALUE, at);
                 if (low < key) return fault(ORDER, at);
-                if (q.asked == A_CHANNEL && low == q.low && events == q.ordinal + 1) *found = at;
+                if (q.asked == A_CHANNEL && (w & 511) == q.low && events == q.ordinal + 1) *found = at;
                 key = low + 1;
                 mode = AFTER_CHANNEL;
             }
@@ -140,27 +139,6 @@ static inline __attribute__((always_inline)) struct refusal walk(
             opener = at;
             mode = INSIDE;
             at += 6;
-        } else if (w == WORD_EXTENDED_CHANNEL) {
-            if (at + 1 >= last) return fault(CUT, at);
-            if (!(mode & (INSIDE | AFTER_SAMPLE))) return fault(PLACE, at);
-            const u32 v = word(s, at + 1), low = v & 2047;
-            if (!is_right_extended(v, card)) return fault(VALUE, at);
-            if (low < key) return fault(ORDER, at);
-            if (q.asked == A_CHANNEL && low == q.low && events == q.ordinal + 1) *found = at;
-            key = low + 1;
-            mode = AFTER_CHANNEL;
-            at += 2;
-        } else if (w == WORD_EXTENDED_HISTOGRAM) {
-            if (at + 1 >= last) return fault(CUT, at);
-            if (!(mode & (UNHEADED | HEADED))) return fault(PLACE, at);
-            const u32 v = word(s, at + 1), low = v & 2047;
-            if (!is_right_extended(v, card)) return fault(VALUE, at);
-            if (low < key) return fault(ORDER, at);
-            if (q.asked == A_HISTOGRAM && low == q.low) *found = at;
-            key = low + 1;
-            next = 0;
-            mode = HEADED;
-            at += 2;
         } else if (w >> 4 == 0xE) { // End event
             if (at + 2 >= last) return fault(CUT, at);
             if (!(mode & (INSIDE | AFTER_SAMPLE))) return fault(PLACE, at);

@@ -22,16 +22,6 @@ static inline struct refusal one_word(u8 *buf, usize room, struct draft *d, u32 
     return accepted;
 }
 
-// An item of two words.
-static inline struct refusal two_words(u8 *buf, usize room, struct draft *d, u32 w, u32 v, struct state after) {
-    if (!fits(room, d->length, 4)) return fault(ROOM, 0);
-    put_word(buf + d->length, 0, w);
-    put_word(buf + d->length, 1, v);
-    d->length += 4;
-    d->state = after;
-    return accepted;
-}
-
 // An item of a word and a number of 32 bits.
 static inline struct refusal three_words(u8 *buf, usize room, struct draft *d, u32 w, u32 n, struct state after) {
     if (!fits(room, d->length, 6)) return fault(ROOM, 0);
@@ -42,38 +32,33 @@ static inline struct refusal three_words(u8 *buf, usize room, struct draft *d, u
     return accepted;
 }
 
-static inline int is_header(const struct item *x, u32 card, u32 last_chip, u32 most) {
-    return x->fields[0] == card && card <= LAST_CARD && x->fields[1] <= last_chip && x->fields[2] <= most;
+static inline int is_header(const struct item *x, u32 card, u32 most) {
+    return x->fields[0] == card && card <= LAST_CARD && x->fields[1] <= LAST_CHIP && x->fields[2] <= most;
 }
 
-// A header in the spelling that its chip has: the plain word of this class, or the extended one and a second word.
-static inline struct refusal header(u8 *buf, usize room, struct draft *d, u32 plain, u32 extended, u32 low, struct state after) {
-    if (low >> 7 <= LAST_PLAIN_CHIP) return one_word(buf, room, d, plain | d->card << 9 | low, after);
-    return two_words(buf, room, d, extended, d->card << 11 | low, after);
-}
+// The low 14 bits of a header whose fields are in range.
+static inline u32 content(const struct item *x) { return (u32)x->fields[0] << 9 | (u32)x->fields[1] << 7 | (u32)x->fields[2]; }
 
 // The step, for whoever takes this file in as text to have it inlined.
 static inline __attribute__((always_inline)) struct refusal put(u8 *buf, usize room, struct draft *d, struct item x) {
     const usize at = d->length / 2;
     const struct state s = d->state;
-    const u32 low = (u32)x.fields[1] << 7 | (u32)x.fields[2], first = (u32)x.fields[0]; // chip and channel, of a header
+    const u32 low = content(&x), first = (u32)x.fields[0];
     switch (x.class) {
     case CHANNEL:
-    case EXTENDED_CHANNEL:
         if (!(s.mode & (INSIDE | AFTER_SAMPLE))) return fault(PLACE, at);
-        if (!is_header(&x, d->card, LAST_CHIP, LAST_CHANNEL)) return fault(VALUE, at);
+        if (!is_header(&x, d->card, LAST_CHANNEL)) return fault(VALUE, at);
         if (low < s.key) return fault(ORDER, at);
-        return header(buf, room, d, 0xC000, WORD_EXTENDED_CHANNEL, low, (struct state){ AFTER_CHANNEL, low + 1, s.next, s.opener });
+        return one_word(buf, room, d, 0xC000 | low, (struct state){ AFTER_CHANNEL, low + 1, s.next, s.opener });
     case HISTOGRAM:
-    case EXTENDED_HISTOGRAM:
         if (!(s.mode & (UNHEADED | HEADED))) return fault(PLACE, at);
-        if (!is_header(&x, d->card, LAST_CHIP, LAST_CHANNEL)) return fault(VALUE, at);
+        if (!is_header(&x, d->card, LAST_CHANNEL)) return fault(VALUE, at);
         if (low < s.key) return fault(ORDER, at);
-        return header(buf, room, d, 0x8000, WORD_EXTENDED_HISTOGRAM, low, (struct state){ HEADED, low + 1, 0, s.opener });
+        return one_word(buf, room, d, 0x8000 | low, (struct state){ HEADED, low + 1, 0, s.opener });
     case HIT_COUNT:
         if (!(s.mode & (INSIDE | AFTER_SAMPLE))) return fault(PLACE, at);
-        if (!is_header(&x, d->card, LAST_PLAIN_CHIP, MOST_HITS)) return fault(VALUE, at);
-        return one_word(buf, room, d, 0x4000 | d->card << 9 | low, (struct state){ INSIDE, s.key, s.next, s.opener });
+        if (!is_header(&x, d->card, MOST_HITS)) return fault(VALUE, at);
+        return one_word(buf, room, d, 0x4000 | low, (struct state){ INSIDE, s.key, s.next, s.opener });
     case SAMPLE:
         if (!(s.mode & (AFTER_TIME | AFTER_SAMPLE))) return fault(PLACE, at);
         if (x.fields[0] > LAST_VALUE) return fault(VALUE, at);
@@ -86,7 +71,7 @@ static inline __attribute__((always_inline)) struct refusal put(u8 *buf, usize r
         return three_words(buf, room, d, 0x2000 | first, (u32)x.fields[1], (struct state){ HEADED, s.key, first + 1, s.opener });
     case LAST_CELL:
         if (!(s.mode & (INSIDE | AFTER_SAMPLE))) return fault(PLACE, at);
-        if (x.fields[0] > LAST_PLAIN_CHIP || x.fields[1] > LAST_CELL_NUMBER) return fault(VALUE, at);
+        if (x.fields[0] > LAST_CHIP || x.fields[1] > LAST_CELL_NUMBER) return fault(VALUE, at);
         return one_word(buf, room, d, 0x1800 | first << 9 | (u32)x.fields[1], (struct state){ INSIDE, s.key, s.next, s.opener });
     case TIME_BIN:
         if (!(s.mode & (AFTER_CHANNEL | AFTER_SAMPLE))) return fault(PLACE, at);

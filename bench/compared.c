@@ -1,22 +1,21 @@
 // Cases that are compared and not measured: lists of corrections that stop, and records of both versions.
-#include "frames.h"
 #include "rows.h"
 
 // Of the C library; the compiler comes without its headers.
 void *memcpy(void *to, const void *from, usize n);
 
-// Frames of samples, mixed ones and bins, and those of extended headers.
-static const u32 fills[] = { SAMPLES_FILL, MIXED_FILL, BINS_FILL, EXTENDED_FILL, EXTENDED_BINS_FILL };
+// Frames of samples, mixed ones and bins.
+static const u32 fills[] = { 0, 2, 3 };
 enum { KINDS = sizeof fills / sizeof fills[0] };
 
 enum { SPOILS = 9 };
 
 // A correction that is refused, wherever it stands: by 22, 22, 23, and 24 six times.
-static struct correction spoiled(struct correction x, u32 how, int is_bin) {
+static struct correction spoiled(struct correction x, u32 how, int of_bins) {
     switch (how) {
     case 0: x.word = 0; break;
     case 1: x.word = 0xFFFFFFFF; break;
-    case 2: x.value = is_bin ? 0 : 4096; break;
+    case 2: x.value = of_bins ? 0 : 4096; break;
     case 3: x.operator = 0; break;
     case 4: x.operator = 65536; break;
     case 5: x.reason = 0; break;
@@ -34,8 +33,6 @@ struct listed {
     u32 fill;
     u32 entries;
 };
-
-static int of_bins(u32 fill) { return fill == BINS_FILL || fill == EXTENDED_BINS_FILL; }
 
 static void make_listed(struct a_case *c, struct listed l) {
     struct correction list[LISTED];
@@ -64,7 +61,7 @@ static int put_refused(const struct a_case *from, struct listed l) {
     for (u32 k = 0; k < sizeof positions / sizeof positions[0]; k++) {
         const u32 at = positions[k];
         for (u32 how = 0; how < SPOILS; how++)
-            failed |= put_changed(from, at, spoiled(correction_at(from, at), how, of_bins(l.fill)));
+            failed |= put_changed(from, at, spoiled(correction_at(from, at), how, l.fill == 3));
         if (at > 0) failed |= put_changed(from, at, correction_at(from, at - 1));
         memcpy(&c, from, sizeof c);
         c.n = 16 + LONGEST + ENTRY_2 * (l.entries + at) + ENTRY_2 - 1;

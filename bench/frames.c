@@ -1,15 +1,9 @@
 // The makers. Each fills a frame to its last word with one manner of items; what is left at the end is taken up by one-word items.
 #include "frames.h"
 
-const char *const fill_names[FILLS] = {
-    "samples", "hits", "mixed", "bins", "text", "short text", "continued samples", "continued mixed", "extended", "extended bins",
-    "plain headers", "plain bins",
-};
+const char *const fill_names[FILLS] = { "samples", "hits", "mixed", "bins", "text", "short text", "continued samples", "continued mixed" };
 
-enum { CARD = FRAME_CARD, CHANNELS = 79, SAMPLES_A_CHANNEL = 500, BINS_A_HISTOGRAM = 300 };
-
-// The chips of plain and of extended headers, and how many headers they have.
-enum { PLAIN_CHIPS = 4, PLAIN_HEADERS = PLAIN_CHIPS * CHANNELS, EXTENDED_HEADERS = 12 * CHANNELS };
+enum { CARD = FRAME_CARD, SAMPLES_A_CHANNEL = 500, BINS_A_HISTOGRAM = 300 };
 
 struct pen {
     u8 *out;
@@ -32,10 +26,7 @@ static u32 chance(struct pen *p, u32 below) {
 static usize left(const struct pen *p) { return p->end - p->at; }
 
 // The n-th header of a frame or event: chips in order, 79 channels each.
-static u32 header(u32 prefix, u32 n) { return prefix | CARD << 9 | (n / CHANNELS) << 7 | n % CHANNELS; }
-
-// The second word of the n-th extended one: from chip 4 on.
-static u32 extended(u32 n) { return CARD << 11 | (PLAIN_CHIPS + n / CHANNELS) << 7 | n % CHANNELS; }
+static u32 header(u32 prefix, u32 n) { return prefix | CARD << 9 | (n / 79) << 7 | n % 79; }
 
 static void start_event(struct pen *p, u32 number) {
     put(p, 0xF1);
@@ -100,7 +91,7 @@ static void pulses(struct pen *p, u32 n, usize stop) {
         put(p, 0x4000 | CARD << 9 | chip << 7 | chance(p, 80));
         put(p, 0x1800 | chip << 9 | chance(p, 512));
     }
-    for (n += chance(p, 20); n < PLAIN_HEADERS && left(p) >= 100 && p->at < stop; n += 1 + chance(p, 30)) {
+    for (n += chance(p, 20); n < 316 && left(p) >= 100 && p->at < stop; n += 1 + chance(p, 30)) {
         u32 time = chance(p, 100);
         put(p, header(0xC000, n));
         for (u32 count = 2 + chance(p, 2); count > 0; count--) {
@@ -133,51 +124,6 @@ static void continued_mixed(struct pen *p) {
     events(p, 1);
 }
 
-// Channels with a Time bin and one Sample each, in as many events as their headers need, plain ones or extended ones throughout.
-static void short_channels(struct pen *p, u32 plain) {
-    const usize words = plain ? 3 : 4;
-    for (u32 number = 0; left(p) >= 9 + words; number++) {
-        const usize from = p->at;
-        start_event(p, number);
-        for (u32 n = 0; n < (plain ? PLAIN_HEADERS : EXTENDED_HEADERS) && left(p) >= 3 + words; n++) {
-            put(p, plain ? header(0xC000, n) : 0x000D);
-            if (!plain) put(p, extended(n));
-            put(p, 0x0E00 | chance(p, 512));
-            put(p, 0x3000 | chance(p, 4096));
-        }
-        if (left(p) < 3 + 9 + words) // no room for another event
-            while (left(p) > 3) hit(p);
-        end_event(p, from, 0);
-    }
-}
-
-static void bin(struct pen *p, u32 number) {
-    put(p, 0x2000 | number);
-    put(p, 1 + chance(p, 65535));
-    put(p, 0);
-}
-
-// Extended histograms of one bin each; what is left at the end is headers alone, of two words, so that 1 and 3 words may not be left.
-static void extended_bins(struct pen *p) {
-    for (u32 n = 0; left(p) > 0; n++) {
-        put(p, 0x000E);
-        put(p, extended(n));
-        if (left(p) >= 3 && left(p) != 3 + 1 && left(p) != 3 + 3) bin(p, chance(p, 4096));
-    }
-}
-
-// Plain histograms of one bin each; where all that there can be do not fill the frame, of as many as it takes, up to five.
-static void plain_bins(struct pen *p) {
-    usize headers = left(p) / 4;
-    if (headers > PLAIN_HEADERS) headers = PLAIN_HEADERS;
-    while ((left(p) - headers) % 3 > 0) headers--;
-    const usize count = (left(p) - headers) / 3;
-    for (u32 n = 0; n < headers; n++) {
-        put(p, header(0x8000, n));
-        for (usize k = 0; k < count * (n + 1) / headers - count * n / headers; k++) bin(p, 800 * (u32)k + chance(p, 800));
-    }
-}
-
 static void bins(struct pen *p) {
     u32 n = 0;
     while (left(p) >= 4) {
@@ -206,7 +152,7 @@ static void texts(struct pen *p, usize most) {
 }
 
 // The start word of each fill's frames, without the card.
-static const u32 starts[FILLS] = { 0x0800, 0x0800, 0x0800, 0x0600, 0x0400, 0x0400, 0x0800, 0x0800, 0x0800, 0x0600, 0x0800, 0x0600 };
+static const u32 starts[FILLS] = { 0x0800, 0x0800, 0x0800, 0x0600, 0x0400, 0x0400, 0x0800, 0x0800 };
 
 void make_frame(u32 fill, usize size, u8 *out) {
     struct pen p = { out, 0, size / 2 - 1, 1 };
@@ -214,18 +160,14 @@ void make_frame(u32 fill, usize size, u8 *out) {
     put(&p, (u32)size);
     put(&p, FRAME_SEQUENCE);
     switch (fill) {
-    case SAMPLES_FILL: samples(&p); break;
-    case HITS_FILL: hits(&p); break;
-    case MIXED_FILL: events(&p, 0); break;
-    case BINS_FILL: bins(&p); break;
-    case TEXT_FILL: texts(&p, 255); break;
-    case SHORT_TEXT_FILL: texts(&p, 24); break;
-    case CONTINUED_SAMPLES_FILL: continued_samples(&p); break;
-    case CONTINUED_MIXED_FILL: continued_mixed(&p); break;
-    case EXTENDED_FILL: short_channels(&p, 0); break;
-    case EXTENDED_BINS_FILL: extended_bins(&p); break;
-    case PLAIN_HEADERS_FILL: short_channels(&p, 1); break;
-    default: plain_bins(&p); break;
+    case 0: samples(&p); break;
+    case 1: hits(&p); break;
+    case 2: events(&p, 0); break;
+    case 3: bins(&p); break;
+    case 4: texts(&p, 255); break;
+    case 5: texts(&p, 24); break;
+    case 6: continued_samples(&p); break;
+    default: continued_mixed(&p); break;
     }
     put(&p, 0x000F);
 }

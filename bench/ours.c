@@ -14,9 +14,7 @@ static u64 read_frame(struct a_case *c, struct lent *out) {
 static u64 last_field(const struct plane_item_fields *x) {
     switch (x->item_class) {
     case PLANE_CHANNEL:
-    case PLANE_HISTOGRAM:
-    case EXTENDED_CHANNEL:
-    case EXTENDED_HISTOGRAM: return x->channel;
+    case PLANE_HISTOGRAM: return x->channel;
     case PLANE_HIT_COUNT: return x->hits;
     case PLANE_SAMPLE: return x->value;
     case PLANE_BIN: return x->count;
@@ -30,8 +28,8 @@ static u64 last_field(const struct plane_item_fields *x) {
 }
 
 static u64 item(struct a_case *c, struct lent *out) {
+    (void)out;
     const struct plane_found x = plane_item(c->p, c->n, c->a[0]);
-    out->told[0] = x.item.item_class;
     return x.refused ? refusal_number(x.refused, x.place) : accepted_number(last_field(&x.item), x.next);
 }
 

@@ -8,18 +8,7 @@ int printf(const char *format, ...);
 void *memcpy(void *to, const void *from, usize n);
 void *memmove(void *to, const void *from, usize n);
 
-// The fills that calls are asked of, a bit each.
-enum {
-    ALL = (1 << FILLS) - 1,
-    CHANNELS = 1 << SAMPLES_FILL | 1 << MIXED_FILL | 1 << EXTENDED_FILL,
-    EVENTS = CHANNELS | 1 << HITS_FILL,
-    HISTOGRAMS = 1 << BINS_FILL | 1 << EXTENDED_BINS_FILL,
-    ITEMS = EVENTS | HISTOGRAMS | 1 << TEXT_FILL | 1 << SHORT_TEXT_FILL,
-    RUNS = 1 << CONTINUED_SAMPLES_FILL | 1 << CONTINUED_MIXED_FILL,
-    RECORDS = 1 << SAMPLES_FILL | 1 << MIXED_FILL | 1 << BINS_FILL,
-};
-
-// A call that is measured. A record has a version; edited is version 2 alone.
+// A call that is measured; `fills` has a bit for each fill that it is asked of. A record has a version; edited is version 2 alone.
 struct call {
     const char *name;
     u32 op;
@@ -28,10 +17,10 @@ struct call {
 };
 
 static const struct call calls[] = {
-    { "read", READ, ALL, 0 }, { "item", ITEM, ITEMS, 0 }, { "event", EVENT, EVENTS, 0 }, { "samples", SAMPLES, CHANNELS, 0 },
-    { "counts", COUNTS, HISTOGRAMS, 0 }, { "sample word", SAMPLE_WORD, CHANNELS, 0 }, { "bin word", BIN_WORD, HISTOGRAMS, 0 },
-    { "take", TAKE, RUNS, 0 }, { "record", JUDGE, RECORDS, 2 }, { "record v1", JUDGE, RECORDS, 1 }, { "edit", EDIT, RECORDS, 2 },
-    { "restore", RESTORE, RECORDS, 2 }, { "restore v1", RESTORE, RECORDS, 1 }, { "edit all", EDIT_ALL, RECORDS, 2 },
+    { "read", READ, 255, 0 }, { "item", ITEM, 63, 0 }, { "event", EVENT, 7, 0 }, { "samples", SAMPLES, 5, 0 }, { "counts", COUNTS, 8, 0 },
+    { "sample word", SAMPLE_WORD, 5, 0 }, { "bin word", BIN_WORD, 8, 0 }, { "take", TAKE, 192, 0 },
+    { "record", JUDGE, 13, 2 }, { "record v1", JUDGE, 13, 1 }, { "edit", EDIT, 13, 2 }, { "restore", RESTORE, 13, 2 },
+    { "restore v1", RESTORE, 13, 1 }, { "edit all", EDIT_ALL, 13, 2 },
 };
 
 static int of_record(u32 op) { return (op >= JUDGE && op <= RESTORE) || op == EDIT_ALL; }
@@ -74,17 +63,13 @@ void list_rows(void) {
 
 // ---- the case of a row
 
-static int is_header(const struct item *x) {
-    return x->class == CHANNEL || x->class == HISTOGRAM || x->class == EXTENDED_CHANNEL || x->class == EXTENDED_HISTOGRAM;
-}
-
-// The last header: its chip and channel, and the number of events before its own end. It is looked for from the left.
-static void last_header(const struct a_case *c, u64 *event, u64 *chip, u64 *channel) {
+// The last header of the class: its chip and channel, and the number of events before its own end. It is looked for from the left.
+static void last_header(const struct a_case *c, u32 class, u64 *event, u64 *chip, u64 *channel) {
     struct item x;
     u64 events = 0;
     for (u64 i = 0; baseline_item(c->p, c->n, i, &x).number == 0; i++) {
-        events += x.class == START_EVENT;
-        if (!is_header(&x)) continue;
+        events += x.class == 12;
+        if (x.class != class) continue;
         *event = events - 1;
         *chip = x.fields[1];
         *channel = x.fields[2];
@@ -96,11 +81,11 @@ static void last_bin(struct a_case *c) {
     struct item x;
     u64 chip = 0, channel = 0;
     for (u64 i = 0; baseline_item(c->p, c->n, i, &x).number == 0; i++) {
-        if (is_header(&x)) {
+        if (x.class == 2) {
             chip = x.fields[1];
             channel = x.fields[2];
         }
-        if (x.class != BIN) continue;
+        if (x.class != 5) continue;
         c->a[0] = chip;
         c->a[1] = channel;
         c->a[2] = x.fields[0];
@@ -220,15 +205,15 @@ static void make_question(struct row r, struct a_case *c) {
     case ITEM: c->a[0] = baseline_read(c->p, c->n).items - 1; break;
     case EVENT: c->a[0] = last_event(c); break;
     case SAMPLES:
-        last_header(c, &c->a[0], &c->a[1], &c->a[2]);
+        last_header(c, 1, &c->a[0], &c->a[1], &c->a[2]);
         c->a[3] = 512;
         break;
     case COUNTS:
-        last_header(c, &none, &c->a[0], &c->a[1]);
+        last_header(c, 2, &none, &c->a[0], &c->a[1]);
         c->a[2] = 4096;
         break;
     case SAMPLE_WORD:
-        last_header(c, &c->a[0], &c->a[1], &c->a[2]);
+        last_header(c, 1, &c->a[0], &c->a[1], &c->a[2]);
         c->a[3] = last_time(c);
         break;
     case BIN_WORD: last_bin(c); break;

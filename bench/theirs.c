@@ -10,15 +10,12 @@ static u64 read_frame(struct a_case *c, struct lent *out) {
 }
 
 // How many fields a class of the word book has.
-static const u8 fields[18] = {
-    [CHANNEL] = 3, [HISTOGRAM] = 3, [HIT_COUNT] = 3, [SAMPLE] = 1, [BIN] = 2, [LAST_CELL] = 2, [TIME_BIN] = 1, [TEXT] = 1, [START_EVENT] = 3,
-    [END_EVENT] = 1, [CONTINUE_EVENT] = 1, [EXTENDED_CHANNEL] = 3, [EXTENDED_HISTOGRAM] = 3
-};
+static const u8 fields[16] = { [1] = 3, [2] = 3, [3] = 3, [4] = 1, [5] = 2, [6] = 2, [7] = 1, [11] = 1, [12] = 3, [13] = 1, [15] = 1 };
 
 static u64 item(struct a_case *c, struct lent *out) {
-    struct item x = { 0 };
+    (void)out;
+    struct item x;
     const struct refusal r = baseline_item(c->p, c->n, c->a[0], &x);
-    out->told[0] = x.class;
     return r.number ? refusal_number(r.number, r.place) : accepted_number(x.fields[fields[x.class] - 1], x.next);
 }
 
@@ -105,15 +102,16 @@ static u64 restore(struct a_case *c, struct lent *out) {
     return told(baseline_restore(c->p, c->n, c->a[0], c->q, c->m), 0, 0);
 }
 
-// An assembler as a case has it: the latest Channel header is 0 for none, else 1 + its chip and channel, which is the key.
+// An assembler as a case has it: the latest Channel header is 0 for none, else 1 + its chip and channel.
 static struct assembler given(const struct a_case *c) {
+    const u32 header = (u32)c->a[5];
     return (struct assembler){
         .card = (u32)c->a[0],
         .follower = (u32)c->a[1],
         .open = (u32)c->a[2],
         .number = (u32)c->a[3],
         .size = (u32)c->a[4],
-        .key = (u32)c->a[5],
+        .key = header ? 512 * (u32)c->a[0] + header : 0,
     };
 }
 
@@ -122,7 +120,7 @@ static void tell(u64 *told, const struct assembler *a) {
     told[1] = a->open;
     told[2] = a->number;
     told[3] = a->size;
-    told[4] = a->key;
+    told[4] = a->key ? a->key - 512 * a->card : 0;
     told[5] = a->card;
 }
 

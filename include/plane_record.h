@@ -22,10 +22,10 @@
 #include <stddef.h>
 #include <stdint.h>
 
-/* Raised by one where a call is added, and where a program written for the version before has to be changed or compiled again; version 6 adds the
- * headers of chips 4 to 15: plane_item answers them with classes of their own, 16 and 17, so that a program which looks for Channels or Histograms by
- * their class asks plane_is_channel or plane_is_histogram. Header and archive are of one version. A record has a version of its own, 1 or 2. */
-#define PLANE_RECORD_VERSION 6
+/* Raised by one where a call is added, and where a program written for the version before has to be changed or compiled again; version 5 adds the
+ * time of a correction: `time` in plane_correction, `timed` and `time` in plane_entry_found, larger entries and records; and records of version 1 are
+ * no longer edited. Header and archive are of one version. A record has a version of its own, 1 or 2. */
+#define PLANE_RECORD_VERSION 5
 
 #ifdef __cplusplus
 extern "C" {
@@ -67,8 +67,8 @@ static inline const char *plane_refusal_name(uint32_t number) {
     return number < sizeof names / sizeof names[0] ? names[number] : "UNKNOWN";
 }
 
-/* The classes, by their numbers in the word book: 1 to 14 are document 01's rows, 15 to 17 came with document 02. Frame starts and Frame end are
- * never items. */
+/* The classes, by their numbers in the word book: 1 to 14 are document 01's rows, 15 came with document 02. Frame starts and Frame end are never
+ * items. */
 enum plane_class {
     PLANE_UNASSIGNED = 0,
     PLANE_CHANNEL = 1,
@@ -85,14 +85,8 @@ enum plane_class {
     PLANE_START_EVENT = 12,
     PLANE_END_EVENT = 13,
     PLANE_FRAME_END = 14,
-    PLANE_CONTINUE_EVENT = 15,
-    PLANE_EXTENDED_CHANNEL = 16,  /* a Channel of chip 4 to 15: one word more in the frame, the same fields */
-    PLANE_EXTENDED_HISTOGRAM = 17 /* and a Histogram */
+    PLANE_CONTINUE_EVENT = 15
 };
-
-/* Whether an item of the class is a Channel, or a Histogram, of whatever chip. */
-static inline int plane_is_channel(uint32_t item_class) { return item_class == PLANE_CHANNEL || item_class == PLANE_EXTENDED_CHANNEL; }
-static inline int plane_is_histogram(uint32_t item_class) { return item_class == PLANE_HISTOGRAM || item_class == PLANE_EXTENDED_HISTOGRAM; }
 
 /* The kinds of frames, and of the items that an entry corrects. */
 enum plane_kind { PLANE_DATA = 1, PLANE_MONITOR = 2, PLANE_COMMAND = 3 };
@@ -135,7 +129,7 @@ struct plane_frame plane_read(const uint8_t *frame, size_t length);
 struct plane_item_fields {
     uint32_t item_class; /* one of enum plane_class */
     uint16_t card;       /* Channel, Histogram, Hit count */
-    uint16_t chip;       /* Channel, Histogram: 0 to 15; Hit count, Last cell: 0 to 3 */
+    uint16_t chip;       /* Channel, Histogram, Hit count, Last cell */
     uint16_t channel;    /* Channel, Histogram */
     uint16_t hits;       /* Hit count */
     uint16_t value;      /* Sample */
@@ -192,13 +186,13 @@ struct plane_done {
     size_t place;
 };
 
-/* The samples of event `ordinal`, a chip, 0 to 15, and a channel: into the first 512 words of `out`, each at its time, PLANE_NO_SAMPLE where no
- * sample stands; words beyond are untouched. Refused as plane_read refuses, then by 12 where `room` is under 512, then by 13, also for a channel of
- * the event that stands in another frame; in a run no channel of an event stands in two. */
+/* The samples of event `ordinal`, a chip and a channel: into the first 512 words of `out`, each at its time, PLANE_NO_SAMPLE where no sample
+ * stands; words beyond are untouched. Refused as plane_read refuses, then by 12 where `room` is under 512, then by 13, also for a channel of the
+ * event that stands in another frame; in a run no channel of an event stands in two. */
 struct plane_done plane_samples(const uint8_t *frame, size_t length, size_t ordinal, uint16_t chip, uint16_t channel, uint16_t *out, size_t room);
 
-/* The counts of the histogram of a chip, 0 to 15, and a channel: into the first 4,096 words of `out`, each at its bin, 0 where no bin stands; words
- * beyond are untouched. Refused as plane_read refuses, then by 12 where `room` is under 4,096, then by 13. */
+/* The counts of a chip's and a channel's histogram: into the first 4,096 words of `out`, each at its bin, 0 where no bin stands; words beyond are
+ * untouched. Refused as plane_read refuses, then by 12 where `room` is under 4,096, then by 13. */
 struct plane_done plane_counts(const uint8_t *frame, size_t length, uint16_t chip, uint16_t channel, uint32_t *out, size_t room);
 
 struct plane_word_found {
@@ -229,10 +223,9 @@ struct plane_written plane_begin(uint8_t *buffer, size_t room, uint16_t kind, ui
 
 /* Adds an item to the partial frame in the first `length` bytes. Refused by what is wrong with the partial frame; then, at the word where the item
  * would start, by 6 for a class that is none, and by 8, 9 or 10 by the rules (8 for a frame start or Frame end; a text is added by plane_add_text,
- * here it is 8 or 9); then by 12. Fields that the class does not have are not looked at. A Channel's or Histogram's chip decides on its words,
- * whichever of its two classes is given. The caller gives an End event its size: a wrong one is 9 where the event's Start event is in this frame;
- * where it began in another, any size is taken here, and plane_take judges it. Each call judges the whole partial frame, so that building one takes
- * the square of its length. */
+ * here it is 8 or 9); then by 12. Fields that the class does not have are not looked at. The caller gives an End event its size: a wrong one is 9
+ * where the event's Start event is in this frame; where it began in another, any size is taken here, and plane_take judges it. Each call judges the
+ * whole partial frame, so that building one takes the square of its length. */
 struct plane_written plane_add(uint8_t *buffer, size_t room, size_t length, struct plane_item_fields item);
 
 /* Adds a text, which comes without its final zero: as plane_add. A text over 254 bytes or holding a zero is 9. */

@@ -1,5 +1,4 @@
-// The calls that the other examples leave out: the class of a word, counts, the word of a bin, texts, what is no kind and no item, a chip past 3, and
-// the follower.
+// The calls that the other examples leave out: the class of a word, counts, the word of a bin, texts, what is no kind and no item, and the follower.
 #include "plane_record.h"
 #include <stdio.h>
 
@@ -47,22 +46,6 @@ static void write_text(void) {
     printf("item 0: a text of %zu bytes from byte %zu: %.*s\n", t.length, t.offset, (int)t.length, (const char *)frame + t.offset);
 }
 
-// A histogram of the last of sixteen chips: its header takes two words, and is answered with a class of its own.
-static void write_chip(void) {
-    uint8_t frame[64];
-    struct plane_item_fields header = { .item_class = PLANE_HISTOGRAM, .card = 5, .chip = 16, .channel = 78 };
-    const struct plane_item_fields bin = { .item_class = PLANE_BIN, .bin = 256, .count = 70000 };
-    struct plane_written w = told("begin", plane_begin(frame, sizeof frame, PLANE_MONITOR, 5, 0));
-    told("add, chip 16", plane_add(frame, sizeof frame, w.length, header));
-    header.chip = 15;
-    w = told("add, chip 15", plane_add(frame, sizeof frame, w.length, header));
-    w = told("add, bin 256", plane_add(frame, sizeof frame, w.length, bin));
-    w = told("close", plane_close(frame, sizeof frame, w.length));
-    const struct plane_found f = plane_item(frame, w.length, 0);
-    printf("item 0: class %u, %sa histogram, chip %u channel %u, words %zu to %zu\n", f.item.item_class, plane_is_histogram(f.item.item_class) ? "" : "not ",
-           f.item.chip, f.item.channel, f.index, f.next - 1);
-}
-
 static void print_follower(struct plane_follower f) {
     if (f.expecting)
         printf("expecting %u", f.number);
@@ -87,7 +70,6 @@ int main(void) {
     printf("word 0825: class %u\n", plane_classify(0x0825));
     print_counts();
     write_text();
-    write_chip();
     // Case 12 of document 01, and a number before a start.
     const struct plane_follower next = follow((struct plane_follower){ .expecting = 1, .number = 255 }, 0x00FF);
     follow(next, 0x0000);

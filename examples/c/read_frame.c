@@ -10,8 +10,7 @@ enum { WORDS = sizeof words / sizeof words[0] };
 static void print_item(struct plane_item_fields x) {
     switch (x.item_class) {
     case PLANE_START_EVENT: printf("start event type %u timestamp %lu number %u", x.kind, (unsigned long)x.timestamp, x.number); break;
-    case PLANE_CHANNEL:
-    case PLANE_EXTENDED_CHANNEL: printf("channel card %u chip %u channel %u", x.card, x.chip, x.channel); break;
+    case PLANE_CHANNEL: printf("channel card %u chip %u channel %u", x.card, x.chip, x.channel); break;
     case PLANE_TIME_BIN: printf("time bin %u", x.time); break;
     case PLANE_SAMPLE: printf("sample %u", x.value); break;
     case PLANE_END_EVENT: printf("end event size %u", x.size); break;

@@ -13,7 +13,7 @@ from ctypes import c_char_p, c_size_t, c_uint8, c_uint16, c_uint32, c_uint64
 
 KINDS = ["?", "data", "monitor", "command"]
 CLASSES = ["?", "channel", "histogram", "hit count", "sample", "bin", "last cell", "time bin", "?", "?", "?", "text", "start event", "end event"]
-CLASSES += ["?", "continue event", "channel", "histogram"]
+CLASSES += ["?", "continue event"]
 
 
 class Frame(ctypes.Structure):

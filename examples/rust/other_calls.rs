@@ -1,9 +1,8 @@
-//! The calls that the other examples leave out: the class of a word, counts, the word of a bin, texts, what is no kind and no item, a chip past 3,
-//! and the follower.
+//! The calls that the other examples leave out: the class of a word, counts, the word of a bin, texts, what is no kind and no item, and the follower.
 mod plane_record;
 use plane_record::{
     Answer, COUNTS, Follower, Item, add, add_text, begin, bin_word, class, classify, close, counts,
-    follow, item, kind, text,
+    follow, kind, text,
 };
 
 /// Case 7 of document 01.
@@ -53,31 +52,6 @@ fn write_text() -> Answer<()> {
     Ok(())
 }
 
-/// A histogram of the last of sixteen chips: its header takes two words, and is answered with a class of its own.
-fn write_chip() -> Answer<()> {
-    let mut frame = [0; 64];
-    let none = Item::default();
-    let header = Item { item_class: class::HISTOGRAM, card: 5, chip: 15, channel: 78, ..none };
-    let bin = Item { item_class: class::BIN, bin: 256, count: 70000, ..none };
-    let length = told("begin", begin(&mut frame, kind::MONITOR, 5, 0))?;
-    let _ = told("add, chip 16", add(&mut frame, length, Item { chip: 16, ..header }));
-    let length = told("add, chip 15", add(&mut frame, length, header))?;
-    let length = told("add, bin 256", add(&mut frame, length, bin))?;
-    let length = told("close", close(&mut frame, length))?;
-    let found = item(&frame[..length], 0)?;
-    let x = found.item;
-    let not = if x.is_histogram() { "" } else { "not " };
-    println!(
-        "item 0: class {}, {not}a histogram, chip {} channel {}, words {} to {}",
-        x.item_class,
-        x.chip,
-        x.channel,
-        found.index,
-        found.next - 1
-    );
-    Ok(())
-}
-
 fn shown(f: Follower) -> String {
     match f.expecting {
         0 => "idle".to_string(),
@@ -98,7 +72,6 @@ fn main() -> Answer<()> {
     println!("word 0825: class {}", classify(0x0825));
     print_counts()?;
     write_text()?;
-    write_chip()?;
     // Case 12 of document 01, and a number before a start.
     let next = followed(Follower { expecting: 1, number: 255 }, 0x00FF);
     followed(next, 0x0000);

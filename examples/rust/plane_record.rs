@@ -11,7 +11,7 @@
 use std::fmt;
 
 /// That of the header whose layouts these are.
-pub const VERSION: u32 = 6;
+pub const VERSION: u32 = 5;
 
 /// No frame has more bytes.
 pub const MOST_FRAME: usize = 8192;
@@ -51,10 +51,6 @@ pub mod class {
     pub const END_EVENT: u32 = 13;
     pub const FRAME_END: u32 = 14;
     pub const CONTINUE_EVENT: u32 = 15;
-    /// A Channel of chip 4 to 15: one word more in the frame, the same fields.
-    pub const EXTENDED_CHANNEL: u32 = 16;
-    /// And a Histogram.
-    pub const EXTENDED_HISTOGRAM: u32 = 17;
 }
 
 /// The kinds of frames: `Frame::kind`, and what `begin` takes.
@@ -204,7 +200,7 @@ pub struct Item {
     pub item_class: u32,
     /// Channel, Histogram, Hit count.
     pub card: u16,
-    /// Channel, Histogram: 0 to 15; Hit count, Last cell: 0 to 3.
+    /// Channel, Histogram, Hit count, Last cell.
     pub chip: u16,
     /// Channel, Histogram.
     pub channel: u16,
@@ -230,18 +226,6 @@ pub struct Item {
     pub size: u32,
     /// Start event.
     pub timestamp: u64,
-}
-
-impl Item {
-    /// Whether it is a Channel, of whatever chip.
-    pub fn is_channel(&self) -> bool {
-        matches!(self.item_class, class::CHANNEL | class::EXTENDED_CHANNEL)
-    }
-
-    /// Whether it is a Histogram, of whatever chip.
-    pub fn is_histogram(&self) -> bool {
-        matches!(self.item_class, class::HISTOGRAM | class::EXTENDED_HISTOGRAM)
-    }
 }
 
 /// An item, its own word index, and that of the next one, or of the end word.
@@ -603,9 +587,9 @@ pub fn event(frame: &[u8], ordinal: usize) -> Answer<Event> {
     answer(r.refused, r.place, Event { began, number: r.number, size, index: r.index })
 }
 
-/// The samples of event `ordinal`, a chip, 0 to 15, and a channel: into the first 512 words of `out`, each at its time, `NO_SAMPLE` where none
-/// stands; words beyond are untouched. Refused as `read` refuses, then by 12 where `out` has under 512 words, then by 13, also for a channel of the
-/// event that stands in another frame; in a run no channel of an event stands in two.
+/// The samples of event `ordinal`, a chip and a channel: into the first 512 words of `out`, each at its time, `NO_SAMPLE` where none stands; words
+/// beyond are untouched. Refused as `read` refuses, then by 12 where `out` has under 512 words, then by 13, also for a channel of the event that
+/// stands in another frame; in a run no channel of an event stands in two.
 pub fn samples(
     frame: &[u8],
     ordinal: usize,
@@ -620,8 +604,8 @@ pub fn samples(
     answer(r.refused, r.place, ())
 }
 
-/// The counts of the histogram of a chip, 0 to 15, and a channel: into the first 4,096 words of `out`, each at its bin, 0 where no bin stands; words
-/// beyond are untouched. Refused as `read` refuses, then by 12 where `out` has under 4,096 words, then by 13.
+/// The counts of a chip's and a channel's histogram: into the first 4,096 words of `out`, each at its bin, 0 where no bin stands; words beyond are
+/// untouched. Refused as `read` refuses, then by 12 where `out` has under 4,096 words, then by 13.
 pub fn counts(frame: &[u8], chip: u16, channel: u16, out: &mut [u32]) -> Answer<()> {
     let (length, room) = (frame.len(), out.len());
     let r =
@@ -663,9 +647,8 @@ pub fn begin(buffer: &mut [u8], kind: u16, card: u16, sequence: u16) -> Answer<u
 
 /// Adds an item to the partial frame in the first `length` bytes; the new length. Refused by what is wrong with the partial frame; then, at the word
 /// where the item would start, by 6 for a class that is none, and by 8, 9 or 10 by the rules (8 for a frame start or Frame end; a text is added by
-/// `add_text`, here it is 8 or 9); then by 12. A Channel's or Histogram's chip decides on its words, whichever of its two classes is given. The
-/// caller gives an End event its size: a wrong one is 9 where the event's Start event is in this frame; where it began in another, any size is taken
-/// here, and `Assembler::take` judges it. Each call judges the whole partial frame.
+/// `add_text`, here it is 8 or 9); then by 12. The caller gives an End event its size: a wrong one is 9 where the event's Start event is in this
+/// frame; where it began in another, any size is taken here, and `Assembler::take` judges it. Each call judges the whole partial frame.
 pub fn add(buffer: &mut [u8], length: usize, item: Item) -> Answer<usize> {
     written(unsafe { ffi::plane_add(buffer.as_mut_ptr(), buffer.len(), length, item) })
 }

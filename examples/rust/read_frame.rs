@@ -10,9 +10,7 @@ const WORDS: [u16; 17] = [
 
 fn shown(x: Item) -> String {
     match x.item_class {
-        class::CHANNEL | class::EXTENDED_CHANNEL => {
-            format!("channel card {} chip {} channel {}", x.card, x.chip, x.channel)
-        }
+        class::CHANNEL => format!("channel card {} chip {} channel {}", x.card, x.chip, x.channel),
         class::SAMPLE => format!("sample {}", x.value),
         class::TIME_BIN => format!("time bin {}", x.time),
         class::START_EVENT => {

@@ -1,7 +1,7 @@
 //! The assembler: takes the data frames of one card one by one and holds the
 //! event that runs on from frame to frame (document 02, request 1).
 
-use crate::book::key;
+use crate::book::content;
 use crate::follower::{follow, Follower};
 use crate::frame::{events, read, Found, Frame};
 use crate::item::Item;
@@ -13,8 +13,7 @@ pub struct Open {
     pub number: u64,
     /// Its bytes in all parts so far, Continue items counted.
     pub size: u64,
-    /// Chip and channel of its last Channel header in any part: its key without
-    /// the card, eleven bits.
+    /// Chip and channel of its last Channel header in any part, in nine bits.
     pub header: Option<u64>,
 }
 
@@ -52,7 +51,7 @@ struct Part {
 impl Part {
     fn of(items: &[Found]) -> Part {
         let mut headers = items.iter().filter_map(|found| match found.item {
-            Item::Channel { chip, channel, .. } => Some(key(0, chip, channel)),
+            Item::Channel { chip, channel, .. } => Some(content(0, chip, channel)),
             _ => None,
         });
         let first_header = headers.next();

@@ -21,13 +21,11 @@ pub enum Class {
     EndEvent,
     FrameEnd,
     ContinueEvent,
-    ExtendedChannel,
-    ExtendedHistogram,
 }
 
 /// First and last word of each class. The ranges do not touch each other, so
 /// the first hit is the only one.
-pub const BOOK: [(u16, u16, Class); 17] = [
+pub const BOOK: [(u16, u16, Class); 15] = [
     (0xC000, 0xFFFF, Class::Channel),
     (0x8000, 0xBFFF, Class::Histogram),
     (0x4000, 0x7FFF, Class::HitCount),
@@ -43,15 +41,10 @@ pub const BOOK: [(u16, u16, Class); 17] = [
     (0x00E0, 0x00EF, Class::EndEvent),
     (0x000F, 0x000F, Class::FrameEnd),
     (0x0A00, 0x0BFF, Class::ContinueEvent),
-    (0x000D, 0x000D, Class::ExtendedChannel),
-    (0x000E, 0x000E, Class::ExtendedHistogram),
 ];
 
 pub const MAX_CARD: u64 = 31;
-/// Of the field of two bits: Hit count, Last cell, and a header of one word.
 pub const MAX_CHIP: u64 = 3;
-/// Of a Channel or Histogram, in whichever spelling.
-pub const MAX_HEADER_CHIP: u64 = 15;
 pub const MAX_CHANNEL: u64 = 78;
 pub const MAX_HIT_COUNT: u64 = 79;
 pub const MAX_VALUE: u64 = 4095;
@@ -65,26 +58,16 @@ pub const MAX_SEQUENCE: u16 = 0x0100;
 pub const FRAME_END: u16 = 0x000F;
 
 impl Class {
-    /// The row of the book, 1 to 17; 0 for an unassigned word.
+    /// The row of the book, 1 to 15; 0 for an unassigned word.
     pub fn row(self) -> u64 {
         BOOK.iter().position(|row| row.2 == self).map_or(0, |at| at as u64 + 1)
     }
 
-    /// The class of a row; anything but 1 to 17 is unassigned.
+    /// The class of a row; anything but 1 to 15 is unassigned.
     pub fn of_row(row: u64) -> Class {
         match row {
-            1..=17 => BOOK[row as usize - 1].2,
+            1..=15 => BOOK[row as usize - 1].2,
             _ => Class::Unassigned,
-        }
-    }
-
-    /// What a class is called where its spelling does not matter: an extended
-    /// header is a header like the plain one.
-    pub fn plain(self) -> Class {
-        match self {
-            Class::ExtendedChannel => Class::Channel,
-            Class::ExtendedHistogram => Class::Histogram,
-            other => other,
         }
     }
 }
@@ -98,7 +81,6 @@ pub fn classify(word: u16) -> Class {
 /// Frame end have none where they are met among the items.
 pub fn words_after(word: u16) -> usize {
     match classify(word) {
-        Class::ExtendedChannel | Class::ExtendedHistogram => 1,
         Class::Bin | Class::EndEvent | Class::ContinueEvent => 2,
         Class::StartEvent => 5,
         Class::Text => (word as usize & 0xFF).div_ceil(2),
@@ -111,22 +93,15 @@ pub fn content(card: u64, chip: u64, low: u64) -> u64 {
     (card << 9) | (chip << 7) | low
 }
 
-/// Headers rise by this number, extended or not. It is also the word after an
-/// extended one.
-pub fn key(card: u64, chip: u64, channel: u64) -> u64 {
-    (card << 11) | (chip << 7) | channel
-}
-
 #[cfg(test)]
 mod tests {
     use super::*;
 
     #[test]
-    fn unassigned_words_are_3293() {
-        // Document 01's 3,807 without the 512 words of Continue event and the
-        // two of the extended headers.
+    fn unassigned_words_are_3295() {
+        // Document 01's 3,807 without the 512 words of Continue event.
         let unassigned = (0..=0xFFFFu16).filter(|w| classify(*w) == Class::Unassigned);
-        assert_eq!(unassigned.count(), 3293);
+        assert_eq!(unassigned.count(), 3295);
     }
 
     #[test]
@@ -138,19 +113,15 @@ mod tests {
             assert_ne!(classify(last.wrapping_add(1)), class);
         }
         assert_eq!(Class::of_row(0), Class::Unassigned);
-        assert_eq!(Class::of_row(18), Class::Unassigned);
-        assert_eq!((1..=17).map(Class::of_row).map(Class::row).sum::<u64>(), 153);
+        assert_eq!((1..=15).map(Class::of_row).map(Class::row).sum::<u64>(), 120);
         assert_eq!((Class::FrameEnd.row(), Class::ContinueEvent.row()), (14, 15));
-        assert_eq!((Class::ExtendedChannel.row(), Class::ExtendedHistogram.row()), (16, 17));
     }
 
     #[test]
     fn words_after_by_class() {
         let pairs = [(0x2FFF, 2), (0x00E0, 2), (0x00F0, 5), (0x0100, 0), (0x0101, 1), (0x0102, 1)];
         let more = [(0x0103, 2), (0x01FF, 128), (0x0805, 0), (0x09FF, 0), (0x0A00, 2), (0x0BFF, 2)];
-        let headers =
-            [(0x000C, 0), (0x000D, 1), (0x000E, 1), (0x000F, 0), (0xC000, 0), (0xBFFF, 0)];
-        for (word, after) in pairs.into_iter().chain(more).chain(headers) {
+        for (word, after) in pairs.into_iter().chain(more) {
             assert_eq!(words_after(word), after, "{word:04X}");
         }
     }

@@ -122,9 +122,6 @@ impl Case {
     }
 }
 
-/// A last header is coded 1 + 128 chip + channel, of chips 0 to 15.
-pub const MAX_HEADER_CODE: u64 = 2048;
-
 const U16: u64 = u16::MAX as u64;
 const U32: u64 = u32::MAX as u64;
 const ANY: u64 = u64::MAX;
@@ -147,7 +144,7 @@ fn table(case: &Case) -> Option<(Vec<u64>, bool, bool)> {
         OPEN | LIST | EDIT_ALL => (vec![], true, true),
         EDIT => (vec![U32, U32, U32, U32, ANY], true, false),
         RUN => (vec![U16], true, false),
-        STEP => (vec![31, 256, 1, U32, U32, MAX_HEADER_CODE], true, false),
+        STEP => (vec![31, 256, 1, U32, U32, 512], true, false),
         _ => return None,
     })
 }
@@ -270,21 +267,8 @@ mod tests {
     fn bad_continue_events() {
         let add = |fields: &[u64]| is_bad(&bytes_of(&Case::new(ADD, &[&[6], fields].concat())));
         assert!(!add(&[15, U32]));
-        for fields in [&[15, U32 + 1][..], &[15, 1, 1], &[18, 1], &[0, 1], &[14, 0]] {
+        for fields in [&[15, U32 + 1][..], &[15, 1, 1], &[16, 1], &[0, 1], &[14, 0]] {
             assert!(add(fields), "{fields:?}");
-        }
-    }
-
-    /// Classes 1 and 2 take any chip; the extended ones are none to add.
-    #[test]
-    fn bad_headers() {
-        let add = |fields: &[u64]| is_bad(&bytes_of(&Case::new(ADD, &[&[6], fields].concat())));
-        for row in [1, 2] {
-            assert!(!add(&[row, 5, 15, 0]) && !add(&[row, U16, U16, U16]));
-            assert!(add(&[row, 5, U16 + 1, 0]) && add(&[row, 5, 4, 0, 1]));
-        }
-        for row in [16, 17] {
-            assert!(add(&[row, 5, 4, 0]) && add(&[row, 0, 0, 0]));
         }
     }
 
@@ -300,15 +284,15 @@ mod tests {
     #[test]
     fn bad_steps() {
         let step = |a: &[u64]| is_bad(&bytes_of(&Case::new(STEP, a)));
-        let good: [&[u64]; 3] = [&[], &[31, 256, 1, U32, U32, 2048], &[0, 0, 1, 0, 0, 0]];
+        let good: [&[u64]; 3] = [&[], &[31, 256, 1, U32, U32, 512], &[0, 0, 1, 0, 0, 0]];
         good.iter().for_each(|a| assert!(!step(a), "{a:?}"));
-        let most = [31, 256, 1, U32, U32, 2048];
+        let most = [31, 256, 1, U32, U32, 512];
         for at in 0..6 {
             let mut a = most;
             a[at] += 1;
             assert!(step(&a), "{a:?}");
         }
-        assert!(step(&[31, 256, 1, U32, U32, 2048, 1]));
+        assert!(step(&[31, 256, 1, U32, U32, 512, 1]));
         // With no event open its number, size and header are zero.
         for at in 3..6 {
             let mut a = [0; 6];

@@ -6,7 +6,7 @@ use crate::answer::state_code;
 use crate::assembler::Assembler;
 use crate::cases::*;
 use crate::corrections::payload;
-use crate::draft::{any_unit, long, sound, Draft};
+use crate::draft::{any_card, long, sound, Draft};
 use crate::draft_run::lay_out as lay_out_run;
 use crate::item::Item;
 use crate::make::Sink;
@@ -127,10 +127,10 @@ fn ask(sink: &mut Sink, frame: &[u8]) {
 
 /// A run, and each of its steps from the state that the steps before it left.
 pub fn running(rng: &mut Rng, sink: &mut Sink) {
-    let unit = any_unit(rng);
-    let payload = lay_out_run(&any_run(rng, unit));
-    sink.emit(&Case::new(RUN, &[unit.card]).p(&payload));
-    let mut assembler = Assembler::new(unit.card);
+    let card = any_card(rng);
+    let payload = lay_out_run(&any_run(rng, card));
+    sink.emit(&Case::new(RUN, &[card]).p(&payload));
+    let mut assembler = Assembler::new(card);
     for step in steps(&payload).expect("a run") {
         match step {
             Step::GiveUp => assembler.give_up(),

@@ -9,7 +9,6 @@ use crate::corpus_run;
 use crate::corpus_writer;
 use crate::item::to_bytes;
 use crate::known::*;
-use crate::known_chip_calls;
 use crate::known_parts::part;
 use crate::known_versions;
 
@@ -49,7 +48,6 @@ fn all() -> Vec<Case> {
         corpus_run::step_cases(),
         corpus_corrections::edit_all_cases(),
         known_versions::versions().into_iter().map(|(case, _)| case).collect(),
-        known_chip_calls::calls().into_iter().map(|(case, _)| case).collect(),
     ]
     .concat();
     cases.sort_by_key(|case| case.op);
@@ -373,7 +371,7 @@ mod tests {
         assert_eq!(tally.missing(), Vec::<String>::new());
         assert_eq!(tally.cases(), all().len() as u64);
         assert!(answers(&bytes).all(|line| line != crate::answer::BAD_CASE));
-        assert!((300..=4400).contains(&tally.cases()), "{}", tally.cases());
+        assert!((300..=4000).contains(&tally.cases()), "{}", tally.cases());
         assert!(bytes.len() < 2_800_000, "{}", bytes.len());
     }
 

@@ -6,7 +6,6 @@ use crate::corpus::{seventh, third, three_parts};
 use crate::corpus_record::{sample_edit, three_edits, WHEN};
 use crate::damage::put_word;
 use crate::known::{figures, filled, framed, long_frames, MONITOR};
-use crate::known_chips::{wide_event, wide_histograms};
 use crate::listing::{listing, READ};
 use crate::make;
 use crate::make_record::{lay_out, targets};
@@ -102,9 +101,6 @@ fn of_version(version: Version) -> Vec<(&'static str, Vec<u8>)> {
         ("entry-refused-511", with_byte(full.clone(), last_but_one + 14, 0)),
         ("first-entry-refused", with_byte(full, 16 + 34 + 14, 0)),
         ("longest-frame", about(&long_frames()[0].bytes)),
-        ("sixteen-chips", edited(version, &wide_event(), 7)),
-        ("sixteen-chips-bins", edited(version, &wide_histograms(), 5)),
-        ("chip-3-in-two-words", about(&framed(MONITOR, &[0x000E, 0x29CE, 0x2100, 1, 0]))),
     ]
 }
 
@@ -185,9 +181,7 @@ mod tests {
     /// Opening and editing make the buffers of version 2.
     #[test]
     fn calls_make_version_2() {
-        let wide = [(wide_event(), 7), (wide_histograms(), 5)];
-        let plain = [(third(), 512), (seventh(), 3), (three_parts(), 4)];
-        for (frame, edits) in plain.into_iter().chain(wide) {
+        for (frame, edits) in [(third(), 512), (seventh(), 3), (three_parts(), 4)] {
             let wanted = edited(Version::Second, &frame, edits);
             let mut record = vec![0; wanted.len()];
             open(&mut record, &frame).unwrap();
@@ -224,32 +218,6 @@ mod tests {
                     edit 3 word 11 sample 0 -> 260 by 9 reason 2 at 1731400000\n\
                     end 3\n";
         assert_eq!(printed(&buffer("clock-goes-back-v2")), back);
-    }
-
-    /// Samples and bins under headers of one word and of two, by hand.
-    #[test]
-    fn sixteen_chips_are_listed() {
-        let samples = "frame D card 5 seq 0100 bytes 72 items 22\n\
-                       edit 1 word 12 sample 1 -> 4095 by 1 reason 1\n\
-                       edit 2 word 15 sample 250 -> 4094 by 2 reason 2\n\
-                       edit 3 word 16 sample 251 -> 4093 by 3 reason 3\n\
-                       edit 4 word 20 sample 546 -> 4092 by 4 reason 4\n\
-                       edit 5 word 25 sample 273 -> 4091 by 5 reason 5\n\
-                       edit 6 word 27 sample 819 -> 4090 by 6 reason 1\n\
-                       edit 7 word 31 sample 4095 -> 4089 by 7 reason 2\n\
-                       end 7\n";
-        let bins = "frame M card 5 seq 0100 bytes 48 items 9\n\
-                    edit 1 word 4 bin 1 -> 4294967295 by 1 reason 1 at 1731400000\n\
-                    edit 2 word 10 bin 917517 -> 4294967294 by 2 reason 2 at 0\n\
-                    edit 3 word 13 bin 70000 -> 4294967293 by 3 reason 3 at 4294967295\n\
-                    edit 4 word 20 bin 928334 -> 4294967292 by 4 reason 4 at 4294967296\n\
-                    edit 5 word 4 bin 4294967295 -> 4294967291 by 5 reason 5 at 281474976710655\n\
-                    end 5\n";
-        assert_eq!(printed(&buffer("sixteen-chips")), samples);
-        assert_eq!(printed(&buffer("sixteen-chips-bins-v2")), bins);
-        for name in ["chip-3-in-two-words", "chip-3-in-two-words-v2"] {
-            assert_eq!(printed(&buffer(name)), "refused 9 at 3\n");
-        }
     }
 
     #[test]

@@ -6,7 +6,7 @@ use crate::known::*;
 
 /// A buffer of that length which begins with the partial frame; the rest is
 /// a pattern in which a byte written by mistake shows.
-pub fn lent(partial: &[u8], length: usize) -> Vec<u8> {
+fn lent(partial: &[u8], length: usize) -> Vec<u8> {
     let pattern = (0..length).map(|at| 0xA5 ^ at as u8);
     partial.iter().copied().take(length).chain(pattern.skip(partial.len())).collect()
 }
@@ -32,10 +32,10 @@ pub fn begin_cases() -> Vec<Case> {
 fn fields_of(words: &[u16]) -> Vec<u64> {
     let bytes = crate::item::to_bytes(words);
     let item = crate::item::item_at(&bytes, 0).expect("an item");
-    [vec![item.class().plain().row()], item.fields()].concat()
+    [vec![item.class().row()], item.fields()].concat()
 }
 
-pub fn add(partial: &[u8], fields: &[u64], length: usize) -> Case {
+fn add(partial: &[u8], fields: &[u64], length: usize) -> Case {
     let arguments = [&[partial.len() as u64], fields].concat();
     Case::new(ADD, &arguments).p(&lent(partial, length))
 }
@@ -46,8 +46,7 @@ pub fn add_cases() -> Vec<Case> {
     // The classes after everything; each class once without room.
     for before in befores() {
         let partial = partial(before.start, &before.items);
-        // 16 and 17 are added as 1 and 2, with the chips that make them.
-        let addable = [1, 2, 3, 4, 5, 6, 7, 12, 13, 15, 16, 17];
+        let addable = [1, 2, 3, 4, 5, 6, 7, 12, 13, 15];
         for row in addable.into_iter().filter(|row| before.is_worth(*row)) {
             let words = next_item(&before, row);
             let fields = fields_of(&words);

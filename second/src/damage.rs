@@ -2,7 +2,7 @@
 //! laid-out bytes.
 
 use crate::book::*;
-use crate::draft::{header_of, header_words, long, Draft, LOOKS};
+use crate::draft::{long, Draft};
 use crate::item::{text_words, to_bytes, Item};
 use crate::rng::Rng;
 use crate::rules::Kind;
@@ -19,10 +19,6 @@ pub fn edge_word(rng: &mut Rng) -> u16 {
     }
 }
 
-/// Words that begin no item, at the edges of the gaps in the book.
-pub const UNASSIGNED: [u16; 10] =
-    [0, 0x000C, 0x0010, 0x00DF, 0x0200, 0x03FF, 0x0C00, 0x0DFF, 0x1000, 0x17FF];
-
 /// An item of any class with any content, or a word that begins none.
 fn any_item(rng: &mut Rng, card: u64) -> Vec<u16> {
     let mut first = if rng.percent(50) { edge_word(rng) } else { rng.next() as u16 };
@@ -30,37 +26,14 @@ fn any_item(rng: &mut Rng, card: u64) -> Vec<u16> {
     if first >= 0x4000 && rng.percent(80) {
         first = (first & 0xC1CF) | (card as u16) << 9;
     }
-    match classify(first) {
-        Class::Text => {
-            let n = (first & 0xFF).saturating_sub(1) as usize;
-            return text_words(&crate::draft::text_content(rng, n));
-        }
-        class if class != class.plain() => return extended_header(rng, first, card),
-        _ => {}
+    if classify(first) == Class::Text {
+        let n = (first & 0xFF).saturating_sub(1) as usize;
+        return text_words(&crate::draft::text_content(rng, n));
     }
     let after = words_after(first);
     let mut words = vec![first];
     words.extend((0..after).map(|_| rng.within(1, 40) as u16));
     words
-}
-
-/// An extended header of the card with any chip, also one under 4, at times
-/// with a word after it that looks like another.
-fn extended_header(rng: &mut Rng, first: u16, card: u64) -> Vec<u16> {
-    let any = rng.within(0, 15);
-    let chip = rng.pick(&[3, 4, 15, any, any]);
-    let channel = rng.pick(&[0, 5, 77, 78, 79]);
-    let after = if rng.percent(80) { key(card, chip, channel) } else { rng.pick(&LOOKS) };
-    vec![first, after as u16]
-}
-
-/// The first word of a class's extended header.
-fn extended_word(class: Class) -> u16 {
-    if class == Class::Channel {
-        0x000D
-    } else {
-        0x000E
-    }
 }
 
 /// Damages a draft and lays out its frame; the size words are put right again
@@ -94,65 +67,21 @@ pub fn damage_draft(rng: &mut Rng, draft: &mut Draft) {
 /// order rules draw for it.
 fn order_damage(rng: &mut Rng, draft: &mut Draft) {
     let classes = [Class::Channel, Class::Histogram, Class::Bin, Class::TimeBin];
-    let class_at = |items: &[Vec<u16>], at: usize| classify(items[at][0]).plain();
+    let class_at = |items: &[Vec<u16>], at: usize| classify(items[at][0]);
     let ordered = |at: &usize| classes.contains(&class_at(&draft.items, *at));
     let places: Vec<usize> = (0..draft.items.len()).filter(ordered).collect();
     if places.is_empty() {
         return items_damage(rng, draft);
     }
-    // Headers are few among bins and times.
-    let headers = places.iter().filter(|at| header_of(&draft.items[**at]).is_some());
-    let headers: Vec<usize> = headers.copied().collect();
-    let some = if !headers.is_empty() && rng.percent(50) { &headers } else { &places };
-    let at = rng.pick(some);
+    let at = rng.pick(&places);
     let class = class_at(&draft.items, at);
-    match class {
-        Class::TimeBin => return time_damage(rng, draft, at),
-        Class::Channel | Class::Histogram => return header_damage(rng, draft, at),
-        _ => {}
+    if class == Class::TimeBin {
+        return time_damage(rng, draft, at);
     }
     let before = places.iter().rev().find(|p| **p < at && class_at(&draft.items, **p) == class);
     match before.map(|before| draft.items[*before][0]) {
         Some(word) => draft.items[at][0] = word.wrapping_add(rng.pick(&[0, 0, 1, 0xFFFF])),
         None => draft.items[at][0] ^= 1 << rng.below(9),
-    }
-}
-
-/// Moves a header beside an earlier one of its class, by any of its fields, or
-/// not at all; and spells it, mostly as its chip is spelt.
-fn header_damage(rng: &mut Rng, draft: &mut Draft, at: usize) {
-    let Some((class, own)) = header_of(&draft.items[at]) else {
-        return items_damage(rng, draft);
-    };
-    let earlier = draft.items[..at].iter().rev().take(40).filter_map(|words| header_of(words));
-    let like: Vec<u64> = earlier.filter(|header| header.0 == class).map(|h| h.1).collect();
-    let moved = match rng.below(12) {
-        0..=5 if !like.is_empty() => {
-            let near = if rng.percent(60) { like[0] } else { rng.pick(&like) };
-            // A chip four away has the same low bits, in the other spelling.
-            near.wrapping_add_signed(rng.pick(&[0, 0, 0, 1, 2, -1, -1, 0x200, -0x200]))
-        }
-        0..=5 => own ^ 1 << rng.below(11),
-        6..=8 => (own & !0x7F) | rng.pick(&[77, 78, 79, 79, 80, 127]),
-        9 => own ^ rng.pick(&[1 << 11, 1 << 15]),
-        10 => (own & !0x780) | rng.pick(&[3, 4, 15]) << 7,
-        _ => own,
-    };
-    draft.items[at] = respelt(rng, class, moved);
-    draft.fix_events();
-}
-
-/// The words of a header: in its own spelling, extended whatever its chip is,
-/// with the chip cut to two bits, of the other class, or with a word after it
-/// that looks like another.
-fn respelt(rng: &mut Rng, class: Class, key: u64) -> Vec<u16> {
-    let other = if class == Class::Channel { Class::Histogram } else { Class::Channel };
-    match rng.below(20) {
-        0..=2 => vec![extended_word(class), key as u16],
-        3 => header_words(class, key & !0x600),
-        4 => header_words(other, key),
-        5 => vec![extended_word(class), rng.pick(&LOOKS) as u16],
-        _ => header_words(class, key),
     }
 }
 
@@ -174,8 +103,9 @@ fn time_damage(rng: &mut Rng, draft: &mut Draft, at: usize) {
 /// Swaps, duplicates, drops, inserts or cuts items.
 fn items_damage(rng: &mut Rng, draft: &mut Draft) {
     let count = draft.items.len();
+    let card = draft.card();
     let at = rng.below(count.max(1));
-    match rng.below(10) {
+    match rng.below(9) {
         0 if at + 1 < count => draft.items.swap(at, at + 1),
         1 if count > 0 => draft.items.swap(at, rng.below(count)),
         2 if count > 0 => draft.items.insert(at, draft.items[at].clone()),
@@ -187,45 +117,29 @@ fn items_damage(rng: &mut Rng, draft: &mut Draft) {
             let kept = 1 + rng.below(last.len());
             last.truncate(kept);
         }
-        _ => insert_item(rng, draft),
+        6 => {
+            let at = rng.below(count + 1);
+            draft.items.insert(at, vec![edge_word(rng)]);
+        }
+        7 => {
+            // A Continue event where it may stand, and where it may not.
+            let at = if rng.percent(40) { 0 } else { rng.below(count + 1) };
+            draft.items.insert(at, Item::ContinueEvent { zero: 0, number: long(rng) }.words());
+        }
+        _ => {
+            let at = rng.below(count + 1);
+            draft.items.insert(at, any_item(rng, card));
+        }
     }
     if rng.percent(80) {
         draft.fix_events();
     }
 }
 
-/// Inserts a word, a Continue event, an extended header or any item, where it may
-/// stand and where it may not.
-fn insert_item(rng: &mut Rng, draft: &mut Draft) {
-    let (count, card) = (draft.items.len(), draft.card());
-    let any = rng.below(count + 1);
-    let (at, words) = match rng.below(4) {
-        0 => {
-            let word = if rng.percent(60) { edge_word(rng) } else { rng.pick(&UNASSIGNED) };
-            (any, vec![word])
-        }
-        1 => {
-            let item = Item::ContinueEvent { zero: 0, number: long(rng) };
-            (if rng.percent(40) { 0 } else { any }, item.words())
-        }
-        2 => {
-            // Also its first word alone, which the next word then belongs to.
-            let first = rng.pick(&[0x000D, 0x000E]);
-            let mut words = extended_header(rng, first, card);
-            words.truncate(1 + rng.below(2));
-            (if rng.percent(30) { count } else { any }, words)
-        }
-        _ => (any, any_item(rng, card)),
-    };
-    draft.items.insert(at, words);
-}
-
 /// Ends the items right behind a Channel or Time bin.
 fn cut_channel(rng: &mut Rng, draft: &mut Draft) {
-    let cuts = |at: &usize| {
-        let class = classify(draft.items[*at][0]).plain();
-        matches!(class, Class::Channel | Class::TimeBin)
-    };
+    let cuts =
+        |at: &usize| matches!(classify(draft.items[*at][0]), Class::Channel | Class::TimeBin);
     let places: Vec<usize> = (0..draft.items.len()).filter(cuts).collect();
     if places.is_empty() {
         return items_damage(rng, draft);
@@ -240,11 +154,8 @@ fn field_damage(rng: &mut Rng, draft: &mut Draft) {
         return;
     }
     let at = if rng.percent(40) { draft.items.len() - 1 } else { rng.below(draft.items.len()) };
-    let class = classify(draft.items[at][0]);
-    if matches!(class.plain(), Class::Channel | Class::Histogram) {
-        return header_damage(rng, draft, at);
-    }
     let before = draft.items[..at].iter().rev().take(40).map(|words| words[0]);
+    let class = classify(draft.items[at][0]);
     let like = before.filter(|word| classify(*word) == class).collect::<Vec<_>>();
     let words = &mut draft.items[at];
     match class {
@@ -255,6 +166,10 @@ fn field_damage(rng: &mut Rng, draft: &mut Draft) {
         _ if !like.is_empty() && rng.percent(50) => {
             // Equal to an earlier one of its class, or just beside it.
             words[0] = rng.pick(&like).wrapping_add(rng.pick(&[0, 0, 1, 2, 0xFFFF]));
+        }
+        Class::Channel | Class::Histogram => {
+            words[0] = (words[0] & 0xFF80) | rng.pick(&[77, 78, 79, 79, 80, 127]);
+            words[0] ^= rng.pick(&[0, 0, 0, 0x200, 0x2000, 0x4000]);
         }
         Class::HitCount => {
             words[0] = (words[0] & 0xFF80) | rng.pick(&[78, 79, 80, 80, 127]);
@@ -318,8 +233,7 @@ pub fn frame_damage(rng: &mut Rng, mut frame: Vec<u8>) -> Vec<u8> {
         8 => put_word(&mut frame, 2, rng.pick(&[0x100, 0x101, 0x101, 0x102, 0x200, 0xFFFF])),
         _ => {
             let last = words - 1;
-            let ends = [0, 0x000D, 0x000E, 0x0010, 0x0F00, 0x010F, 0x00E0];
-            put_word(&mut frame, last, rng.pick(&ends));
+            put_word(&mut frame, last, rng.pick(&[0, 0x000E, 0x0010, 0x0F00, 0x010F, 0x00E0]));
         }
     }
     if rng.percent(50) && frame.len() >= 8 {

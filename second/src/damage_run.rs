@@ -3,14 +3,14 @@
 
 use crate::book::{classify, Class};
 use crate::damage::{damage_draft, frame_damage as bytes_damage};
-use crate::draft::*;
+use crate::draft::{long, sound_of, start_event, Draft};
 use crate::draft_run::{befores, Move};
 use crate::item::Item;
 use crate::rng::Rng;
 use crate::rules::Kind;
 
 /// One fault: a frame changed, moved or put in.
-pub fn damage_run(rng: &mut Rng, unit: Unit, moves: &mut Vec<Move>) {
+pub fn damage_run(rng: &mut Rng, card: u64, moves: &mut Vec<Move>) {
     let before = moves.clone();
     let changed = match rng.below(17) {
         0 | 1 => sequence_damage(rng, moves),
@@ -19,14 +19,14 @@ pub fn damage_run(rng: &mut Rng, unit: Unit, moves: &mut Vec<Move>) {
         6 | 7 => header_damage(rng, moves),
         8 => opener_damage(rng, moves),
         9 | 10 => frame_damage(rng, moves),
-        11 => other_card(rng, unit.card, moves),
+        11 => other_card(rng, card, moves),
         12 => return order_damage(rng, moves),
         13 => return moves.insert(rng.below(moves.len() + 1), Move::GiveUp),
         _ => None,
     };
     match changed {
         // No place for the fault that was drawn, or none drawn.
-        None => stray(rng, unit, moves),
+        None => stray(rng, card, moves),
         // The refused frame and then the right one.
         Some(at) if rng.percent(55) => moves.insert(at + 1, before[at].clone()),
         // Or the run goes on without the event.
@@ -122,35 +122,23 @@ fn size_damage(rng: &mut Rng, moves: &mut [Move]) -> Option<usize> {
 }
 
 /// The first Channel of a part at, below or just above the last one of the
-/// parts before, or four chips off, which changes the spelling but no low bit.
+/// parts before.
 fn header_damage(rng: &mut Rng, moves: &mut [Move]) -> Option<usize> {
     let befores = befores(moves);
     let first = |draft: &Draft| {
-        let mut inner = draft.items.iter().take_while(|words| class_of(words) != Class::EndEvent);
-        inner.position(|words| class_of(words).plain() == Class::Channel)
+        let inner = draft.items.iter().take_while(|words| class_of(words) != Class::EndEvent);
+        inner.map(|words| class_of(words)).position(|class| class == Class::Channel)
     };
     let fits = |at: usize, draft: &Draft| {
         befores[at].header.is_some() && continues(draft) && first(draft).is_some()
     };
     let (at, draft) = choose(rng, moves, fits)?;
     let last = befores[at].header?;
-    let next = last.wrapping_add_signed(rng.pick(&[0, 0, -1, 1, 1, 0x200, -0x200]));
+    let next = last.wrapping_add(rng.pick(&[0, 0, 0xFFFF, 1, 1]));
     let place = first(draft)?;
     // It stays a Channel of the card.
-    put_item(draft, place, header_words(Class::Channel, (last & !0x7FF) | (next & 0x7FF)));
+    draft.items[place][0] = (last & 0xFE00) | (next & 0x01FF);
     Some(at)
-}
-
-/// Puts other words in an item's place, and as many bytes more or less into the
-/// size that the End event behind it names.
-fn put_item(draft: &mut Draft, place: usize, words: Vec<u16>) {
-    let grown = 2 * (words.len() as i64 - draft.items[place].len() as i64);
-    draft.items[place] = words;
-    let end = draft.items[place..].iter_mut().find(|words| class_of(words) == Class::EndEvent);
-    if let Some([_, low, high]) = end.map(Vec::as_mut_slice) {
-        let size = (*low as i64 | (*high as i64) << 16) + grown;
-        (*low, *high) = (size as u16, (size >> 16) as u16);
-    }
 }
 
 /// A Continue event too few, a Start event in its place, or one too many.
@@ -182,7 +170,7 @@ fn order_damage(rng: &mut Rng, moves: &mut Vec<Move>) {
 /// A frame that is mostly refused for itself.
 fn frame_damage(rng: &mut Rng, moves: &mut [Move]) -> Option<usize> {
     let (at, draft) = choose(rng, moves, |_, _| true)?;
-    if rng.percent(65) {
+    if rng.percent(40) {
         damage_draft(rng, draft);
     } else {
         let frame = draft.frame();
@@ -197,12 +185,8 @@ fn other_card(rng: &mut Rng, card: u64, moves: &mut [Move]) -> Option<usize> {
     let other = (card ^ (1 << rng.below(5))) as u16;
     draft.start = Kind::Data.start(other as u64);
     for words in &mut draft.items {
-        match class_of(words) {
-            Class::Channel | Class::HitCount => words[0] = (words[0] & 0xC1FF) | other << 9,
-            Class::ExtendedChannel if words.len() == 2 => {
-                words[1] = (words[1] & 0x07FF) | other << 11;
-            }
-            _ => {}
+        if matches!(class_of(words), Class::Channel | Class::HitCount) {
+            words[0] = (words[0] & 0xC1FF) | other << 9;
         }
     }
     Some(at)
@@ -210,17 +194,17 @@ fn other_card(rng: &mut Rng, card: u64, moves: &mut [Move]) -> Option<usize> {
 
 /// A frame put in: of another kind or card, empty, or of some other event,
 /// with the number that would be next or with another one.
-fn stray(rng: &mut Rng, unit: Unit, moves: &mut Vec<Move>) {
+fn stray(rng: &mut Rng, card: u64, moves: &mut Vec<Move>) {
     let at = rng.below(moves.len() + 1);
-    let other = Unit { card: unit.card ^ (1 << rng.below(5)), ..unit };
+    let other = card ^ (1 << rng.below(5));
     let words = rng.pick(&[0, 0, 9, 12, 20]);
     let mut draft = match rng.below(6) {
-        0 => sound_of(rng, Kind::Monitor, unit, words),
-        1 => sound_of(rng, Kind::Command, unit, words),
+        0 => sound_of(rng, Kind::Monitor, card, words),
+        1 => sound_of(rng, Kind::Command, card, words),
         2 => sound_of(rng, Kind::Data, other, words),
-        3 => sound_of(rng, Kind::Data, unit, 0),
+        3 => sound_of(rng, Kind::Data, card, 0),
         4 => sound_of(rng, Kind::Monitor, other, words),
-        _ => sound_of(rng, Kind::Data, unit, words),
+        _ => sound_of(rng, Kind::Data, card, words),
     };
     let next = match moves.get(at) {
         Some(Move::Frame(draft)) => draft.sequence,

@@ -2,7 +2,6 @@
 //! changed before its bytes are laid out.
 
 use crate::book::*;
-pub use crate::draft_unit::*;
 use crate::item::{item_at, text_words, to_bytes, Item};
 use crate::rng::Rng;
 use crate::rules::Kind;
@@ -71,25 +70,34 @@ impl Draft {
     }
 }
 
+/// A card: at an edge now and then.
+pub fn any_card(rng: &mut Rng) -> u64 {
+    if rng.percent(70) {
+        rng.within(0, 31)
+    } else {
+        rng.pick(&[0, 5, 31])
+    }
+}
+
 /// A sound frame with exactly so many words of items where the kind can have
 /// that many, else about as many.
 pub fn sound(rng: &mut Rng, kind: Kind, words: usize) -> Draft {
-    let unit = any_unit(rng);
-    sound_of(rng, kind, unit, words)
+    let card = any_card(rng);
+    sound_of(rng, kind, card, words)
 }
 
-/// The same of a front end.
-pub fn sound_of(rng: &mut Rng, kind: Kind, unit: Unit, words: usize) -> Draft {
+/// The same of a card.
+pub fn sound_of(rng: &mut Rng, kind: Kind, card: u64, words: usize) -> Draft {
     let number = rng.within(0, 255) as u16;
     let sequence = rng.pick(&[0, 1, 0xFF, 0x100, number, number]);
     let items = match kind {
         // A whole event has nine words at least.
-        Kind::Data if (1..9).contains(&words) => events(rng, unit, 9 + words),
-        Kind::Data => events(rng, unit, words),
-        Kind::Monitor => histograms(rng, unit, words),
+        Kind::Data if (1..9).contains(&words) => events(rng, card, 9 + words),
+        Kind::Data => events(rng, card, words),
+        Kind::Monitor => histograms(rng, card, words),
         Kind::Command => texts(rng, words),
     };
-    Draft { start: kind.start(unit.card), sequence, items }
+    Draft { start: kind.start(card), sequence, items }
 }
 
 /// A number of item words: mostly few, some full.
@@ -113,15 +121,12 @@ fn field(rng: &mut Rng, max: u64) -> u64 {
     }
 }
 
-/// Words that begin an item or a frame, to stand where they are data.
-pub const LOOKS: [u64; 11] =
-    [0x00F1, 0x000F, 0x30FA, 0x2100, 0x8A4E, 0x00E0, 0xCB0A, 0x0805, 0x0A00, 0x000D, 0x000E];
-
 /// A 32-bit number: now and then one whose words look like words of the book.
 pub fn long(rng: &mut Rng) -> u64 {
+    let looks = [0x00F1, 0x000F, 0x30FA, 0x2100, 0x8A4E, 0x00E0, 0xCB0A, 0x0805, 0x0A00];
     match rng.below(4) {
-        0 => rng.pick(&LOOKS),
-        1 => rng.pick(&LOOKS) << 16 | rng.pick(&LOOKS),
+        0 => rng.pick(&looks),
+        1 => rng.pick(&looks) << 16 | rng.pick(&looks),
         2 => rng.pick(&[1, 2, 0xFFFF, 0x10000, 0xFFFF_FFFF]),
         _ => rng.within(1, 0xFFFF_FFFF),
     }
@@ -170,29 +175,29 @@ fn shapes(rng: &mut Rng, words: usize) -> Vec<Shape> {
 }
 
 /// Events that fill the words exactly. A whole event has at least nine words.
-fn events(rng: &mut Rng, unit: Unit, words: usize) -> Vec<Vec<u16>> {
+fn events(rng: &mut Rng, card: u64, words: usize) -> Vec<Vec<u16>> {
     let mut items = Vec::new();
     let shapes = shapes(rng, words);
     let mut left = words - shapes.iter().map(|shape| shape.least()).sum::<usize>();
     for (at, shape) in shapes.iter().enumerate() {
         let all = at + 1 == shapes.len() || rng.percent(40);
         let inner = if all { left } else { rng.below(left + 1) };
-        event(rng, unit, *shape, inner, &mut items);
+        event(rng, card, *shape, inner, &mut items);
         left -= inner;
     }
     items
 }
 
 /// An event with so many words beside its Start, Continue and End event.
-pub fn event(rng: &mut Rng, unit: Unit, shape: Shape, inner: usize, items: &mut Vec<Vec<u16>>) {
+pub fn event(rng: &mut Rng, card: u64, shape: Shape, inner: usize, items: &mut Vec<Vec<u16>>) {
     let number = long(rng);
     if shape.begins {
         items.push(start_event(rng, number).words());
     } else {
         items.push(Item::ContinueEvent { zero: 0, number }.words());
     }
-    let mut channel = first_channel(rng, unit);
-    body(rng, unit, inner, &mut channel, items);
+    let mut channel = first_channel(rng);
+    body(rng, card, inner, &mut channel, items);
     if shape.ends {
         let here = 2 * (shape.least() + inner) as u64;
         // What an event had before is not known here: any size is sound.
@@ -210,27 +215,33 @@ pub fn start_event(rng: &mut Rng, number: u64) -> Item {
     Item::StartEvent { kind: field(rng, MAX_TYPE), timestamp, number }
 }
 
+/// Channels are counted through by chip and channel; this is the first one.
+pub fn first_channel(rng: &mut Rng) -> usize {
+    if rng.percent(70) {
+        rng.below(40)
+    } else {
+        rng.below(316)
+    }
+}
+
 /// Exactly so many words of channels, from `channel` on, and loose items;
 /// leaves in `channel` the one that may come next.
 pub fn body(
     rng: &mut Rng,
-    unit: Unit,
+    card: u64,
     words: usize,
     channel: &mut usize,
     items: &mut Vec<Vec<u16>>,
 ) {
     let mut left = words;
     while left > 0 {
-        let header = unit.header(Class::Channel, *channel);
-        // A Time bin and a Sample belong to it.
-        let least = header.len() + 2;
-        if left < least || *channel >= unit.channels() || rng.percent(30) {
-            items.push(loose_item(rng, unit.card).words());
+        if left < 3 || *channel >= 316 || rng.percent(30) {
+            items.push(loose_item(rng, card).words());
             left -= 1;
         } else {
-            let most = left.min(if left > 500 { 300 } else { rng.pick(&[6, 40]) });
-            let size = least + rng.below(most + 1 - least);
-            left -= channel_block(rng, header, size, items);
+            let most = left.min(if left > 500 { 300 } else { 40 });
+            let size = 3 + rng.below(most - 2);
+            left -= channel_block(rng, card, *channel as u64, size, items);
             *channel += 1 + rng.pick(&[0, 0, 0, 1, 5, 78, 79]);
         }
     }
@@ -250,12 +261,15 @@ fn loose_item(rng: &mut Rng, card: u64) -> Item {
 /// many it took. It ends early when the times are used up.
 fn channel_block(
     rng: &mut Rng,
-    header: Vec<u16>,
+    card: u64,
+    channel: u64,
     words: usize,
     items: &mut Vec<Vec<u16>>,
 ) -> usize {
-    let mut used = header.len();
-    items.push(header);
+    let count = MAX_CHANNEL + 1;
+    let header = Item::Channel { card, chip: channel / count, channel: channel % count };
+    items.push(header.words());
+    let mut used = 1;
     let mut time = rng.pick(&[0, 0, 1, 3, 100, 500, 509, 510, 511]);
     while used + 2 <= words && time <= MAX_TIME {
         items.push(Item::TimeBin { time }.words());
@@ -272,19 +286,16 @@ fn channel_block(
     used
 }
 
-/// Histograms that fill the words, but for one that is too few for an extended
-/// header: a header is one word or two, a bin three.
-fn histograms(rng: &mut Rng, unit: Unit, words: usize) -> Vec<Vec<u16>> {
+/// Histograms that fill the words exactly: a header is one word, a bin three.
+fn histograms(rng: &mut Rng, card: u64, words: usize) -> Vec<Vec<u16>> {
     let mut items = Vec::new();
     let mut left = words;
-    let mut histogram = if unit.sixteen { first_channel(rng, unit) } else { rng.below(60) };
-    while histogram < unit.channels() {
-        let header = unit.header(Class::Histogram, histogram);
-        if left < header.len() {
-            break;
-        }
-        left -= header.len();
-        items.push(header);
+    let mut histogram = rng.below(60) as u64;
+    while left > 0 && histogram < 316 {
+        let count = MAX_CHANNEL + 1;
+        let header = Item::Histogram { card, chip: histogram / count, channel: histogram % count };
+        items.push(header.words());
+        left -= 1;
         if left >= 3 && rng.percent(85) {
             // All that is left in whole bins, or a few of them.
             let bins = left / 3;

@@ -70,8 +70,8 @@ struct Going {
     more: usize,
 }
 
-/// A sound run of the front end: up to 24 frames, events in one to five of them.
-pub fn sound_run(rng: &mut Rng, unit: Unit) -> Vec<Move> {
+/// A sound run of the card: up to 24 frames, events in one to five of them.
+pub fn sound_run(rng: &mut Rng, card: u64) -> Vec<Move> {
     let frames = match rng.below(20) {
         0 => 24,
         1 => rng.below(25),
@@ -83,8 +83,8 @@ pub fn sound_run(rng: &mut Rng, unit: Unit) -> Vec<Move> {
     for _ in 0..frames {
         let sequence = numbers.next(rng, going.is_some());
         let mut items = Vec::new();
-        going = fill(rng, unit, going, &mut items);
-        moves.push(Move::Frame(Draft { start: Kind::Data.start(unit.card), sequence, items }));
+        going = fill(rng, card, going, &mut items);
+        moves.push(Move::Frame(Draft { start: Kind::Data.start(card), sequence, items }));
     }
     moves
 }
@@ -103,13 +103,13 @@ fn part_words(rng: &mut Rng) -> usize {
 /// beginning of one. Answers the event that goes on behind it.
 fn fill(
     rng: &mut Rng,
-    unit: Unit,
+    card: u64,
     going: Option<Going>,
     items: &mut Vec<Vec<u16>>,
 ) -> Option<Going> {
     if let Some(mut event) = going {
         items.push(Item::ContinueEvent { zero: 0, number: event.number }.words());
-        grow(rng, unit, &mut event, 6, items);
+        grow(rng, card, &mut event, 6, items);
         event.more -= 1;
         if event.more > 0 {
             return Some(event);
@@ -118,7 +118,7 @@ fn fill(
     }
     for _ in 0..rng.pick(&[0, 0, 0, 1, 1, 2]) {
         let inner = rng.below(10);
-        event(rng, unit, WHOLE, inner, items);
+        event(rng, card, WHOLE, inner, items);
     }
     if rng.percent(30) {
         return None;
@@ -126,8 +126,8 @@ fn fill(
     let number = long_or_near(rng, items);
     items.push(start_event(rng, number).words());
     let more = rng.pick(&[1, 1, 1, 2, 2, 3, 4]);
-    let mut event = Going { number, bytes: 0, channel: first_channel(rng, unit), more };
-    grow(rng, unit, &mut event, 12, items);
+    let mut event = Going { number, bytes: 0, channel: first_channel(rng), more };
+    grow(rng, card, &mut event, 12, items);
     Some(event)
 }
 
@@ -141,15 +141,15 @@ fn long_or_near(rng: &mut Rng, items: &[Vec<u16>]) -> u64 {
 }
 
 /// A part of the event, behind an opener of so many bytes.
-fn grow(rng: &mut Rng, unit: Unit, event: &mut Going, opener: u64, items: &mut Vec<Vec<u16>>) {
+fn grow(rng: &mut Rng, card: u64, event: &mut Going, opener: u64, items: &mut Vec<Vec<u16>>) {
     // An End event fits behind it, and behind a long rest two small events.
     let used: usize = items.iter().map(Vec::len).sum();
     let most = if opener == 6 { 4000 } else { FULL - used };
     let words = part_words(rng).min(most);
     // Some parts have no Channel, though others of the event have.
-    let mut used_up = unit.channels();
+    let mut used_up = 316;
     let channel = if rng.percent(25) { &mut used_up } else { &mut event.channel };
-    body(rng, unit, words, channel, items);
+    body(rng, card, words, channel, items);
     event.bytes += opener + 2 * words as u64;
 }
 
@@ -158,8 +158,8 @@ fn grow(rng: &mut Rng, unit: Unit, event: &mut Going, opener: u64, items: &mut V
 pub struct Before {
     /// The bytes of the open event's parts, one for each frame.
     pub parts: Vec<u64>,
-    /// The key of its last Channel header.
-    pub header: Option<u64>,
+    /// Its last Channel word.
+    pub header: Option<u16>,
 }
 
 /// What is open before each step, by the items alone.
@@ -180,12 +180,9 @@ pub fn befores(moves: &[Move]) -> Vec<Before> {
             match classify(words[0]) {
                 Class::StartEvent => open = Before { parts: vec![0], header: None },
                 Class::ContinueEvent => open.parts.push(0),
+                Class::Channel => open.header = Some(words[0]),
                 Class::EndEvent => open = Before::default(),
-                _ => {
-                    if let Some((Class::Channel, key)) = header_of(words) {
-                        open.header = Some(key);
-                    }
-                }
+                _ => {}
             }
             if let Some(part) = open.parts.last_mut() {
                 *part += 2 * words.len() as u64;
@@ -209,9 +206,9 @@ mod tests {
         let mut rng = Rng::new(11);
         let (mut in_frames, mut used, mut lost) = ([0; 6], [0; 2], 0);
         for _ in 0..400 {
-            let unit = any_unit(&mut rng);
-            let moves = sound_run(&mut rng, unit);
-            let mut assembler = Assembler::new(unit.card);
+            let card = any_card(&mut rng);
+            let moves = sound_run(&mut rng, card);
+            let mut assembler = Assembler::new(card);
             for step in steps(&lay_out(&moves)).unwrap() {
                 let Step::Frame(bytes) = step else { unreachable!() };
                 lost += assembler.step(&bytes).expect("a sound run").min(1);

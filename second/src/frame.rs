@@ -40,9 +40,7 @@ fn judge_item(bytes: &[u8], at: usize, limit: usize, standing: &Standing) -> Res
         return Err(PLACE);
     }
     let item = item_at(bytes, at).ok_or(PLACE)?;
-    // Each header has one spelling: a chip of the plain one is not extended.
-    let spelt = item.class() == class && (class != Class::Text || text_holds(bytes, at));
-    if !standing.value_holds(&item, at) || !spelt {
+    if !standing.value_holds(&item, at) || (class == Class::Text && !text_holds(bytes, at)) {
         return Err(VALUE);
     }
     if !standing.order_holds(&item) {

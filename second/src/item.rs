@@ -1,10 +1,9 @@
 //! The items of a frame: taken out of words and put into words.
 
-use crate::book::{classify, content, key, words_after, Class, MAX_CHIP};
+use crate::book::{classify, content, words_after, Class};
 
 /// An item with its fields in the book's order. The fields are wide, so that
-/// the writer can be handed values that do not fit and refuse them. A Channel
-/// or Histogram is one case for both spellings: its chip decides which it has.
+/// the writer can be handed values that do not fit and refuse them.
 #[derive(Clone, Copy, PartialEq, Eq, Debug)]
 pub enum Item {
     Channel {
@@ -80,9 +79,6 @@ pub fn item_at(bytes: &[u8], index: usize) -> Option<Item> {
     Some(match classify(first) {
         Class::Channel => Item::Channel { card, chip, channel: low },
         Class::Histogram => Item::Histogram { card, chip, channel: low },
-        class @ (Class::ExtendedChannel | Class::ExtendedHistogram) => {
-            return Item::from_fields(class.plain(), extended(word(bytes, index + 1)));
-        }
         Class::HitCount => Item::HitCount { card, chip, count: low },
         Class::Sample => Item::Sample { value: cut(0, 12) },
         Class::Bin => Item::Bin { bin: cut(0, 12), count: number(bytes, index + 1, 2) },
@@ -100,11 +96,6 @@ pub fn item_at(bytes: &[u8], index: usize) -> Option<Item> {
         }
         _ => return None,
     })
-}
-
-/// Card, chip and channel in the word after an extended header's first.
-fn extended(word: u16) -> [u64; 3] {
-    [word >> 11, (word >> 7) & 0xF, word & 0x7F].map(u64::from)
 }
 
 /// The n bytes of a text whose head stands at an index, and its padding byte.
@@ -125,13 +116,9 @@ pub fn text_words(text: &[u8]) -> Vec<u16> {
 }
 
 impl Item {
-    /// The class of the item's first word. A chip that the plain header has no
-    /// bits for makes an extended one.
     pub fn class(&self) -> Class {
         match self {
-            Item::Channel { chip, .. } if *chip > MAX_CHIP => Class::ExtendedChannel,
             Item::Channel { .. } => Class::Channel,
-            Item::Histogram { chip, .. } if *chip > MAX_CHIP => Class::ExtendedHistogram,
             Item::Histogram { .. } => Class::Histogram,
             Item::HitCount { .. } => Class::HitCount,
             Item::Sample { .. } => Class::Sample,
@@ -163,8 +150,7 @@ impl Item {
     }
 
     /// The item that a class and its fields name; none for a class that is no
-    /// item, for a text, whose bytes are no field, and for the extended headers,
-    /// whose items the plain classes name.
+    /// item, or a text, whose bytes are no field.
     pub fn from_fields(class: Class, [a, b, c]: [u64; 3]) -> Option<Item> {
         Some(match class {
             Class::Channel => Item::Channel { card: a, chip: b, channel: c },
@@ -185,12 +171,6 @@ impl Item {
     pub fn words(&self) -> Vec<u16> {
         let low = |value: u64, i: u32| (value >> (16 * i)) as u16;
         match *self {
-            Item::Channel { card, chip, channel } if chip > MAX_CHIP => {
-                vec![0x000D, key(card, chip, channel) as u16]
-            }
-            Item::Histogram { card, chip, channel } if chip > MAX_CHIP => {
-                vec![0x000E, key(card, chip, channel) as u16]
-            }
             Item::Channel { card, chip, channel } => {
                 vec![0xC000 | content(card, chip, channel) as u16]
             }

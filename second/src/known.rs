@@ -1,9 +1,7 @@
 //! Frames whose verdict is known from the rules alone, at the edges of each
 //! rule. The verdicts are written down here and not computed.
 
-use crate::damage::UNASSIGNED;
 use crate::item::to_bytes;
-use crate::known_chips::{chips, full_plane};
 use crate::known_parts::{long_parts, parts};
 
 /// A frame and its refusal, number and place; none where it is accepted.
@@ -50,7 +48,7 @@ pub fn bad(bytes: Vec<u8>, number: u8, place: u64) -> Known {
 /// All frames of the corpus but the long ones.
 pub fn frames() -> Vec<Known> {
     let alone = [figures(), heads(), classes_and_cuts(), places(), values(), texts(), orders()];
-    [alone.concat(), parts(), chips()].concat()
+    [alone.concat(), parts()].concat()
 }
 
 /// Document 01's cases 1 to 9.
@@ -100,7 +98,7 @@ fn heads() -> Vec<Known> {
     for sequence in [0x0101, 0x0200, 0x8000, 0xFFFF] {
         known.push(bad(to_bytes(&[MONITOR, 8, sequence, 0x000F]), 4, 0));
     }
-    for end in [0, 0x000D, 0x000E, 0x0010, 0x0F00, 0x010F] {
+    for end in [0, 0x000E, 0x0010, 0x0F00, 0x010F] {
         known.push(bad(to_bytes(&[DATA, 8, 0x0100, end]), 5, 0));
     }
     // Two faults: the lower number is given.
@@ -114,7 +112,8 @@ fn heads() -> Vec<Known> {
 /// Unassigned words, and items cut by one word or by all.
 fn classes_and_cuts() -> Vec<Known> {
     let mut known = Vec::new();
-    for (at, word) in UNASSIGNED.into_iter().enumerate() {
+    let unassigned = [0, 0x000E, 0x0010, 0x00DF, 0x0200, 0x03FF, 0x0C00, 0x0DFF, 0x1000, 0x17FF];
+    for (at, word) in unassigned.into_iter().enumerate() {
         known.push(bad(framed([DATA, MONITOR, COMMAND][at % 3], &[word]), 6, 3));
     }
     known.push(bad(framed(DATA, &[&START[..], &[0x0000]].concat()), 6, 9));
@@ -149,7 +148,7 @@ impl Before {
     /// the allowed ones and those that a lax reader would take.
     pub fn is_worth(&self, row: u64) -> bool {
         let last = self.items.last().copied();
-        let inside = matches!(last, None | Some(0xCA05 | 0x2A05 | 0x0E03 | 0x30FA));
+        let inside = matches!(last, None | Some(0xCA05 | 0x0E03 | 0x30FA));
         let differs = match self.items.starts_with(&CONTINUE) {
             true => self.items == CONTINUE,
             false => inside || self.items == START,
@@ -161,7 +160,7 @@ impl Before {
 }
 
 pub fn befores() -> Vec<Before> {
-    let inside: &[u64] = &[1, 3, 6, 13, 16];
+    let inside: &[u64] = &[1, 3, 6, 13];
     let outside = |start, items: &[u16], allowed| Before {
         start,
         items: items.to_vec(),
@@ -181,9 +180,8 @@ pub fn befores() -> Vec<Before> {
         within(&[0x4A05], inside),
         within(&[0x1805], inside),
         within(&[0xCA05], &[7]),
-        within(&[0x000D, 0x2A05], &[7]),
         within(&[0xCA05, 0x0E03], &[4]),
-        within(&[0xCA05, 0x0E03, 0x30FA], &[1, 3, 4, 6, 7, 13, 16]),
+        within(&[0xCA05, 0x0E03, 0x30FA], &[1, 3, 4, 6, 7, 13]),
         within(&[0xCA05, 0x0E03, 0x30FA, 0x4A05], inside),
         within(&[0xCA05, 0x0E03, 0x30FA, 0x1805], inside),
         part(&[], inside),
@@ -191,13 +189,11 @@ pub fn befores() -> Vec<Before> {
         part(&[0x1805], inside),
         part(&[0xCA05], &[7]),
         part(&[0xCA05, 0x0E03], &[4]),
-        part(&[0xCA05, 0x0E03, 0x30FA], &[1, 3, 4, 6, 7, 13, 16]),
+        part(&[0xCA05, 0x0E03, 0x30FA], &[1, 3, 4, 6, 7, 13]),
         part(&[0x00E0, 0, 0], &[12]),
-        outside(MONITOR, &[], &[2, 17]),
-        outside(MONITOR, &[0x8A05], &[2, 5, 17]),
-        outside(MONITOR, &[0x8A05, 0x2100, 1, 0], &[2, 5, 17]),
-        // A plain header has its place here too, but would fall.
-        outside(MONITOR, &[0x000E, 0x2A04], &[5, 17]),
+        outside(MONITOR, &[], &[2]),
+        outside(MONITOR, &[0x8A05], &[2, 5]),
+        outside(MONITOR, &[0x8A05, 0x2100, 1, 0], &[2, 5]),
         outside(COMMAND, &[], &[11]),
         outside(COMMAND, &[0x0101, 0], &[11]),
     ]
@@ -222,8 +218,6 @@ pub fn next_item(before: &Before, row: u64) -> Vec<u16> {
         12 => START.to_vec(),
         13 => vec![0x00E0, size, 0],
         15 => CONTINUE.to_vec(),
-        16 => vec![0x000D, 0x2A06],
-        17 => vec![0x000E, 0x2A06],
         _ => vec![0x000F],
     }
 }
@@ -232,13 +226,13 @@ pub fn next_item(before: &Before, row: u64) -> Vec<u16> {
 fn places() -> Vec<Known> {
     let mut known = Vec::new();
     for before in befores() {
-        for row in (1..=17).filter(|row| before.is_worth(*row)) {
+        for row in (1..=15).filter(|row| before.is_worth(*row)) {
             let item = next_item(&before, row);
             let items = [&before.items[..], &item].concat();
             let (index, last) = (3 + before.items.len() as u64, 3 + items.len() as u64);
             let bytes = framed(before.start, &items);
             // A frame may end in an open event, but not after Channel or Time bin.
-            let cut = [1, 7, 16].contains(&row);
+            let cut = [1, 7].contains(&row);
             known.push(match before.allowed.contains(&row) {
                 false => bad(bytes, 8, index),
                 true if cut => bad(bytes, 11, last),
@@ -365,7 +359,6 @@ pub fn long_frames() -> Vec<Known> {
     odd.push(0);
     known.push(bad(odd, 1, 0));
     known.extend(long_parts());
-    known.push(good(full_plane()));
     known
 }
 

@@ -10,18 +10,18 @@ use crate::run::{payload, Step};
 pub type KnownLine = (Case, String);
 
 /// What a step is to come to.
-pub type Said = (Step, String);
+type Said = (Step, String);
 
-pub fn taken(lost: u64, frame: Vec<u8>) -> Said {
+fn taken(lost: u64, frame: Vec<u8>) -> Said {
     (Step::Frame(frame), format!("lost {lost}"))
 }
 
-pub fn refused(number: u8, place: u64, frame: Vec<u8>) -> Said {
+fn refused(number: u8, place: u64, frame: Vec<u8>) -> Said {
     (Step::Frame(frame), format!("refused {number} at {place}"))
 }
 
 /// Refused by LINK.
-pub fn link(frame: Vec<u8>) -> Said {
+fn link(frame: Vec<u8>) -> Said {
     refused(15, 0, frame)
 }
 
@@ -37,7 +37,7 @@ fn run_of(card: u64, said: &[Said], end: &str) -> KnownLine {
 }
 
 /// A run of card 5, what its steps come to, and what is open at its end.
-pub fn run(said: &[Said], end: &str) -> KnownLine {
+fn run(said: &[Said], end: &str) -> KnownLine {
     run_of(5, said, end)
 }
 

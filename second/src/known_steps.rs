@@ -8,7 +8,7 @@ use crate::known_parts::part;
 use crate::known_runs::*;
 
 /// A step from a state in numbers, and its line.
-pub fn step(state: &[u64], frame: Vec<u8>, line: &str) -> KnownLine {
+fn step(state: &[u64], frame: Vec<u8>, line: &str) -> KnownLine {
     (Case::new(STEP, state).p(&frame), line.to_string())
 }
 
@@ -16,7 +16,7 @@ pub fn steps() -> Vec<KnownLine> {
     [limits(), last_headers(), followers(), states(), step_faults()].concat()
 }
 
-pub const LINK: &str = "refused 15 at 0";
+const LINK: &str = "refused 15 at 0";
 
 /// Sizes so far at 2^32 - 1 and just below, with parts of 6, 8 and 12 bytes.
 fn limits() -> Vec<KnownLine> {

@@ -1,5 +1,5 @@
 //! The independent second program: answers cases by document 01 and requests 1
-//! to 5 of document 02, makes fresh ones, and compares another program's lines
+//! to 3 of document 02, makes fresh ones, and compares another program's lines
 //! with its own.
 
 mod answer;
@@ -18,11 +18,8 @@ mod damage;
 mod damage_run;
 mod draft;
 mod draft_run;
-mod draft_unit;
 #[cfg(test)]
 mod figures;
-#[cfg(test)]
-mod figures_chips;
 #[cfg(test)]
 mod figures_corrections;
 #[cfg(test)]
@@ -33,9 +30,6 @@ mod follower;
 mod frame;
 mod item;
 mod known;
-mod known_chip_calls;
-mod known_chip_records;
-mod known_chips;
 mod known_corrections;
 mod known_parts;
 mod known_runs;
@@ -54,8 +48,6 @@ mod rng;
 mod rules;
 mod run;
 mod samples;
-#[cfg(test)]
-mod spellings;
 mod tally;
 mod writer;
 

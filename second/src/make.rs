@@ -177,8 +177,7 @@ fn aim_at_channel(rng: &mut Rng, items: &[Found]) -> [u64; 3] {
             _ => {}
         }
     }
-    let chip = rng.pick(&[0, 1, 2, 3, 4, 15, 16]);
-    let mut aim = [0, chip, rng.within(0, 80)];
+    let mut aim = [0, rng.within(0, 4), rng.within(0, 80)];
     if !standing.is_empty() && rng.percent(90) {
         aim = rng.pick(&standing);
     }
@@ -187,7 +186,7 @@ fn aim_at_channel(rng: &mut Rng, items: &[Found]) -> [u64; 3] {
         let at = rng.below(3);
         aim[at] = match at {
             0 => ordinal(rng, events as usize),
-            1 => rng.pick(&[aim[1] ^ 1, aim[1] ^ 4, aim[1] + 16, aim[1] + 16, 4, 15, 16, 0xFFFF]),
+            1 => rng.pick(&[aim[1] ^ 1, aim[1] + 4, 4, 0xFFFF]),
             _ => rng.pick(&[aim[2] + 1, aim[2] + 128, 78, 79, 0xFFFF]),
         };
     }
@@ -224,10 +223,9 @@ fn aim_at_value(rng: &mut Rng, items: &[Found]) -> [u64; 4] {
     }
     if rng.percent(20) {
         let at = rng.below(4);
-        let edges = [0, 3, 4, 15, 16, 78, 79, 511, 512, 4095, 4096, 0xFFFF];
+        let edges = [0, 3, 4, 78, 79, 511, 512, 4095, 4096, 0xFFFF];
         let old = aim[at];
-        let off = rng.pick(&[4, 0x200, 0x1000]);
-        let beside = [old.wrapping_add(1), old.saturating_sub(1), old.wrapping_add(16), old ^ off];
+        let beside = [old.wrapping_add(1), old.saturating_sub(1), old ^ 0x200, old ^ 0x1000];
         let new = if rng.percent(30) { rng.pick(&edges) } else { rng.pick(&beside) };
         // All but the event are of 16 bits.
         aim[at] = if at == 0 { new } else { new & 0xFFFF };
@@ -243,9 +241,9 @@ mod tests {
     #[test]
     fn every_refusal_of_every_op_comes_up() {
         let ops: Vec<u8> = (0..OPS as u8).collect();
-        let tally = Tally::of_cases(&make(2, 100_000, &ops));
+        let tally = Tally::of_cases(&make(2, 60_000, &ops));
         assert_eq!(tally.missing(), Vec::<String>::new());
-        assert_eq!(tally.cases(), 100_000);
+        assert_eq!(tally.cases(), 60_000);
     }
 
     #[test]

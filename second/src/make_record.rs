@@ -1,6 +1,6 @@
 //! Cases for the plane record: sound and damaged records with histories.
 
-use crate::book::{classify, Class, MAX_VALUE};
+use crate::book::MAX_VALUE;
 use crate::cases::*;
 use crate::damage::{damaged_frame, flip_bit, put_word};
 use crate::draft::{small_size, sound, Draft};
@@ -38,31 +38,6 @@ pub fn targets(bytes: &[u8]) -> Vec<(u64, Target)> {
     };
     let indices = frame.items.iter().map(|found| found.index as u64);
     indices.filter_map(|index| Some((index, target_at(&frame, index)?))).collect()
-}
-
-/// Words of a sound frame that look like the first of something to edit and are
-/// data: in a count, or after an extended header.
-fn look_alikes(bytes: &[u8]) -> Vec<(u64, Target)> {
-    let targets = targets(bytes);
-    let looks = |index: usize| match classify(word(bytes, index)) {
-        Class::Sample => Some((index as u64, Target::Sample)),
-        Class::Bin => Some((index as u64, Target::Bin)),
-        _ => None,
-    };
-    // A bin's count has two words, and the last word is the frame's end.
-    let words = if targets.is_empty() { 0 } else { bytes.len() / 2 - 2 };
-    let is_item = |index: u64| targets.binary_search_by_key(&index, |found| found.0).is_ok();
-    (3..words).filter_map(looks).filter(|found| !is_item(found.0)).collect()
-}
-
-/// An entry that fits such a word in all but its being no item.
-fn alike_entry(rng: &mut Rng, frame: &[u8]) -> Option<Entry> {
-    let alike = look_alikes(frame);
-    let (index, target) = if alike.is_empty() { return None } else { rng.pick(&alike) };
-    let new = target.value(frame, index as usize);
-    let (old, time) = (if new == 7 { 8 } else { 7 }, kept_time(rng));
-    let (index, kind) = (index as u16, target.number());
-    Some(Entry { index, kind, old, new, operator: 9, reason: 2, time, desk: 0 })
 }
 
 /// A value that may stand in such an item.
@@ -156,10 +131,7 @@ pub fn any_record(rng: &mut Rng, firsts: u64) -> Vec<u8> {
         }
         57..=61 => version_damage(rng, version, &frame, &entries),
         62..=77 => {
-            match alike_entry(rng, &frame).filter(|_| rng.percent(20)) {
-                Some(entry) => entries.push(entry),
-                None => entry_damage(rng, &mut entries),
-            }
+            entry_damage(rng, &mut entries);
             lay_out(version, &frame, &entries)
         }
         78..=94 => {
@@ -332,10 +304,6 @@ pub fn edit_arguments(rng: &mut Rng, record: &[u8]) -> [u64; 5] {
     if rng.percent(12) {
         let off = rng.pick(&[1, 2, 3, 0x1_0000]);
         index = rng.pick(&[index + off, index.saturating_sub(1), 0, words, 0xFFFF_FFFF]);
-    }
-    let alike = look_alikes(frame);
-    if !alike.is_empty() && rng.percent(6) {
-        index = rng.pick(&alike).0;
     }
     let operator = match rng.below(10) {
         0 => rng.pick(&[0, 0x1_0000, 0x1_0001, 0xFFFF_FFFF]),

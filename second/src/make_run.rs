@@ -12,8 +12,8 @@ use crate::rules::Kind;
 
 /// A run, sound or with one to three faults.
 pub fn run_case(rng: &mut Rng) -> Case {
-    let unit = any_unit(rng);
-    let (card, moves) = (unit.card, any_run(rng, unit));
+    let card = any_card(rng);
+    let moves = any_run(rng, card);
     let asked = match rng.below(30) {
         0 => rng.pick(&[card ^ 1, card + 32, card | 0x0100, 0xFFFF]),
         _ => card,
@@ -21,15 +21,15 @@ pub fn run_case(rng: &mut Rng) -> Case {
     Case::new(RUN, &[asked]).p(&lay_out(&moves))
 }
 
-pub fn any_run(rng: &mut Rng, unit: Unit) -> Vec<Move> {
-    let mut moves = sound_run(rng, unit);
+pub fn any_run(rng: &mut Rng, card: u64) -> Vec<Move> {
+    let mut moves = sound_run(rng, card);
     if rng.percent(15) {
         // Giving up between frames is no fault; what goes on after it is.
         moves.insert(rng.below(moves.len() + 1), Move::GiveUp);
     }
     if rng.percent(50) {
         for _ in 0..rng.pick(&[1, 1, 2, 3]) {
-            damage_run(rng, unit, &mut moves);
+            damage_run(rng, card, &mut moves);
         }
     }
     moves
@@ -37,18 +37,18 @@ pub fn any_run(rng: &mut Rng, unit: Unit) -> Vec<Move> {
 
 /// A state and a frame that fits it, or misses it by one thing or more.
 pub fn step_case(rng: &mut Rng) -> Case {
-    let unit = any_unit(rng);
+    let card = any_card(rng);
     let open = rng.percent(75);
     let goes_on = if rng.percent(88) { open } else { !open };
     let mut items = Vec::new();
     let number = long(rng);
     let ends = goes_on && rng.percent(55);
     if goes_on {
-        part(rng, unit, number, ends, &mut items);
+        part(rng, card, number, ends, &mut items);
     }
     let bytes = items.iter().map(|words| 2 * words.len() as u64).sum();
     if ends || !goes_on {
-        others(rng, unit, &mut items);
+        others(rng, card, &mut items);
     }
     let size = size_so_far(rng, bytes);
     if ends {
@@ -56,45 +56,45 @@ pub fn step_case(rng: &mut Rng) -> Case {
     }
     let state = state_of(rng, open, number, size, &items);
     let (follower, sequence) = numbers(rng, open);
-    let mut draft = Draft { start: Kind::Data.start(unit.card), sequence, items };
+    let mut draft = Draft { start: Kind::Data.start(card), sequence, items };
     if rng.percent(3) {
-        draft = sound_of(rng, Kind::Monitor, unit, 4);
+        draft = sound_of(rng, Kind::Monitor, card, 4);
     }
     let frame = match rng.below(100) {
-        0..=9 => damaged_frame(rng, &draft),
-        10..=13 => frame_damage(rng, draft.frame()),
+        0..=5 => damaged_frame(rng, &draft),
+        6..=11 => frame_damage(rng, draft.frame()),
         _ => draft.frame(),
     };
-    let asked = if rng.percent(4) { unit.card ^ (1 << rng.below(5)) } else { unit.card };
+    let asked = if rng.percent(4) { card ^ (1 << rng.below(5)) } else { card };
     Case::new(STEP, &[&[asked, follower][..], &state].concat()).p(&frame)
 }
 
 /// A part of the event: Continue event, some words, perhaps End event, whose
 /// size is put in later.
-fn part(rng: &mut Rng, unit: Unit, number: u64, ends: bool, items: &mut Vec<Vec<u16>>) {
+fn part(rng: &mut Rng, card: u64, number: u64, ends: bool, items: &mut Vec<Vec<u16>>) {
     items.push(Item::ContinueEvent { zero: 0, number }.words());
     let few = rng.below(30);
     let words = rng.pick(&[0, 1, 3, few, few]);
     let words = if rng.percent(1) { 4080 } else { words };
-    let mut channel = first_channel(rng, unit);
-    body(rng, unit, words, &mut channel, items);
+    let mut channel = first_channel(rng);
+    body(rng, card, words, &mut channel, items);
     if ends {
         items.push(Item::EndEvent { zero: 0, size: 0 }.words());
     }
 }
 
 /// Events of the frame itself: whole ones, then perhaps one that stays open.
-fn others(rng: &mut Rng, unit: Unit, items: &mut Vec<Vec<u16>>) {
+fn others(rng: &mut Rng, card: u64, items: &mut Vec<Vec<u16>>) {
     if items.len() > 100 {
         return;
     }
     for _ in 0..rng.pick(&[0, 0, 1, 2]) {
         let inner = rng.below(12);
-        event(rng, unit, WHOLE, inner, items);
+        event(rng, card, WHOLE, inner, items);
     }
     if rng.percent(40) {
         let inner = rng.below(12);
-        event(rng, unit, Shape { begins: true, ends: false }, inner, items);
+        event(rng, card, Shape { begins: true, ends: false }, inner, items);
     }
 }
 
@@ -122,18 +122,15 @@ fn state_of(rng: &mut Rng, open: bool, number: u64, size: u64, items: &[Vec<u16>
     if !open {
         return [0; 4];
     }
-    let first = items.iter().find_map(|words| header_of(words));
-    let any = rng.within(0, MAX_HEADER_CODE);
-    let header = match first.map(|(_, key)| key & 0x07FF) {
-        // Code 1 + h: from two below the part's first header to one above it, or
-        // four chips off, in the other spelling.
+    let first = items.iter().find(|words| classify(words[0]) == Class::Channel);
+    let any = rng.within(0, 512);
+    let header = match first.map(|words| words[0] as u64 & 0x01FF) {
+        // Code 1 + h: from two below the part's first header to one above it.
         Some(next) => {
             let below = rng.pick(&[0, next.saturating_sub(1), next, next, next]);
-            let off = (next + 1) ^ 0x0200;
-            let codes = [below, below, below, below, below, below, next + 1, next + 2, off, any];
-            rng.pick(&codes).min(MAX_HEADER_CODE)
+            rng.pick(&[below, below, below, below, next + 1, next + 2, any]).min(512)
         }
-        None => rng.pick(&[0, any, 512, MAX_HEADER_CODE]),
+        None => rng.pick(&[0, any, 512]),
     };
     let other = number ^ (1 << rng.below(32));
     let number = if rng.percent(94) { number } else { other };

@@ -3,7 +3,7 @@
 use crate::book::*;
 use crate::cases::*;
 use crate::damage::{damage_draft, flip_bit, put_word, start_word};
-use crate::draft::{header_of, long, small_size, sound, text_content, Draft, FULL};
+use crate::draft::{long, small_size, sound, text_content, Draft};
 use crate::item::{text_words, Item};
 use crate::rng::Rng;
 use crate::rules::{Kind, Standing};
@@ -63,9 +63,6 @@ fn said_length(rng: &mut Rng, right: usize, buffer: usize) -> u64 {
 
 /// An add, add text or close on a partial frame.
 pub fn partial_case(rng: &mut Rng, op: u8) -> Case {
-    if op == ADD && rng.percent(1) {
-        return tight_case(rng);
-    }
     let any = rng.pick(&Kind::ALL);
     let kind = match op {
         ADD => rng.pick(&[Kind::Data, Kind::Data, Kind::Monitor, any]),
@@ -87,20 +84,6 @@ pub fn partial_case(rng: &mut Rng, op: u8) -> Case {
             Case::new(CLOSE, &[said]).p(&lend(rng, &partial, length))
         }
     }
-}
-
-/// A header for a frame that has none to three words left of its 8,192 bytes,
-/// where a plain one may still fit and an extended one not.
-fn tight_case(rng: &mut Rng) -> Case {
-    let words = FULL - rng.below(4);
-    let draft = sound(rng, Kind::Monitor, words);
-    let partial = draft.partial(draft.items.len());
-    let last = draft.items.iter().rev().find_map(|words| header_of(words));
-    let next = last.map_or(0, |header| (header.1 & 0x7FF) + 1);
-    let next = rng.pick(&[next, next, key(0, 3, 78), key(0, 4, 0), key(0, 15, 78)]);
-    let item = Item::Histogram { card: draft.card(), chip: next >> 7, channel: next & 0x7F };
-    let length = rng.pick(&[8190, 8192, 8192, 8192, 8200]);
-    add(partial.len() as u64, &item).p(&lend(rng, &partial, length))
 }
 
 /// How many items of the draft stand. Of a long one nearly all, as the limit
@@ -145,7 +128,7 @@ fn add_case(rng: &mut Rng, partial: &[u8], next: Option<Vec<u16>>) -> Case {
         (Ok(standing), _) => aimed_item(rng, &standing, partial.len() / 2),
         _ => aimed_item(rng, &Standing::new(Kind::Data, 5), 3),
     };
-    let need = partial.len() + 2 + 2 * item.words().len();
+    let need = partial.len() + 2 + 2 * (1 + item_words_after(&item));
     let length = room(rng, partial.len(), need);
     let said = said_length(rng, partial.len(), length);
     add(said, &item).p(&lend(rng, partial, length))
@@ -153,7 +136,15 @@ fn add_case(rng: &mut Rng, partial: &[u8], next: Option<Vec<u16>>) -> Case {
 
 /// The add of an item to a partial frame of the said length.
 pub fn add(said: u64, item: &Item) -> Case {
-    Case::new(ADD, &[vec![said, item.class().plain().row()], item.fields()].concat())
+    Case::new(ADD, &[vec![said, item.class().row()], item.fields()].concat())
+}
+
+fn item_words_after(item: &Item) -> usize {
+    match item.class() {
+        Class::Bin | Class::EndEvent | Class::ContinueEvent => 2,
+        Class::StartEvent => 5,
+        _ => 0,
+    }
 }
 
 fn add_text_case(rng: &mut Rng, partial: &[u8], next: Option<Vec<u16>>) -> Case {
@@ -202,29 +193,17 @@ pub fn aimed_item(rng: &mut Rng, standing: &Standing, index: usize) -> Item {
     Item::from_fields(class, fields).expect("a class that can be added")
 }
 
-/// Card, chip and channel beside the last header of the class, or at the edges
-/// of the chips: the last plain one, the extended ones, and one too many.
+/// Card, chip and channel beside the last header of the class.
 fn near_header(rng: &mut Rng, card: u64, last: Option<u64>) -> [u64; 3] {
-    let last = last.unwrap_or(0) & 0x7FF;
-    let next = match rng.below(10) {
-        0 => last,
-        1 => last.saturating_sub(1),
+    let content = last.unwrap_or(0) & 0x1FF;
+    let content = match rng.below(8) {
+        0 => content,
+        1 => content.saturating_sub(1),
         2 => rng.within(0, 0x1FF),
-        3 => last / 128 * 128 + rng.pick(&[77, 78, 79]),
-        4 | 5 => rng.pick(&[3, 4, 4, 15, 15, 16, 16]) << 7 | rng.pick(&[0, 40, 78, 79]),
-        6 => last ^ 0x200,
-        _ => last + rng.pick(&[1, 1, 1, 2, 50, 128]),
+        3 => content / 128 * 128 + rng.pick(&[77, 78, 79]),
+        _ => content + rng.pick(&[1, 1, 1, 2, 50, 128]),
     };
-    [card, next >> 7, next & 0x7F]
-}
-
-/// A chip for Hit count or Last cell, now and then one that only headers have.
-fn loose_chip(rng: &mut Rng) -> u64 {
-    if rng.percent(88) {
-        rng.within(0, MAX_CHIP)
-    } else {
-        rng.within(MAX_CHIP + 1, MAX_HEADER_CHIP)
-    }
+    [card, content >> 7, content & 0x7F]
 }
 
 /// A value up to the largest, at its edges, or one over.
@@ -239,14 +218,14 @@ fn near(rng: &mut Rng, standing: &Standing, class: Class, index: usize) -> [u64;
     match class {
         Class::Channel => near_header(rng, card, standing.channel),
         Class::Histogram => near_header(rng, card, standing.histogram),
-        Class::HitCount => [card, loose_chip(rng), rng.pick(&[0, 1, 40, 78, 79, 79, 80, 127])],
+        Class::HitCount => [card, rng.within(0, 3), rng.pick(&[0, 1, 40, 78, 79, 79, 80, 127])],
         Class::Sample => [edge(rng, MAX_VALUE), 0, 0],
         Class::Bin => {
             let last = standing.bin.unwrap_or(0);
             let bin = last.saturating_add_signed(rng.pick(&[-1, 0, 1, 1, 1, 2, 100]));
             [bin, rng.pick(&[0, 1, 2, 70_000, 0xFFFF_FFFF, 0x00F1, 0x10000]), 0]
         }
-        Class::LastCell => [loose_chip(rng), edge(rng, MAX_CELL), 0],
+        Class::LastCell => [rng.within(0, 3), edge(rng, MAX_CELL), 0],
         Class::TimeBin => {
             let last = standing.sampled.unwrap_or(0);
             let later = last + rng.pick(&[0, 1, 2, 2, 2, 3, 10]);
@@ -269,8 +248,7 @@ fn near(rng: &mut Rng, standing: &Standing, class: Class, index: usize) -> [u64;
 /// Puts one field beyond its bits, but not beyond what a case can carry.
 fn widen(rng: &mut Rng, class: Class, fields: &mut [u64; 3]) {
     let bits: &[u32] = match class {
-        Class::Channel | Class::Histogram => &[5, 4, 7],
-        Class::HitCount => &[5, 2, 7],
+        Class::Channel | Class::Histogram | Class::HitCount => &[5, 2, 7],
         Class::Sample | Class::Bin => &[12],
         Class::LastCell => &[2, 9],
         Class::TimeBin => &[9],

@@ -100,15 +100,15 @@ pub struct Standing {
     pub card: u64,
     /// The open event, if any.
     pub event: Option<Opener>,
-    /// Class of the item just before; that of a header in its plain spelling.
+    /// Class of the item just before.
     pub last: Option<Class>,
-    /// Key of the last Channel header since the event was opened here.
+    /// Content of the last Channel header since the event was opened here.
     pub channel: Option<u64>,
     /// Time of the last sample in the present channel.
     pub sampled: Option<u64>,
     /// Time at which the next sample would be.
     pub next_time: u64,
-    /// Key of the last Histogram header in the frame.
+    /// Content of the last Histogram header in the frame.
     pub histogram: Option<u64>,
     /// Last bin number in the present histogram.
     pub bin: Option<u64>,
@@ -129,11 +129,9 @@ impl Standing {
         }
     }
 
-    /// PLACE: may an item of this class come next? Both spellings of a header
-    /// have the same places.
+    /// PLACE: may an item of this class come next?
     pub fn allows(&self, class: Class) -> bool {
         use Class::*;
-        let class = class.plain();
         let inside = matches!(class, HitCount | LastCell | Channel | EndEvent);
         match self.kind {
             Kind::Data if self.event.is_none() => {
@@ -159,7 +157,7 @@ impl Standing {
     pub fn value_holds(&self, item: &Item, index: usize) -> bool {
         match *item {
             Item::Channel { card, chip, channel } | Item::Histogram { card, chip, channel } => {
-                card == self.card && chip <= MAX_HEADER_CHIP && channel <= MAX_CHANNEL
+                card == self.card && chip <= MAX_CHIP && channel <= MAX_CHANNEL
             }
             Item::HitCount { card, chip, count } => {
                 card == self.card && chip <= MAX_CHIP && count <= MAX_HIT_COUNT
@@ -198,9 +196,11 @@ impl Standing {
     pub fn order_holds(&self, item: &Item) -> bool {
         let above = |last: Option<u64>, now: u64| last.is_none_or(|last| now > last);
         match *item {
-            Item::Channel { card, chip, channel } => above(self.channel, key(card, chip, channel)),
+            Item::Channel { card, chip, channel } => {
+                above(self.channel, content(card, chip, channel))
+            }
             Item::Histogram { card, chip, channel } => {
-                above(self.histogram, key(card, chip, channel))
+                above(self.histogram, content(card, chip, channel))
             }
             Item::Bin { bin, .. } => above(self.bin, bin),
             Item::TimeBin { time } => self.sampled.is_none_or(|last| time >= last + 2),
@@ -219,7 +219,7 @@ impl Standing {
             Item::ContinueEvent { .. } => self.event = Some(Opener::Continue),
             Item::EndEvent { .. } => self.event = None,
             Item::Channel { card, chip, channel } => {
-                self.channel = Some(key(card, chip, channel));
+                self.channel = Some(content(card, chip, channel));
                 self.sampled = None;
             }
             Item::TimeBin { time } => self.next_time = time,
@@ -228,12 +228,12 @@ impl Standing {
                 self.next_time += 1;
             }
             Item::Histogram { card, chip, channel } => {
-                self.histogram = Some(key(card, chip, channel));
+                self.histogram = Some(content(card, chip, channel));
                 self.bin = None;
             }
             Item::Bin { bin, .. } => self.bin = Some(bin),
             _ => {}
         }
-        self.last = Some(item.class().plain());
+        self.last = Some(item.class());
     }
 }

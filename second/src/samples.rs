@@ -9,7 +9,6 @@ use crate::corpus_record::WHEN;
 use crate::item::Item;
 use crate::known::figures;
 use crate::make_record::{lay_out, targets};
-use crate::make_writer::add;
 use crate::record::{self, Version, ENTRY_BYTES, HEADER_BYTES};
 use crate::rules::Kind;
 use crate::run::{payload, Step};
@@ -48,7 +47,8 @@ impl Samples {
         };
         let mut at = step(self, Case::new(BEGIN, &[kind, card, sequence]));
         for item in items {
-            at = step(self, add(at, item));
+            let arguments = [vec![at, item.class().row()], item.fields()].concat();
+            at = step(self, Case::new(ADD, &arguments));
         }
         for text in texts {
             at = step(self, Case::new(ADD_TEXT, &[at]).q(text.as_bytes()));
@@ -93,12 +93,6 @@ impl Samples {
             self.call(&mut Case::new(ENTRY, &[number]).p(record));
         }
         self.list(record);
-    }
-
-    /// The word of a bin, as the question tells it.
-    fn bin(&mut self, frame: &[u8], chip: u64, channel: u64, bin: u64) -> u64 {
-        let line = self.call(&mut Case::new(BIN_WORD, &[chip, channel, bin]).p(frame));
-        line.strip_prefix("ok ").and_then(|word| word.parse().ok()).expect("a word index")
     }
 
     /// What is listed of a record, a damaged one too.
@@ -199,50 +193,7 @@ fn parts() -> [Vec<Item>; 3] {
     [first, second, third]
 }
 
-/// The channel of a chip that the samples of sixteen chips have.
-fn channel_of(chip: u64) -> u64 {
-    (7 * chip + 3) % 79
-}
-
-/// Pulses on five chips of a front end with sixteen, two of them with headers
-/// of one word. It is card 6, whose others have second words like Samples.
-fn sixteen_pulses() -> Vec<Item> {
-    let mut items = vec![start(12), Item::HitCount { card: 6, chip: 3, count: 1 }];
-    for (chip, time) in [(0, 9), (3, 10), (4, 10), (9, 11), (15, 500)] {
-        items.push(Item::Channel { card: 6, chip, channel: channel_of(chip) });
-        items.extend(pulse(time, &[250 + chip, 612, 433]));
-    }
-    items.push(Item::LastCell { chip: 3, cell: 41 });
-    let size = 2 * (6 + 1 + 2 * (1 + 4) + 3 * (2 + 4) + 1 + 3);
-    items.push(Item::EndEvent { zero: 0, size });
-    items
-}
-
-/// Pedestals of one channel of each of the sixteen chips, three bins each.
-fn sixteen_pedestals() -> Vec<Item> {
-    let of_chip = |chip: u64| {
-        let header = Item::Histogram { card: 6, chip, channel: channel_of(chip) };
-        let bins = [(0, 1210 + chip), (1, 2515 - chip), (2, 1234 + chip)];
-        let bins = bins.map(|(at, count)| Item::Bin { bin: 240 + chip + at, count });
-        std::iter::once(header).chain(bins)
-    };
-    (0..16).flat_map(of_chip).collect()
-}
-
 impl Samples {
-    /// A bin each of chips 3, 4 and 15 is mended, a minute apart.
-    fn sixteen_mended(&mut self, frame: &[u8]) -> Vec<u8> {
-        let edits: Vec<[u64; 5]> = [(3, 2520), (4, 2507), (15, 2498)]
-            .into_iter()
-            .zip(0..)
-            .map(|((chip, count), at)| {
-                let word = self.bin(frame, chip, channel_of(chip), 241 + chip);
-                [word, count, 9, 2, WHEN + 60 * at]
-            })
-            .collect();
-        self.record(frame, &edits)
-    }
-
     /// The frames of an event, numbered from a new start on. They have to be
     /// taken one behind the other.
     fn run(&mut self, kind: u64, card: u64) -> [Vec<u8>; 3] {
@@ -271,9 +222,6 @@ pub fn samples() -> Samples {
     let (plane, tenth) = (samples.first(&plane_2), samples.first(&tenth_2));
     let damaged = samples.damaged(&plane, Version::First);
     let damaged_2 = samples.damaged(&plane_2, Version::Second);
-    let chips_data = samples.frame(kind(Kind::Data), 6, 0x0100, &sixteen_pulses(), &[]);
-    let chips_monitor = samples.frame(kind(Kind::Monitor), 6, 0, &sixteen_pedestals(), &[]);
-    let chips = samples.sixteen_mended(&chips_monitor);
     samples.files = vec![
         ("plane-14.record", plane),
         ("plane-14-v2.record", plane_2),
@@ -287,9 +235,6 @@ pub fn samples() -> Samples {
         ("run-1.frame", first),
         ("run-2.frame", second),
         ("run-3.frame", third),
-        ("chips-data.frame", chips_data),
-        ("chips-monitor.frame", chips_monitor),
-        ("chips-v2.record", chips),
     ];
     samples
 }
@@ -323,33 +268,6 @@ mod tests {
         }
         assert!(printed(&file("plane-10.record")).contains(" by 9 reason 2\n"));
         assert!(printed(&file("plane-10-v2.record")).contains(" by 9 reason 2 at 1731400000\n"));
-    }
-
-    /// Every chip has a header, from chip 4 on one of two words; under three of
-    /// them stands a correction.
-    #[test]
-    fn sixteen_chips() {
-        let item = |name, ordinal| answer(&mut Case::new(ITEM, &[ordinal]).p(&file(name)));
-        let (mut index, name) = (3, "chips-monitor.frame");
-        for chip in 0..16 {
-            let (class, words) = if chip < 4 { (2, 1) } else { (17, 2) };
-            let said = format!("ok {class} 6 {chip} {} next {}", channel_of(chip), index + words);
-            assert_eq!(item(name, 4 * chip), said);
-            index += words + 9;
-        }
-        // 3000 for card 6, 80 for each chip, and channels 31, 66 and 29.
-        let data = file("chips-data.frame");
-        let second = [21, 27, 33].map(|at| crate::item::word(&data, at));
-        assert_eq!(second, [0x321F, 0x34C2, 0x379D]);
-        assert_eq!(answer(&mut Case::new(READ, &[]).p(&data)), "ok D 6 256 29");
-        // Header, bin and bin of chip 3 from word 33 on, of chip 4 from 43 on,
-        // of chip 15 from 164 on.
-        let lines = "frame M card 6 seq 0000 bytes 352 items 64\n\
-                     edit 1 word 37 bin 2512 -> 2520 by 9 reason 2 at 1731400000\n\
-                     edit 2 word 48 bin 2511 -> 2507 by 9 reason 2 at 1731400060\n\
-                     edit 3 word 169 bin 2500 -> 2498 by 9 reason 2 at 1731400120\n\
-                     end 3\n";
-        assert_eq!(printed(&file("chips-v2.record")), lines);
     }
 
     /// The parts of event 9 as the questions about each frame tell them.

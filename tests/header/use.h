@@ -2,7 +2,7 @@
 #include "plane_record.h"
 #include "plane_record.h"
 
-#if PLANE_RECORD_VERSION != 6
+#if PLANE_RECORD_VERSION != 5
 #error "the version is not the one that this test was written for"
 #endif
 
@@ -67,7 +67,6 @@ int use_runs(const uint8_t *frame, size_t length) {
     const STRUCT plane_taken taken = plane_take(assembler, frame, length);
     const STRUCT plane_found found = plane_item(frame, length, 0);
     const ENUM plane_class continues = PLANE_CONTINUE_EVENT;
-    if (plane_is_channel(PLANE_EXTENDED_CHANNEL) != plane_is_histogram(PLANE_EXTENDED_HISTOGRAM)) return 0;
     const ENUM plane_refusal refusal = PLANE_REFUSED_LINK;
     if (taken.refused == (uint32_t)refusal && found.item.item_class == (uint32_t)continues) return 0;
     assembler = plane_give_up(taken.next);

@@ -113,7 +113,7 @@ impl Case {
             & (self.a2 <= 1)
             & (self.a3 <= Case::LONG)
             & (self.a4 <= Case::LONG)
-            & (self.a5 <= 2048)
+            & (self.a5 <= 512)
             & ((self.a2 == 1) | ((self.a3 == 0) & (self.a4 == 0) & (self.a5 == 0)))
             & (self.a6 == 0)
             & (self.m == 0)

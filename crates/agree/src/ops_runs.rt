@@ -138,14 +138,6 @@ fn assembler_of(case: Case) -> PlaneAssembler {
     }
 }
 
-// The code of an event's last header, without its card.
-fn header_code(key: u32) -> u64 {
-    if key == 0 {
-        return 0;
-    }
-    ((key - 1) % 2048 + 1) as u64
-}
-
 // Op 21: one step, of an assembler in any state, with the frame p.
 pub(crate) fn step(case: Case, p: &[u8]) -> Reply {
     let x = plane_take(assembler_of(case), p);
@@ -156,7 +148,7 @@ pub(crate) fn step(case: Case, p: &[u8]) -> Reply {
         next.open as u64,
         next.number as u64,
         next.size as u64,
-        header_code(next.key),
+        (next.key % 2048) as u64,
         0,
     ];
     reply::answer(x.refused, x.place, Reply::OK, Reply::SIX, values)

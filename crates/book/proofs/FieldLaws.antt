@@ -5,7 +5,7 @@
 use Prim.Native.Nat.{ℕ, ◌+◌, ◌*◌, ◌/◌, ◌%◌, ◌^◌, ◌<◌}
 use mathlib.Core.Path.{◌≡◌, refl, sym, ap, ◌∙◌}
 use mathlib.Core.List.{List, [], ◌∷◌, ◌++◌}
-use mathlib.Core.Bool.{Bool, true, false}
+use mathlib.Core.Bool.{true}
 use mathlib.Core.Option.{some}
 use native.Mathlib.Nat.{div-one, mod-eq_of_lt}
 use native.Mathlib.Omega.{arith}
@@ -15,11 +15,10 @@ use Rattle.format.specs.Book as paper
 use Rattle.format.specs.Book.{class_of}
 use Rattle.format.specs.Items as items
 use Rattle.format.specs.Items.{words_of, fits, decode, token_of, whole}
-use Rattle.format.specs.Fields.{total, cut, pack, Fit, widths, extended_widths}
+use Rattle.format.specs.Fields.{total, cut, pack, Fit, widths}
 use Rattle.format.proofs.book.BookLaws.{ranged}
 use Rattle.format.proofs.book.FieldLaws.{cut_fit, cut_packed, pack_cut}
-use Rattle.format.proofs.items.HeaderLaws.{plain_fits}
-use Rattle.format.proofs.items.WrittenLaws.{three_fit, key_fit, content_fit, first_word_lem, read_content}
+use Rattle.format.proofs.items.WrittenLaws.{content_fit, first_word_lem, read_content}
 use Rattle.book.specs.declared.items.Channel.{Channel}
 use Rattle.book.specs.declared.items.Histogram.{Histogram}
 use Rattle.book.specs.declared.items.HitCount.{HitCount}
@@ -31,7 +30,7 @@ use Rattle.book.specs.declared.items.Text.{Text}
 use Rattle.book.specs.declared.items.StartEvent.{StartEvent}
 use Rattle.book.specs.declared.items.ContinueEvent.{ContinueEvent}
 use Rattle.book.specs.declared.items.EndEvent.{EndEvent}
-use Rattle.book.specs.Fields.{channel_of, histogram_of, extended_channel_of, extended_histogram_of, hits_of, sample_of, bin_of, cell_of, time_bin_of, text_of, type_of, header_bits_cut, key_cut, channel_word, histogram_word, extended_channel_word, extended_histogram_word, channel_words, histogram_words, hits_word, sample_word, bin_word, cell_word, time_bin_word, text_word, start_word, channel_item, histogram_item, hits_item, sample_item, bin_item, cell_item, time_item, start_item, continue_item, end_item}
+use Rattle.book.specs.Fields.{channel_of, histogram_of, hits_of, sample_of, bin_of, cell_of, time_bin_of, text_of, type_of, header_bits_cut, channel_word, histogram_word, hits_word, sample_word, bin_word, cell_word, time_bin_word, text_word, start_word, channel_item, histogram_item, hits_item, sample_item, bin_item, cell_item, time_item, start_item, continue_item, end_item}
 
 -- values of A lie in words as fields of the widths ns below a head
 pub record Laid (A : Type 0) (ns : List ℕ) (head : ℕ) : Type 0 where
@@ -56,8 +55,7 @@ module _ {A : Type 0} {ns : List ℕ} {head : ℕ} (l : Laid A ns head) where
       ∙ ap (λ (h : ℕ). pack ns h (cut ns w)) (sym h)
       ∙ pack_cut ns w
 
--- the kinds of layout: one field, as wide as what the head leaves; chip 2, cell 9; card 5, chip 2 and 7 bits; and in the word after an extended
--- header's first, with no head, card 5, chip 4, channel 7
+-- the kinds of layout: one field, as wide as what the head leaves; chip 2, cell 9; card 5, chip 2 and 7 bits
 
 module _ {A : Type 0} (n head : ℕ) (get : A → ℕ) (make : ℕ → A) (made : (x : A) → make (get x) ≡ x) (got : (v : ℕ) → get (make v) ≡ v) where
   abbrev pub one_field : Laid A (n ∷ []) head
@@ -88,21 +86,6 @@ module _ {A : Type 0} (head : ℕ) (card chip low : A → ℕ) (make : ℕ → �
     puts = λ x f. three_puts head (card x) (chip x) (low x) f.0 f.1.0 f.1.1.0;
   }
 
-pub key_puts : (a b c : ℕ) → a < 32 → b < 16 → c < 128 → key_cut a b c ≡ pack extended_widths 0 (a ∷ b ∷ c ∷ [])
-key_puts a b c p q r = omega arith
-
-module _ {A : Type 0} (card chip low : A → ℕ) (make : ℕ → ℕ → ℕ → A) (made : (x : A) → make (card x) (chip x) (low x) ≡ x)
-    (got : (a b c : ℕ) → card (make a b c) ∷ chip (make a b c) ∷ low (make a b c) ∷ [] ≡ a ∷ b ∷ c ∷ []) where
-  abbrev pub key_fields : Laid A extended_widths 0
-  key_fields = record {
-    fields = λ (x : A). card x ∷ chip x ∷ low x ∷ [];
-    of_word = λ (v : ℕ). make (v / 2048 % 32) (v / 128 % 16) (v % 128);
-    word = λ (x : A). key_cut (card x) (chip x) (low x);
-    same = λ x y e. sym (made x) ∙ ap (λ (l : List ℕ). make (get_or l 0 0) (get_or l 1 0) (get_or l 2 0)) e ∙ made y;
-    lists = λ w. got (w / 2048 % 32) (w / 128 % 16) (w % 128) ∙ ap (λ (v : ℕ). (w / 2048 % 32) ∷ (w / 128 % 16) ∷ (v % 128) ∷ []) (sym (div-one w));
-    puts = λ x f. key_puts (card x) (chip x) (low x) f.0 f.1.0 f.1.1.0;
-  }
-
 -- the structs
 
 abbrev pub channel : Laid Channel (widths paper.channel) 0b11
@@ -111,14 +94,6 @@ channel = three_fields 0b11 (λ (x : Channel). x.card) (λ (x : Channel). x.chip
 
 abbrev pub histogram : Laid Histogram (widths paper.histogram) 0b10
 histogram = three_fields 0b10 (λ (x : Histogram). x.card) (λ (x : Histogram). x.chip) (λ (x : Histogram). x.channel)
-    (λ (a b c : ℕ). record { card = a; chip = b; channel = c }) (λ x. refl) (λ a b c. refl)
-
-abbrev pub extended_channel : Laid Channel extended_widths 0
-extended_channel = key_fields (λ (x : Channel). x.card) (λ (x : Channel). x.chip) (λ (x : Channel). x.channel)
-    (λ (a b c : ℕ). record { card = a; chip = b; channel = c }) (λ x. refl) (λ a b c. refl)
-
-abbrev pub extended_histogram : Laid Histogram extended_widths 0
-extended_histogram = key_fields (λ (x : Histogram). x.card) (λ (x : Histogram). x.chip) (λ (x : Histogram). x.channel)
     (λ (a b c : ℕ). record { card = a; chip = b; channel = c }) (λ x. refl) (λ a b c. refl)
 
 abbrev pub hits : Laid HitCount (widths paper.hit_count) 0b01
@@ -153,17 +128,11 @@ type = one_field 4 0x00F (λ (x : ℕ). x) (λ (x : ℕ). x) (λ x. refl) (λ x.
 
 -- FIELDS THERE: what fits goes in and comes out again.
 
-pub channel_there : (x : Channel) → items.is_plain x.chip ≡ true → fits (channel_item x) ≡ true → channel_of (channel_word x) ≡ x
-channel_there x p f = there channel x (three_fit _ _ _ (plain_fits x.card x.chip x.channel p f))
+pub channel_there : (x : Channel) → fits (channel_item x) ≡ true → channel_of (channel_word x) ≡ x
+channel_there x f = there channel x (content_fit (channel_item x) f)
 
-pub histogram_there : (x : Histogram) → items.is_plain x.chip ≡ true → fits (histogram_item x) ≡ true → histogram_of (histogram_word x) ≡ x
-histogram_there x p f = there histogram x (three_fit _ _ _ (plain_fits x.card x.chip x.channel p f))
-
-pub extended_channel_there : (x : Channel) → fits (channel_item x) ≡ true → extended_channel_of (extended_channel_word x) ≡ x
-extended_channel_there x f = there extended_channel x (key_fit x.card x.chip x.channel f)
-
-pub extended_histogram_there : (x : Histogram) → fits (histogram_item x) ≡ true → extended_histogram_of (extended_histogram_word x) ≡ x
-extended_histogram_there x f = there extended_histogram x (key_fit x.card x.chip x.channel f)
+pub histogram_there : (x : Histogram) → fits (histogram_item x) ≡ true → histogram_of (histogram_word x) ≡ x
+histogram_there x f = there histogram x (content_fit (histogram_item x) f)
 
 pub hits_there : (x : HitCount) → fits (hits_item x) ≡ true → hits_of (hits_word x) ≡ x
 hits_there x f = there hits x (content_fit (hits_item x) f)
@@ -195,12 +164,6 @@ channel_back w k = let (p, q) = ranged w paper.channel k refl in back channel w 
 pub histogram_back : (w : ℕ) → class_of w ≡ paper.histogram → histogram_word (histogram_of w) ≡ w
 histogram_back w k = let (p, q) = ranged w paper.histogram k refl in back histogram w (omega arith)
 
-pub extended_channel_back : (v : ℕ) → v < 65536 → extended_channel_word (extended_channel_of v) ≡ v
-extended_channel_back v h = back extended_channel v (omega arith)
-
-pub extended_histogram_back : (v : ℕ) → v < 65536 → extended_histogram_word (extended_histogram_of v) ≡ v
-extended_histogram_back v h = back extended_histogram v (omega arith)
-
 pub hits_back : (w : ℕ) → class_of w ≡ paper.hit_count → hits_word (hits_of w) ≡ w
 hits_back w k = let (p, q) = ranged w paper.hit_count k refl in back hits w (omega arith)
 
@@ -228,20 +191,11 @@ module _ {A : Type 0} {ns : List ℕ} {head : ℕ} (l : Laid A ns head) where
   written : (x : A) (rest : List ℕ) → Fit ns (l.fields x) → pack ns head (l.fields x) ∷ rest ≡ l.word x ∷ rest
   written x rest f = ap (λ (w : ℕ). w ∷ rest) (sym (l.puts x f))
 
--- a header's in either spelling
-pub channel_words_lem : (x : Channel) → fits (channel_item x) ≡ true → words_of (channel_item x) ≡ channel_words x
-channel_words_lem x f = go (items.is_plain x.chip) refl
-  where
-    go : (p : Bool) → items.is_plain x.chip ≡ p → words_of (channel_item x) ≡ channel_words x
-    go true p = first_word_lem (channel_item x) ∙ rw p (written channel x [] (three_fit _ _ _ (plain_fits x.card x.chip x.channel p f)))
-    go false p = first_word_lem (channel_item x) ∙ rw p (ap (λ (l : List ℕ). 0x000D ∷ l) (written extended_channel x [] (key_fit x.card x.chip x.channel f)))
+pub channel_words : (x : Channel) → fits (channel_item x) ≡ true → words_of (channel_item x) ≡ channel_word x ∷ []
+channel_words x f = first_word_lem (channel_item x) ∙ written channel x [] (content_fit (channel_item x) f)
 
-pub histogram_words_lem : (x : Histogram) → fits (histogram_item x) ≡ true → words_of (histogram_item x) ≡ histogram_words x
-histogram_words_lem x f = go (items.is_plain x.chip) refl
-  where
-    go : (p : Bool) → items.is_plain x.chip ≡ p → words_of (histogram_item x) ≡ histogram_words x
-    go true p = first_word_lem (histogram_item x) ∙ rw p (written histogram x [] (three_fit _ _ _ (plain_fits x.card x.chip x.channel p f)))
-    go false p = first_word_lem (histogram_item x) ∙ rw p (ap (λ (l : List ℕ). 0x000E ∷ l) (written extended_histogram x [] (key_fit x.card x.chip x.channel f)))
+pub histogram_words : (x : Histogram) → fits (histogram_item x) ≡ true → words_of (histogram_item x) ≡ histogram_word x ∷ []
+histogram_words x f = first_word_lem (histogram_item x) ∙ written histogram x [] (content_fit (histogram_item x) f)
 
 pub hits_words : (x : HitCount) → fits (hits_item x) ≡ true → words_of (hits_item x) ≡ hits_word x ∷ []
 hits_words x f = first_word_lem (hits_item x) ∙ written hits x [] (content_fit (hits_item x) f)
@@ -283,16 +237,6 @@ channel_read w ws = refl
 pub histogram_read : (w : ℕ) (ws : List ℕ) → decode paper.histogram w ws ≡ some (histogram_item (histogram_of w))
 unfolding decode
 histogram_read w ws = refl
-
-pub extended_channel_read : (w : ℕ) (ws : List ℕ) → items.is_plain (extended_channel_of (get_or ws 0 0)).chip ≡ false
-    → decode paper.extended_channel w ws ≡ some (channel_item (extended_channel_of (get_or ws 0 0)))
-unfolding decode
-extended_channel_read w ws p = rw p
-
-pub extended_histogram_read : (w : ℕ) (ws : List ℕ) → items.is_plain (extended_histogram_of (get_or ws 0 0)).chip ≡ false
-    → decode paper.extended_histogram w ws ≡ some (histogram_item (extended_histogram_of (get_or ws 0 0)))
-unfolding decode
-extended_histogram_read w ws p = rw p
 
 pub hits_read : (w : ℕ) (ws : List ℕ) → decode paper.hit_count w ws ≡ some (hits_item (hits_of w))
 unfolding decode

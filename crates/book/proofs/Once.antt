@@ -19,10 +19,10 @@ use Rattle.book.specs.declared.items.LastCell.{LastCell}
 use Rattle.book.specs.declared.items.TimeBin.{TimeBin}
 use Rattle.book.specs.declared.items.Text.{Text}
 use Rattle.book.specs.declared.items.StartEvent.{StartEvent}
-use Rattle.book.specs.Fields.{channel_of, histogram_of, extended_channel_of, extended_histogram_of, hits_of, bin_of, cell_of, type_of, channel_word, histogram_word, extended_channel_word, extended_histogram_word, hits_word, sample_word, bin_word, cell_word, time_bin_word, text_word, start_word, channel_item, histogram_item, hits_item, sample_item, bin_item, cell_item, time_item, start_item}
+use Rattle.book.specs.Fields.{channel_of, histogram_of, hits_of, bin_of, cell_of, type_of, channel_word, histogram_word, hits_word, sample_word, bin_word, cell_word, time_bin_word, text_word, start_word, channel_item, histogram_item, hits_item, sample_item, bin_item, cell_item, time_item, start_item}
 use Rattle.book.specs.Page.{on_page, book_page}
 use Rattle.book.specs.Views.{view}
-use Rattle.book.specs.Promises.{Classified, PageTold, ClassifiedOn, RowTold, TextLong, WordsAfter, KeyTold, ChannelRead, ChannelWord, ChannelExtendedRead, ChannelExtendedWord, ChannelValid, HistogramRead, HistogramWord, HistogramExtendedRead, HistogramExtendedWord, HistogramValid, HitCountRead, HitCountWord, HitCountValid, SampleRead, SampleWord, SampleValid, BinRead, BinWord, BinValid, LastCellRead, LastCellWord, LastCellValid, TimeBinRead, TimeBinWord, TimeBinValid, TextRead, TextWord, StartEventRead, StartEventWord, StartEventValid, EndEventLow, ContinueEventLow, WordRead, LongRead, TimeRead, Copied}
+use Rattle.book.specs.Promises.{Classified, PageTold, ClassifiedOn, RowTold, TextLong, WordsAfter, KeyTold, ChannelRead, ChannelWord, ChannelValid, HistogramRead, HistogramWord, HistogramValid, HitCountRead, HitCountWord, HitCountValid, SampleRead, SampleWord, SampleValid, BinRead, BinWord, BinValid, LastCellRead, LastCellWord, LastCellValid, TimeBinRead, TimeBinWord, TimeBinValid, TextRead, TextWord, StartEventRead, StartEventWord, StartEventValid, EndEventLow, ContinueEventLow, WordRead, LongRead, TimeRead, Copied}
 use Rattle.book.proofs.Unique.{one, undone, same_class, equal_once}
 
 -- ---- the class of a word, and the words that come after it
@@ -56,12 +56,6 @@ channel_read_once w = equal_once (channel_of w)
 pub channel_word_once : (x : Channel) (r q : ℕ) → ChannelWord x r → ChannelWord x q → r ≡ q
 channel_word_once x = equal_once (channel_word x)
 
-pub channel_extended_read_once : (v : ℕ) (r q : Channel) → ChannelExtendedRead v r → ChannelExtendedRead v q → r ≡ q
-channel_extended_read_once v = equal_once (extended_channel_of v)
-
-pub channel_extended_word_once : (x : Channel) (r q : ℕ) → ChannelExtendedWord x r → ChannelExtendedWord x q → r ≡ q
-channel_extended_word_once x = equal_once (extended_channel_word x)
-
 pub channel_valid_once : (x : Channel) (card : ℕ) (r q : Bool) → ChannelValid x card r → ChannelValid x card q → r ≡ q
 channel_valid_once x card = equal_once (in_range card (channel_item x))
 
@@ -70,12 +64,6 @@ histogram_read_once w = equal_once (histogram_of w)
 
 pub histogram_word_once : (x : Histogram) (r q : ℕ) → HistogramWord x r → HistogramWord x q → r ≡ q
 histogram_word_once x = equal_once (histogram_word x)
-
-pub histogram_extended_read_once : (v : ℕ) (r q : Histogram) → HistogramExtendedRead v r → HistogramExtendedRead v q → r ≡ q
-histogram_extended_read_once v = equal_once (extended_histogram_of v)
-
-pub histogram_extended_word_once : (x : Histogram) (r q : ℕ) → HistogramExtendedWord x r → HistogramExtendedWord x q → r ≡ q
-histogram_extended_word_once x = equal_once (extended_histogram_word x)
 
 pub histogram_valid_once : (x : Histogram) (card : ℕ) (r q : Bool) → HistogramValid x card r → HistogramValid x card q → r ≡ q
 histogram_valid_once x card = equal_once (in_range card (histogram_item x))

@@ -12,7 +12,7 @@ use lib.Dec.{eqb, ltb}
 use lib.ListN.{get_or, replicate}
 use borrow.Author.Tests.{eqb-true, eqb-false, ne_eqb, ltb-true, le-ltb}
 use Rattle.format.specs.Words.{pick}
-use Rattle.format.specs.Book.{Class, channel, histogram, hit_count, sample, bin, last_cell, time_bin, data_frame, monitor_frame, command_frame, text, start_event, continue_event, end_event, frame_end, extended_channel, extended_histogram, unassigned, book, or_unassigned, class_of, row_of, class_at, assigned, page_range, Within}
+use Rattle.format.specs.Book.{Class, channel, histogram, hit_count, sample, bin, last_cell, time_bin, data_frame, monitor_frame, command_frame, text, start_event, continue_event, end_event, frame_end, unassigned, book, or_unassigned, class_of, row_of, class_at, assigned, page_range, Within}
 use Rattle.format.specs.Prefix.{find}
 use Rattle.format.proofs.book.TableLaws.{class_range}
 use Rattle.format.proofs.book.PageLaws.{by_page}
@@ -55,8 +55,6 @@ row_below start_event = refl
 row_below continue_event = refl
 row_below end_event = refl
 row_below frame_end = refl
-row_below extended_channel = refl
-row_below extended_histogram = refl
 row_below unassigned = refl
 
 -- and a row that holds it names the class
@@ -88,7 +86,7 @@ low_byte_alone high h = (λ e. there e (eqb high 0) refl, λ z. row_for high h �
     there e false t =
         let c = class_of (256 * high) in
         let r : row_of c ≡ 255 = sym (row_not_zero high (eqb-false _ _ t)) ∙ sym (row_for high h) ∙ e in
-        let l : row_of c < 18 = ltb-true _ _ (row_below c) in
+        let l : row_of c < 16 = ltb-true _ _ (row_below c) in
         absurd (omega (arith, r, l))
 
 -- words with one high byte, not 0, are of one class

@@ -6,7 +6,7 @@ use Rattle.format.specs.Answers.{Outcome, refused}
 use Rattle.format.specs.Book as paper
 use Rattle.format.specs.Items as items
 use Rattle.book.specs.declared.class.Class.{Class}
-use Rattle.book.specs.declared.class.Class.TheVariants.{Channel, Histogram, HitCount, Sample, Bin, LastCell, TimeBin, DataFrame, MonitorFrame, CommandFrame, Text, StartEvent, ContinueEvent, EndEvent, FrameEnd, ExtendedChannel, ExtendedHistogram, Unassigned}
+use Rattle.book.specs.declared.class.Class.TheVariants.{Channel, Histogram, HitCount, Sample, Bin, LastCell, TimeBin, DataFrame, MonitorFrame, CommandFrame, Text, StartEvent, ContinueEvent, EndEvent, FrameEnd, Unassigned}
 use Rattle.book.specs.declared.items.Item.{Item}
 use Rattle.book.specs.declared.items.Item.TheVariants as item
 use Rattle.book.specs.declared.refusal.Refusal.{Refusal}
@@ -39,8 +39,6 @@ class_back paper.start_event = StartEvent
 class_back paper.continue_event = ContinueEvent
 class_back paper.end_event = EndEvent
 class_back paper.frame_end = FrameEnd
-class_back paper.extended_channel = ExtendedChannel
-class_back paper.extended_histogram = ExtendedHistogram
 class_back paper.unassigned = Unassigned
 
 class_back_lem : (r : Class) → class_back (view r) ≡ r
@@ -59,8 +57,6 @@ class_back_lem StartEvent = refl
 class_back_lem ContinueEvent = refl
 class_back_lem EndEvent = refl
 class_back_lem FrameEnd = refl
-class_back_lem ExtendedChannel = refl
-class_back_lem ExtendedHistogram = refl
 class_back_lem Unassigned = refl
 
 pub same_class : (r q : Class) → view r ≡ view q → r ≡ q

@@ -1,7 +1,6 @@
 -- The fields of a word, cut from it by position and put in the same way, and the items that the item structs stand for.
 -- Assumes nothing.
-use Rattle.std.specs.Prelude.{ℕ, ◌+◌, ◌*◌, ◌/◌, ◌%◌, List, [], ◌∷◌}
-use Rattle.format.specs.Words.{pick}
+use Rattle.std.specs.Prelude.{ℕ, ◌+◌, ◌*◌, ◌/◌, ◌%◌}
 use Rattle.format.specs.Items as items
 use Rattle.book.specs.declared.items.Channel.{Channel}
 use Rattle.book.specs.declared.items.Histogram.{Histogram}
@@ -21,13 +20,6 @@ channel_of w = record { card = w / 512 % 32; chip = w / 128 % 4; channel = w % 1
 
 abbrev pub histogram_of : ℕ → Histogram
 histogram_of w = record { card = w / 512 % 32; chip = w / 128 % 4; channel = w % 128 }
-
--- of the word after an extended header's first: card 5, chip 4, channel 7
-abbrev pub extended_channel_of : ℕ → Channel
-extended_channel_of v = record { card = v / 2048 % 32; chip = v / 128 % 16; channel = v % 128 }
-
-abbrev pub extended_histogram_of : ℕ → Histogram
-extended_histogram_of v = record { card = v / 2048 % 32; chip = v / 128 % 16; channel = v % 128 }
 
 -- card 5, chip 2, count 7
 abbrev pub hits_of : ℕ → HitCount
@@ -57,28 +49,12 @@ type_of w = w % 16
 abbrev pub header_bits_cut : ℕ → ℕ → ℕ → ℕ
 header_bits_cut a b c = items.header_bits (a % 32) (b % 4) (c % 128)
 
-abbrev pub key_cut : ℕ → ℕ → ℕ → ℕ
-key_cut a b c = items.key (a % 32) (b % 16) (c % 128)
-
--- the first word of each item, its fields cut to their widths; of the headers the plain one, and the word after an extended one's first
+-- the first word of each item, its fields cut to their widths
 abbrev pub channel_word : Channel → ℕ
 channel_word x = 0xC000 + header_bits_cut x.card x.chip x.channel
 
 abbrev pub histogram_word : Histogram → ℕ
 histogram_word x = 0x8000 + header_bits_cut x.card x.chip x.channel
-
-abbrev pub extended_channel_word : Channel → ℕ
-extended_channel_word x = key_cut x.card x.chip x.channel
-
-abbrev pub extended_histogram_word : Histogram → ℕ
-extended_histogram_word x = key_cut x.card x.chip x.channel
-
--- a header's words: its chip decides on its spelling
-abbrev pub channel_words : Channel → List ℕ
-channel_words x = pick (items.is_plain x.chip) (channel_word x ∷ []) (0x000D ∷ extended_channel_word x ∷ [])
-
-abbrev pub histogram_words : Histogram → List ℕ
-histogram_words x = pick (items.is_plain x.chip) (histogram_word x ∷ []) (0x000E ∷ extended_histogram_word x ∷ [])
 
 abbrev pub hits_word : HitCount → ℕ
 hits_word x = 0x4000 + header_bits_cut x.card x.chip x.count

@@ -16,7 +16,7 @@ use Rattle.book.specs.declared.items.LastCell.{LastCell}
 use Rattle.book.specs.declared.items.TimeBin.{TimeBin}
 use Rattle.book.specs.declared.items.Text.{Text}
 use Rattle.book.specs.declared.items.StartEvent.{StartEvent}
-use Rattle.book.specs.Fields.{channel_of, histogram_of, extended_channel_of, extended_histogram_of, hits_of, bin_of, cell_of, type_of, channel_word, histogram_word, extended_channel_word, extended_histogram_word, hits_word, sample_word, bin_word, cell_word, time_bin_word, text_word, start_word, channel_item, histogram_item, hits_item, sample_item, bin_item, cell_item, time_item, start_item}
+use Rattle.book.specs.Fields.{channel_of, histogram_of, hits_of, bin_of, cell_of, type_of, channel_word, histogram_word, hits_word, sample_word, bin_word, cell_word, time_bin_word, text_word, start_word, channel_item, histogram_item, hits_item, sample_item, bin_item, cell_item, time_item, start_item}
 use Rattle.book.specs.Views.{view}
 use Rattle.book.specs.Page.{on_page, book_page}
 
@@ -45,7 +45,7 @@ WordsAfter w r = r ≡ after (class_of w) w
 
 -- ---- the items
 
--- the order key of a header with these fields; `ExtendedRead` is what the word after an extended header's first says of it, `ExtendedWord` that word
+-- the order key of a header with these fields
 abbrev pub KeyTold : ℕ → ℕ → ℕ → ℕ → Type 0
 KeyTold card chip channel r = r ≡ key card chip channel
 
@@ -55,12 +55,6 @@ ChannelRead w r = r ≡ channel_of w
 abbrev pub ChannelWord : Channel → ℕ → Type 0
 ChannelWord x r = r ≡ channel_word x
 
-abbrev pub ChannelExtendedRead : ℕ → Channel → Type 0
-ChannelExtendedRead v r = r ≡ extended_channel_of v
-
-abbrev pub ChannelExtendedWord : Channel → ℕ → Type 0
-ChannelExtendedWord x r = r ≡ extended_channel_word x
-
 abbrev pub ChannelValid : Channel → ℕ → Bool → Type 0
 ChannelValid x card r = r ≡ in_range card (channel_item x)
 
@@ -69,12 +63,6 @@ HistogramRead w r = r ≡ histogram_of w
 
 abbrev pub HistogramWord : Histogram → ℕ → Type 0
 HistogramWord x r = r ≡ histogram_word x
-
-abbrev pub HistogramExtendedRead : ℕ → Histogram → Type 0
-HistogramExtendedRead v r = r ≡ extended_histogram_of v
-
-abbrev pub HistogramExtendedWord : Histogram → ℕ → Type 0
-HistogramExtendedWord x r = r ≡ extended_histogram_word x
 
 abbrev pub HistogramValid : Histogram → ℕ → Bool → Type 0
 HistogramValid x card r = r ≡ in_range card (histogram_item x)

@@ -6,7 +6,7 @@ use Rattle.format.specs.Answers.{Outcome, refused}
 use Rattle.format.specs.Book as format
 use Rattle.format.specs.Items as items
 use Rattle.book.specs.declared.class.Class.{Class}
-use Rattle.book.specs.declared.class.Class.TheVariants.{Channel, Histogram, HitCount, Sample, Bin, LastCell, TimeBin, DataFrame, MonitorFrame, CommandFrame, Text, StartEvent, ContinueEvent, EndEvent, FrameEnd, ExtendedChannel, ExtendedHistogram, Unassigned}
+use Rattle.book.specs.declared.class.Class.TheVariants.{Channel, Histogram, HitCount, Sample, Bin, LastCell, TimeBin, DataFrame, MonitorFrame, CommandFrame, Text, StartEvent, ContinueEvent, EndEvent, FrameEnd, Unassigned}
 use Rattle.book.specs.declared.items.Item.{Item}
 use Rattle.book.specs.declared.items.Item.TheVariants as item
 use Rattle.book.specs.declared.refusal.Refusal.{Refusal}
@@ -27,8 +27,6 @@ view StartEvent = format.start_event
 view ContinueEvent = format.continue_event
 view EndEvent = format.end_event
 view FrameEnd = format.frame_end
-view ExtendedChannel = format.extended_channel
-view ExtendedHistogram = format.extended_histogram
 view Unassigned = format.unassigned
 
 -- an item as it is answered: of a text, its n, the final zero included

@@ -25,17 +25,10 @@ pub enum Class {
     FrameEnd,
     Unassigned,
     ContinueEvent,
-    ExtendedChannel,
-    ExtendedHistogram,
 }
 
 impl Class {
-    // The first words of the classes of high byte 0: the extended headers and a frame's end have no other word, an event's end reaches to its start,
-    // that to the last of them.
-    pub const EXTENDED_CHANNEL: u16 = 0x000D;
-
-    pub const EXTENDED_HISTOGRAM: u16 = 0x000E;
-
+    // The first words of the classes of high byte 0: a frame's end has no other word, an event's end reaches to its start, that to the last of them.
     pub const FRAME_END: u16 = 0x000F;
 
     pub const END_EVENT: u16 = 0x00E0;
@@ -95,10 +88,6 @@ impl Class {
 
     pub const ROW_CONTINUE_EVENT: u32 = 15;
 
-    pub const ROW_EXTENDED_CHANNEL: u32 = 16;
-
-    pub const ROW_EXTENDED_HISTOGRAM: u32 = 17;
-
     pub fn row(self) -> u32
         ensures { RowTold self result }
     {
@@ -119,8 +108,6 @@ impl Class {
             Class::FrameEnd => Class::ROW_FRAME_END,
             Class::Unassigned => Class::ROW_NONE,
             Class::ContinueEvent => Class::ROW_CONTINUE_EVENT,
-            Class::ExtendedChannel => Class::ROW_EXTENDED_CHANNEL,
-            Class::ExtendedHistogram => Class::ROW_EXTENDED_HISTOGRAM,
         }
     }
 }
@@ -152,8 +139,6 @@ fn after_class(class: Class, w: u16, text: u16) -> u16
         Class::StartEvent => 5,
         Class::EndEvent => 2,
         Class::ContinueEvent => 2,
-        Class::ExtendedChannel => 1,
-        Class::ExtendedHistogram => 1,
         Class::Channel => 0,
         Class::Histogram => 0,
         Class::HitCount => 0,

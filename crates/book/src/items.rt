@@ -1,18 +1,14 @@
 // The eleven items: what each holds, its limits, its fields cut out of a word by shifts and masks and put in the same way. The fields are wide
-// enough that a content too wide for the word can be handed to the writer, which refuses it. Each limit is named in its item, once; those that
-// several share, of a card and of a header's plain spelling, before them. A header has one of two spellings, by its chip: its plain word, or an
-// extended word and one more, which holds its fields.
+// enough that a content too wide for the word can be handed to the writer, which refuses it. Each limit is named in its item, once; that of a
+// card, which a frame start has too, before them.
 ghost use Rattle.std.specs.Prelude.{◌≡◌};
-ghost use Rattle.book.specs.Fields.{header_bits_cut, key_cut};
-ghost use Rattle.book.specs.Promises.{KeyTold, ChannelRead, ChannelWord, ChannelExtendedRead, ChannelExtendedWord, ChannelValid, HistogramRead, HistogramWord, HistogramExtendedRead, HistogramExtendedWord, HistogramValid, HitCountRead, HitCountWord, HitCountValid, SampleRead, SampleWord, SampleValid, BinRead, BinWord, BinValid, LastCellRead, LastCellWord, LastCellValid, TimeBinRead, TimeBinWord, TimeBinValid, TextRead, TextWord, StartEventRead, StartEventWord, StartEventValid, EndEventLow, ContinueEventLow};
+ghost use Rattle.book.specs.Fields.{header_bits_cut};
+ghost use Rattle.book.specs.Promises.{KeyTold, ChannelRead, ChannelWord, ChannelValid, HistogramRead, HistogramWord, HistogramValid, HitCountRead, HitCountWord, HitCountValid, SampleRead, SampleWord, SampleValid, BinRead, BinWord, BinValid, LastCellRead, LastCellWord, LastCellValid, TimeBinRead, TimeBinWord, TimeBinValid, TextRead, TextWord, StartEventRead, StartEventWord, StartEventValid, EndEventLow, ContinueEventLow};
 
 use crate::class::Class;
 
 // The last card: five bits of a word.
 pub const LAST_CARD: u16 = 31;
-
-// The last chip of a header's plain spelling: two bits of its word.
-pub const LAST_PLAIN_CHIP: u16 = 3;
 
 // A channel of a chip of a card, whose samples follow.
 #[derive(Drop)]
@@ -110,14 +106,8 @@ fn header_bits(card: u16, chip: u16, low: u16) -> u16
     (card & 0x1F) << 9 | (chip & 3) << 7 | low & 0x7F
 }
 
-// The word after an extended header's first: card 5, chip 4, channel 7, each cut to its width.
-fn key_bits(card: u16, chip: u16, channel: u16) -> u16
-    ensures { result ≡ key_cut card chip channel }
-{
-    (card & 0x1F) << 11 | (chip & 0xF) << 7 | channel & 0x7F
-}
-
-// The order key by which Channel headers rise in an event, and Histogram headers in a frame, extended or not: by card, chip, channel.
+// The order key by which Channel headers rise in an event, and Histogram headers in a frame. It is not the 14-bit content itself: there is
+// room for sixteen chips (docs/DECISIONS.md).
 pub fn key(card: u16, chip: u16, channel: u16) -> u32
     ensures { KeyTold card chip channel result }
 {
@@ -127,9 +117,7 @@ pub fn key(card: u16, chip: u16, channel: u16) -> u32
 impl Channel {
     pub const LAST_CARD: u16 = LAST_CARD; // that a Channel may have
 
-    pub const LAST_CHIP: u16 = 15; // four bits of an extended Channel's second word
-
-    pub const LAST_PLAIN_CHIP: u16 = LAST_PLAIN_CHIP; // of a Channel of one word
+    pub const LAST_CHIP: u16 = 3; // two bits of a Channel's word
 
     pub const LAST: u16 = 78; // the last channel of a chip
 
@@ -144,29 +132,11 @@ impl Channel {
         }
     }
 
-    // The plain word with these fields, each cut to its width.
+    // The word with these fields, each cut to its width.
     pub fn word(self) -> u16
         ensures { ChannelWord self result }
     {
         header_bits(self.card, self.chip, self.channel) | Class::CHANNEL
-    }
-
-    // The fields of the word after an extended Channel's first, high bits first: card 5, chip 4, channel 7.
-    pub fn of_extended(v: u16) -> Channel
-        ensures { ChannelExtendedRead v result }
-    {
-        Channel {
-            card: v >> 11 & 0x1F,
-            chip: v >> 7 & 0xF,
-            channel: v & 0x7F,
-        }
-    }
-
-    // That word with these fields, each cut to its width.
-    pub fn extended(self) -> u16
-        ensures { ChannelExtendedWord self result }
-    {
-        key_bits(self.card, self.chip, self.channel)
     }
 
     // The value rules in a frame of the card. Here and in the two items below the card has a branch of its own: it costs less than all the
@@ -186,9 +156,7 @@ impl Channel {
 impl Histogram {
     pub const LAST_CARD: u16 = LAST_CARD; // that a Histogram may have
 
-    pub const LAST_CHIP: u16 = 15; // four bits of an extended Histogram's second word
-
-    pub const LAST_PLAIN_CHIP: u16 = LAST_PLAIN_CHIP; // of a Histogram of one word
+    pub const LAST_CHIP: u16 = 3; // two bits of a Histogram's word
 
     pub const LAST: u16 = Channel::LAST; // every channel may have a histogram
 
@@ -203,29 +171,11 @@ impl Histogram {
         }
     }
 
-    // The plain word with these fields, each cut to its width.
+    // The word with these fields, each cut to its width.
     pub fn word(self) -> u16
         ensures { HistogramWord self result }
     {
         header_bits(self.card, self.chip, self.channel) | Class::HISTOGRAM
-    }
-
-    // The fields of the word after an extended Histogram's first, high bits first: card 5, chip 4, channel 7.
-    pub fn of_extended(v: u16) -> Histogram
-        ensures { HistogramExtendedRead v result }
-    {
-        Histogram {
-            card: v >> 11 & 0x1F,
-            chip: v >> 7 & 0xF,
-            channel: v & 0x7F,
-        }
-    }
-
-    // That word with these fields, each cut to its width.
-    pub fn extended(self) -> u16
-        ensures { HistogramExtendedWord self result }
-    {
-        key_bits(self.card, self.chip, self.channel)
     }
 
     // The value rules in a frame of the card.

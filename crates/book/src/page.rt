@@ -41,10 +41,6 @@ const FRAME_END: u8 = Class::ROW_FRAME_END as u8;
 
 const CONTINUE_EVENT: u8 = Class::ROW_CONTINUE_EVENT as u8;
 
-const EXTENDED_CHANNEL: u8 = Class::ROW_EXTENDED_CHANNEL as u8;
-
-const EXTENDED_HISTOGRAM: u8 = Class::ROW_EXTENDED_HISTOGRAM as u8;
-
 // Or this, which names no class: the low byte decides.
 const LOW_BYTE: u8 = 255;
 
@@ -328,12 +324,6 @@ fn by_low_byte(low: u16) -> Class
     if low == Class::FRAME_END {
         return Class::FrameEnd;
     }
-    if low == Class::EXTENDED_CHANNEL {
-        return Class::ExtendedChannel;
-    }
-    if low == Class::EXTENDED_HISTOGRAM {
-        return Class::ExtendedHistogram;
-    }
     Class::Unassigned
 }
 
@@ -359,8 +349,6 @@ fn on_row(row: u8, low: u16) -> Class
         END_EVENT => Class::EndEvent,
         FRAME_END => Class::FrameEnd,
         CONTINUE_EVENT => Class::ContinueEvent,
-        EXTENDED_CHANNEL => Class::ExtendedChannel,
-        EXTENDED_HISTOGRAM => Class::ExtendedHistogram,
         _ => by_low_byte(low),
     }
 }

@@ -8,20 +8,19 @@ use mathlib.Core.Bool.{Bool, true, false}
 use mathlib.Core.Option.{none, some}
 use native.Mathlib.Omega.{arith}
 use lib.ListN.{length, take, drop}
-use borrow.Author.Tests.{le-leb, lt-leb}
 use Rattle.format.specs.Words.{Bytes, words, bytes, word_at, long_at, time_at}
-use Rattle.format.specs.Book.{Class, channel, histogram, hit_count, sample, bin, last_cell, time_bin, data_frame, monitor_frame, command_frame, text, start_event, continue_event, end_event, frame_end, extended_channel, extended_histogram, unassigned, class_of, after, assigned, text_words}
-use Rattle.format.specs.Items.{Channel, Histogram, HitCount, Sample, Bin, LastCell, TimeBin, Text, StartEvent, ContinueEvent, EndEvent, is_plain, closed, decode, Token, whole, broken, token_for}
+use Rattle.format.specs.Book.{Class, channel, histogram, hit_count, sample, bin, last_cell, time_bin, data_frame, monitor_frame, command_frame, text, start_event, continue_event, end_event, frame_end, unassigned, class_of, after, assigned, text_words}
+use Rattle.format.specs.Items.{Channel, Histogram, HitCount, Sample, Bin, LastCell, TimeBin, Text, StartEvent, ContinueEvent, EndEvent, closed, decode, Token, whole, broken, token_for}
 use Rattle.format.specs.Frames.{last_of}
 use Rattle.format.specs.Questions.{shown}
 use Rattle.format.specs.Cursor.{standing_by, standing_at, shown_by}
-use Rattle.format.proofs.reader.TurnLaws.{Stands, alone, not_there, no_class, bin_there, start_there, continue_there, continue_broken, end_there, end_broken, header_there, header_broken, text_there, text_broken}
+use Rattle.format.proofs.reader.TurnLaws.{Stands, alone, not_there, no_class, bin_there, start_there, continue_there, continue_broken, end_there, end_broken, text_there, text_broken}
 use Rattle.format.proofs.reader.TextPlaced.{texted}
 use Rattle.format.proofs.items.PartLaws.{payload_bytes}
 use Rattle.format.proofs.reader.CursorLaws.{within_bytes, standing_in, standing_flawed}
 use Rattle.cursor.specs.Promises.{TextClosed}
 use Rattle.cursor.proofs.TextLoops.{closed_there}
-use Rattle.book.specs.Fields.{channel_of, histogram_of, extended_channel_of, extended_histogram_of, hits_of, cell_of, channel_item, histogram_item, hits_item, cell_item}
+use Rattle.book.specs.Fields.{channel_of, histogram_of, hits_of, cell_of, channel_item, histogram_item, hits_item, cell_item}
 use Rattle.book.specs.declared.items.Channel as ch
 use Rattle.book.specs.declared.items.Histogram as hi
 use Rattle.book.specs.declared.items.HitCount as hc
@@ -115,33 +114,6 @@ module _ (s : List ℕ) (last at w : ℕ) (b : 3 ≤ at) (h : at < last) (q : la
   pub content_shown : (low : ℕ) → continue_event ≡ class_of w → at + 3 ≤ last → low ≡ w % 512 → (low ≡ 0 → ⊥) → none ≡ shown_by (standing_at s at)
   content_shown low k l f z =
       shows _ (at + 3) (continue_broken s (last_of s) at (within_bytes s) (k ∙ ap class_of e) (omega arith) (λ i. z (f ∙ ap (λ (v : ℕ). v % 512) e ∙ i)))
-
-  -- an extended header's fields are in the word after its first, and its chip is past the plain ones, or is not
-  pub extended_channel_shown : (r : ch.Channel) → extended_channel ≡ class_of w → at + 2 ≤ last → r ≡ extended_channel_of (word_at s (at + 1)) → 3 < r.chip
-      → some (record { item = shown (channel_item r); next = at + 2 }) ≡ shown_by (standing_at s at)
-  unfolding decode
-  extended_channel_shown r k l f z =
-      ap (λ (r : ch.Channel). some (record { item = shown (channel_item r); next = at + 2 })) f
-      ∙ shows _ (at + 2) (header_there s (last_of s) at (within_bytes s) Channel extended_channel (k ∙ ap class_of e) refl refl (λ ws. refl) (omega arith) (ap (λ (r : ch.Channel). is_plain r.chip) (sym f) ∙ lt-leb r.chip 3 z))
-
-  pub plain_channel_shown : (r : ch.Channel) → extended_channel ≡ class_of w → at + 2 ≤ last → r ≡ extended_channel_of (word_at s (at + 1)) → r.chip ≤ 3
-      → none ≡ shown_by (standing_at s at)
-  unfolding decode
-  plain_channel_shown r k l f z =
-      shows _ (at + 2) (header_broken s (last_of s) at (within_bytes s) Channel extended_channel (k ∙ ap class_of e) refl refl (λ ws. refl) (omega arith) (ap (λ (r : ch.Channel). is_plain r.chip) (sym f) ∙ le-leb r.chip 3 z))
-
-  pub extended_histogram_shown : (r : hi.Histogram) → extended_histogram ≡ class_of w → at + 2 ≤ last → r ≡ extended_histogram_of (word_at s (at + 1)) → 3 < r.chip
-      → some (record { item = shown (histogram_item r); next = at + 2 }) ≡ shown_by (standing_at s at)
-  unfolding decode
-  extended_histogram_shown r k l f z =
-      ap (λ (r : hi.Histogram). some (record { item = shown (histogram_item r); next = at + 2 })) f
-      ∙ shows _ (at + 2) (header_there s (last_of s) at (within_bytes s) Histogram extended_histogram (k ∙ ap class_of e) refl refl (λ ws. refl) (omega arith) (ap (λ (r : hi.Histogram). is_plain r.chip) (sym f) ∙ lt-leb r.chip 3 z))
-
-  pub plain_histogram_shown : (r : hi.Histogram) → extended_histogram ≡ class_of w → at + 2 ≤ last → r ≡ extended_histogram_of (word_at s (at + 1)) → r.chip ≤ 3
-      → none ≡ shown_by (standing_at s at)
-  unfolding decode
-  plain_histogram_shown r k l f z =
-      shows _ (at + 2) (header_broken s (last_of s) at (within_bytes s) Histogram extended_histogram (k ∙ ap class_of e) refl refl (λ ws. refl) (omega arith) (ap (λ (r : hi.Histogram). is_plain r.chip) (sym f) ∙ le-leb r.chip 3 z))
 
   -- ---- a text: its word holds its n
   module _ (y : Bytes s) (n m : ℕ) (k : text ≡ class_of w) (f : n ≡ w % 256) (g : m ≡ text_words w) (l : at + 1 + m ≤ last)

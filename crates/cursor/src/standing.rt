@@ -106,36 +106,6 @@ fn continue_standing(s: &[u8], last: usize, at: usize, w: u16) -> Standing
     found(Item::ContinueEvent(ContinueEvent { number }), at + 3)
 }
 
-// An extended Channel header of a chip past those of the plain spelling, whose second word ends before the last word.
-fn extended_channel_standing(s: &[u8], last: usize, at: usize, w: u16) -> Standing
-    requires { (3 ≤ at) × (at < last) × (last ≡ last_of s.now) × (w ≡ word_at s.now at) × (book.extended_channel ≡ book.class_of w) }
-    ensures { view_standing result ≡ shown_by (standing_at s.now at) }
-{
-    if last < at + 2 {
-        return Standing::Nothing;
-    }
-    let x = Channel::of_extended(word(s, at + 1));
-    if x.chip <= Channel::LAST_PLAIN_CHIP {
-        return Standing::Nothing;
-    }
-    found(Item::Channel(x), at + 2)
-}
-
-// An extended Histogram header of a chip past those of the plain spelling, whose second word ends before the last word.
-fn extended_histogram_standing(s: &[u8], last: usize, at: usize, w: u16) -> Standing
-    requires { (3 ≤ at) × (at < last) × (last ≡ last_of s.now) × (w ≡ word_at s.now at) × (book.extended_histogram ≡ book.class_of w) }
-    ensures { view_standing result ≡ shown_by (standing_at s.now at) }
-{
-    if last < at + 2 {
-        return Standing::Nothing;
-    }
-    let x = Histogram::of_extended(word(s, at + 1));
-    if x.chip <= Histogram::LAST_PLAIN_CHIP {
-        return Standing::Nothing;
-    }
-    found(Item::Histogram(x), at + 2)
-}
-
 // A text whose bytes are closed and end before the last word.
 fn text_standing(s: &[u8], last: usize, at: usize, w: u16) -> Standing
     requires { (3 ≤ at) × (at < last) × (last ≡ last_of s.now) × (w ≡ word_at s.now at) × (book.text ≡ book.class_of w) }
@@ -178,14 +148,11 @@ fn any_standing(s: &[u8], last: usize, at: usize, w: u16) -> Standing
         Class::FrameEnd => Standing::Nothing,
         Class::Unassigned => Standing::Nothing,
         Class::ContinueEvent => continue_standing(s, last, at, w),
-        Class::ExtendedChannel => extended_channel_standing(s, last, at, w),
-        Class::ExtendedHistogram => extended_histogram_standing(s, last, at, w),
     }
 }
 
 // The item at word `at` of some bytes, where one stands whole between their first three words and their last, and the index of the word behind
-// it. Samples and Bins come one behind the other: they are told here, where a caller's loop has the test in it; so are extended headers, of which a
-// frame may be full, and which no loop tells by itself.
+// it. Samples and Bins come one behind the other: they are told here, where a caller's loop has the test in it.
 pub fn item_at(s: &[u8], at: usize) -> Standing
     ensures { StandingAnswered s.now at result }
 {
@@ -208,12 +175,6 @@ pub fn item_at(s: &[u8], at: usize) -> Standing
     }
     if Class::BIN <= w {
         return bin_standing(s, last, at, w);
-    }
-    if w == Class::EXTENDED_CHANNEL {
-        return extended_channel_standing(s, last, at, w);
-    }
-    if w == Class::EXTENDED_HISTOGRAM {
-        return extended_histogram_standing(s, last, at, w);
     }
     any_standing(s, last, at, w)
 }

@@ -33,13 +33,13 @@ above zero k h n = h
 above (suc m) k h n = up (suc m) k (above m k h n.0) n.1
 
 -- no class has the number
-pub unnamed : (x : PlaneItem) → NoneTo 17 x.item_class → flawed 6 ≡ token_of x
+pub unnamed : (x : PlaneItem) → NoneTo 15 x.item_class → flawed 6 ≡ token_of x
 unfolding token_of
 unnamed x n = go x.item_class n
   where
-    go : (k : ℕ) → NoneTo 17 k → flawed 6 ≡ said x (class_at k)
+    go : (k : ℕ) → NoneTo 15 k → flawed 6 ≡ said x (class_at k)
     go zero n = refl
-    go (suc k) n = let h : 18 ≤ suc k = above 17 (suc k) (omega arith) n in ap (said x) (sym (get_or-eq_default (unassigned ∷ map (λ (r : Row Class). r.class) book) unassigned h))
+    go (suc k) n = let h : 16 ≤ suc k = above 15 (suc k) (omega arith) n in ap (said x) (sym (get_or-eq_default (unassigned ∷ map (λ (r : Row Class). r.class) book) unassigned h))
 
 module _ (buf : List ℕ) (n k : ℕ) where
   pub flawed_refused : (j p : ℕ) → refused j p ≡ partial_read_of buf n → record { refused = j; place = p; length = 0 } ≡ flat_written (add_answer buf n (flawed k))

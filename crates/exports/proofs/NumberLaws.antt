@@ -10,7 +10,7 @@ use native.Mathlib.Omega.{arith}
 use lib.Dec.{leb}
 use Rattle.format.specs.Words.{Bytes, pick}
 use Rattle.format.specs.Answers.{Outcome, accepted, refused, and_then}
-use Rattle.format.specs.Book.{Class, channel, histogram, hit_count, sample, bin, last_cell, time_bin, data_frame, monitor_frame, command_frame, text, start_event, continue_event, end_event, frame_end, extended_channel, extended_histogram, unassigned, class_at}
+use Rattle.format.specs.Book.{Class, channel, histogram, hit_count, sample, bin, last_cell, time_bin, data_frame, monitor_frame, command_frame, text, start_event, continue_event, end_event, frame_end, unassigned, class_at}
 use Rattle.format.specs.Items.{Item, Text, Token, whole, flawed}
 use Rattle.format.specs.Rules.{Kind, check}
 use Rattle.format.specs.Frames.{verdict}
@@ -148,8 +148,6 @@ sayable x start_event = inl refl
 sayable x end_event = inl refl
 sayable x frame_end = inr (8, refl, omega arith)
 sayable x continue_event = inl refl
-sayable x extended_channel = inl refl
-sayable x extended_histogram = inl refl
 sayable x unassigned = inr (6, refl, omega arith)
 
 module _ (buf : List ℕ) (bs : Bytes buf) (n : ℕ) where

@@ -4,16 +4,15 @@ use Prim.Native.Nat.{ℕ, ◌≤◌}
 use mathlib.Core.Path.{◌≡◌, refl, sym, ap, ap₂, ◌∙◌}
 use mathlib.Core.Logic.{◌↔◌}
 use mathlib.Core.List.{List, [], ◌∷◌}
-use mathlib.Core.Bool.{Bool, true, false}
 use mathlib.Core.Option.{Option, none, some}
 use native.Mathlib.Omega.{arith}
 use lib.Dec.{eqb}
 use lib.ListN.{get_or}
 use Rattle.format.specs.Words.{pick}
 use Rattle.format.specs.Answers.{Outcome, accepted, refused, and_then}
-use Rattle.format.specs.Book.{Class, channel, histogram, extended_channel, extended_histogram, row_of, class_at}
+use Rattle.format.specs.Book.{Class, row_of, class_at}
 use Rattle.format.proofs.front.Book.{book_row_stands}
-use Rattle.format.specs.Items.{ItemOf, Channel, Histogram, HitCount, Sample, Bin, LastCell, TimeBin, Text, StartEvent, ContinueEvent, EndEvent, is_plain}
+use Rattle.format.specs.Items.{ItemOf, Channel, Histogram, HitCount, Sample, Bin, LastCell, TimeBin, Text, StartEvent, ContinueEvent, EndEvent}
 use Rattle.format.specs.Rules.{Kind, data_kind, monitor_kind, command_kind}
 use Rattle.format.specs.Questions.{IndexedShown, Began, Event}
 use Rattle.format.specs.Writing.{given}
@@ -29,8 +28,8 @@ use Rattle.exports.specs.declared.answers.PlaneFound.{PlaneFound}
 use Rattle.exports.specs.declared.answers.PlaneEvent.{PlaneEvent}
 use Rattle.exports.specs.declared.answers.PlaneFollower.{PlaneFollower}
 use Rattle.exports.specs.declared.answers.PlaneAssembler.{PlaneAssembler}
-use Rattle.exports.specs.Flat.{kind_number, row, flat_done, flat_frame, flat_item, flat_found, is_there, kind_told, timestamp_told, size_told, flat_event, flat_word, flat_written, flat_follower, flat_followed, flat_assembler_by, flat_assembler, flat_taken, flat_record, time_kept, flat_entry, flat_stopped}
-use Rattle.exports.specs.Given.{follower_of, current_of, assembler_of, kind_of, said, token_of}
+use Rattle.exports.specs.Flat.{kind_number, flat_done, flat_frame, flat_item, flat_found, is_there, kind_told, timestamp_told, size_told, flat_event, flat_word, flat_written, flat_follower, flat_followed, flat_assembler_by, flat_assembler, flat_taken, flat_record, time_kept, flat_entry, flat_stopped}
+use Rattle.exports.specs.Given.{follower_of, current_of, assembler_of, kind_of, token_of}
 use Rattle.exports.specs.FlatTells.{Numbered, Tells, FrameSeen, seen_frame, seen_time, seen_entry}
 
 -- ---- numbers of classes and kinds
@@ -76,24 +75,14 @@ item_back x =
     ∷ EndEvent x.size
     ∷ Sample 0
     ∷ ContinueEvent x.number
-    ∷ Channel x.card x.chip x.channel
-    ∷ Histogram x.card x.chip x.channel
     ∷ [])
     x.item_class
     (Sample 0)
 
 item_back_lem : (x : ItemOf ℕ) → item_back (flat_item x) ≡ x
 unfolding flat_item
-item_back_lem (Channel a b c) = go (is_plain b)
-  where
-    go : (p : Bool) → item_back (row (row_of (pick p channel extended_channel)) a b c 0 0 0 0 0 0 0 0 0 0 0) ≡ Channel a b c
-    go true = refl
-    go false = refl
-item_back_lem (Histogram a b c) = go (is_plain b)
-  where
-    go : (p : Bool) → item_back (row (row_of (pick p histogram extended_histogram)) a b c 0 0 0 0 0 0 0 0 0 0 0) ≡ Histogram a b c
-    go true = refl
-    go false = refl
+item_back_lem (Channel a b c) = refl
+item_back_lem (Histogram a b c) = refl
 item_back_lem (HitCount a b c) = refl
 item_back_lem (Sample v) = refl
 item_back_lem (Bin b n) = refl
@@ -110,16 +99,8 @@ same_item = undone flat_item item_back item_back_lem
 -- an item as plane_item answers it is, handed to plane_add, that item
 pub handed_back : (x : ItemOf ℕ) → token_of (flat_item x) ≡ given x
 unfolding flat_item token_of
-handed_back (Channel a b c) = go (is_plain b)
-  where
-    go : (p : Bool) → said (row (row_of (pick p channel extended_channel)) a b c 0 0 0 0 0 0 0 0 0 0 0) (class_at (row_of (pick p channel extended_channel))) ≡ given (Channel a b c)
-    go true = refl
-    go false = refl
-handed_back (Histogram a b c) = go (is_plain b)
-  where
-    go : (p : Bool) → said (row (row_of (pick p histogram extended_histogram)) a b c 0 0 0 0 0 0 0 0 0 0 0) (class_at (row_of (pick p histogram extended_histogram))) ≡ given (Histogram a b c)
-    go true = refl
-    go false = refl
+handed_back (Channel a b c) = refl
+handed_back (Histogram a b c) = refl
 handed_back (HitCount a b c) = refl
 handed_back (Sample v) = refl
 handed_back (Bin b n) = refl

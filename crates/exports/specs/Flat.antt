@@ -3,12 +3,11 @@
 -- Assumes nothing.
 use Rattle.std.specs.Prelude.{ℕ, List, [], ◌∷◌}
 use Rattle.std.proofs.Math.Option.{Option, none, some}
-use Rattle.format.specs.Words.{pick}
 use Rattle.format.specs.Answers as answers
 use Rattle.format.specs.Answers.{Outcome}
 use Rattle.format.specs.Book as book
 use Rattle.format.specs.Book.{row_of}
-use Rattle.format.specs.Items.{ItemOf, Channel, Histogram, HitCount, Sample, Bin, LastCell, TimeBin, Text, StartEvent, ContinueEvent, EndEvent, is_plain}
+use Rattle.format.specs.Items.{ItemOf, Channel, Histogram, HitCount, Sample, Bin, LastCell, TimeBin, Text, StartEvent, ContinueEvent, EndEvent}
 use Rattle.format.specs.Rules.{Kind, data_kind, monitor_kind, command_kind}
 use Rattle.format.specs.Steps.{Overview}
 use Rattle.format.specs.Questions.{IndexedShown, Began, Event}
@@ -72,8 +71,8 @@ blank class = row class 0 0 0 0 0 0 0 0 0 0 0 0 0 0
 
 -- class, card, chip, channel, hits, value, bin, cell, time, length, kind, count, number, size, timestamp
 unfoldable pub flat_item : ItemOf ℕ → PlaneItem
-flat_item (Channel a b c) = row (row_of (pick (is_plain b) book.channel book.extended_channel)) a b c 0 0 0 0 0 0 0 0 0 0 0
-flat_item (Histogram a b c) = row (row_of (pick (is_plain b) book.histogram book.extended_histogram)) a b c 0 0 0 0 0 0 0 0 0 0 0
+flat_item (Channel a b c) = row (row_of book.channel) a b c 0 0 0 0 0 0 0 0 0 0 0
+flat_item (Histogram a b c) = row (row_of book.histogram) a b c 0 0 0 0 0 0 0 0 0 0 0
 flat_item (HitCount a b n) = row (row_of book.hit_count) a b 0 n 0 0 0 0 0 0 0 0 0 0
 flat_item (Sample v) = row (row_of book.sample) 0 0 0 0 v 0 0 0 0 0 0 0 0 0
 flat_item (Bin b n) = row (row_of book.bin) 0 0 0 0 0 b 0 0 0 0 n 0 0 0

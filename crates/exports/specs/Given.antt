@@ -4,7 +4,7 @@ use Rattle.std.specs.Prelude.{ℕ, List, eqb}
 use Rattle.std.proofs.Math.Option.{Option, none, some}
 use Rattle.format.specs.Words.{pick}
 use Rattle.format.specs.Answers.{Outcome, refused}
-use Rattle.format.specs.Book.{Class, channel, histogram, hit_count, sample, bin, last_cell, time_bin, data_frame, monitor_frame, command_frame, text, start_event, continue_event, end_event, frame_end, extended_channel, extended_histogram, unassigned, class_at}
+use Rattle.format.specs.Book.{Class, channel, histogram, hit_count, sample, bin, last_cell, time_bin, data_frame, monitor_frame, command_frame, text, start_event, continue_event, end_event, frame_end, unassigned, class_at}
 use Rattle.format.specs.Items.{Channel, Histogram, HitCount, Sample, Bin, LastCell, TimeBin, Text, StartEvent, ContinueEvent, EndEvent, Token, flawed}
 use Rattle.format.specs.Rules.{Kind, data_kind, monitor_kind, command_kind}
 use Rattle.format.specs.Writing as writing
@@ -43,8 +43,7 @@ begun_left (some k) buf card sequence = begin_left buf k card sequence
 
 -- ---- add
 
--- "Frame starts and Frame end are never items", 8; a number that no class has is 6, CLASS. A header's chip decides on its spelling, whichever of its
--- two classes is named
+-- "Frame starts and Frame end are never items", 8; a number that no class has is 6, CLASS
 abbrev pub said : PlaneItem → Class → Token
 said x channel = writing.given (Channel x.card x.chip x.channel)
 said x histogram = writing.given (Histogram x.card x.chip x.channel)
@@ -61,8 +60,6 @@ said x start_event = writing.given (StartEvent x.kind x.timestamp x.number)
 said x end_event = writing.given (EndEvent x.size)
 said x frame_end = flawed 8
 said x continue_event = writing.given (ContinueEvent x.number)
-said x extended_channel = writing.given (Channel x.card x.chip x.channel)
-said x extended_histogram = writing.given (Histogram x.card x.chip x.channel)
 said x unassigned = flawed 6
 
 unfoldable pub token_of : PlaneItem → Token

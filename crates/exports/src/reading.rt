@@ -1,9 +1,5 @@
 // The class of a word, and the questions on a frame and its items.
 ghost use Rattle.std.specs.Prelude.{◌≡◌};
-ghost use Rattle.format.specs.Words.{pick};
-ghost use Rattle.format.specs.Book as book;
-ghost use Rattle.format.specs.Book.{row_of};
-ghost use Rattle.format.specs.Items.{is_plain};
 ghost use Rattle.book.specs.Views.{view_item};
 ghost use Rattle.rules.specs.Views.{view_kind};
 ghost use Rattle.frame.specs.Views.{view_reading, view_found};
@@ -12,7 +8,7 @@ ghost use Rattle.exports.specs.Promises.{ClassNumbered, FrameTold, ItemTold, Tex
 
 use crate::answers::{PlaneFound, PlaneFrame, PlaneItem, PlaneText};
 use book::class::{Class, classify};
-use book::items::{Channel, Histogram, Item};
+use book::items::Item;
 use frame::items::{Found, item};
 use frame::reading::{Reading, read};
 use rules::state::Kind;
@@ -133,32 +129,12 @@ fn event_item(class: u32, kind: u16, timestamp: u64, number: u32, size: u32) -> 
     }
 }
 
-// The class of a Channel header's word, by its chip.
-fn channel_row(chip: u16) -> u32
-    ensures { result ≡ row_of (pick (is_plain chip) book.channel book.extended_channel) }
-{
-    if chip <= Channel::LAST_PLAIN_CHIP {
-        return Class::ROW_CHANNEL;
-    }
-    Class::ROW_EXTENDED_CHANNEL
-}
-
-// The class of a Histogram header's word, by its chip.
-fn histogram_row(chip: u16) -> u32
-    ensures { result ≡ row_of (pick (is_plain chip) book.histogram book.extended_histogram) }
-{
-    if chip <= Histogram::LAST_PLAIN_CHIP {
-        return Class::ROW_HISTOGRAM;
-    }
-    Class::ROW_EXTENDED_HISTOGRAM
-}
-
 fn flat_item(item: Item) -> PlaneItem
     ensures { result ≡ flat_item (view_item item) }
 {
     match item {
-        Item::Channel(x) => chip_item(channel_row(x.chip), x.card, x.chip, x.channel, 0, 0),
-        Item::Histogram(x) => chip_item(histogram_row(x.chip), x.card, x.chip, x.channel, 0, 0),
+        Item::Channel(x) => chip_item(Class::ROW_CHANNEL, x.card, x.chip, x.channel, 0, 0),
+        Item::Histogram(x) => chip_item(Class::ROW_HISTOGRAM, x.card, x.chip, x.channel, 0, 0),
         Item::HitCount(x) => chip_item(Class::ROW_HIT_COUNT, x.card, x.chip, 0, x.count, 0),
         Item::Sample(x) => value_item(Class::ROW_SAMPLE, x.value, 0, 0, 0, 0),
         Item::Bin(x) => value_item(Class::ROW_BIN, 0, x.bin, x.count, 0, 0),

@@ -66,8 +66,7 @@ enum Given {
     Flawed(u32),
 }
 
-// Frame starts and Frame end are never items: 8. A number that no class has is 6. A header's chip decides on its spelling, whichever of its two
-// classes is named.
+// Frame starts and Frame end are never items: 8. A number that no class has is 6.
 fn item_given(x: PlaneItem) -> Given
     ensures { view_given result ≡ token_of x }
 {
@@ -111,16 +110,6 @@ fn item_given(x: PlaneItem) -> Given
         Class::ROW_FRAME_END => Given::Flawed(Refusal::PLACE),
         Class::ROW_CONTINUE_EVENT => Given::Item(Item::ContinueEvent(ContinueEvent {
             number: x.number,
-        })),
-        Class::ROW_EXTENDED_CHANNEL => Given::Item(Item::Channel(Channel {
-            card: x.card,
-            chip: x.chip,
-            channel: x.channel,
-        })),
-        Class::ROW_EXTENDED_HISTOGRAM => Given::Item(Item::Histogram(Histogram {
-            card: x.card,
-            chip: x.chip,
-            channel: x.channel,
         })),
         _ => Given::Flawed(Refusal::CLASS),
     }

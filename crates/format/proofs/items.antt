@@ -2,7 +2,6 @@
 pub mod WordLaws
 pub mod StoringLaws
 pub mod TextLaws
-pub mod HeaderLaws
 pub mod ItemLaws
 pub mod WrittenLaws
 pub mod PartLaws

@@ -5,4 +5,3 @@ pub mod Acceptance
 pub mod FaultLaws
 pub mod WalkFaults
 pub mod RefusalLaws
-pub mod BeforeLaws

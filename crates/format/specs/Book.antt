@@ -7,7 +7,7 @@ use Rattle.format.specs.Words.{pick}
 use Rattle.format.specs.Prefix.{Row, find}
 
 pub data Class : Type 0 where
-  channel histogram hit_count sample bin last_cell time_bin data_frame monitor_frame command_frame text start_event continue_event end_event frame_end extended_channel extended_histogram unassigned : Class
+  channel histogram hit_count sample bin last_cell time_bin data_frame monitor_frame command_frame text start_event continue_event end_event frame_end unassigned : Class
 
 abbrev pub row : ℕ → ℕ → Class → Row Class
 row p n c = record { prefix = p; bits = n; class = c }
@@ -29,8 +29,6 @@ book =
     ∷ row 0x00E 12 end_event
     ∷ row 0x000F 16 frame_end
     ∷ row 0b0000101 7 continue_event
-    ∷ row 0x000D 16 extended_channel
-    ∷ row 0x000E 16 extended_histogram
     ∷ []
 
 -- a word that no row matches is unassigned
@@ -58,8 +56,6 @@ row_of start_event = 12
 row_of end_event = 13
 row_of frame_end = 14
 row_of continue_event = 15
-row_of extended_channel = 16
-row_of extended_histogram = 17
 row_of unassigned = 0
 
 -- and the class of a row
@@ -87,30 +83,7 @@ after start_event w = 5
 after continue_event w = 2
 after end_event w = 2
 after frame_end w = 0
-after extended_channel w = 1
-after extended_histogram w = 1
 after unassigned w = 0
-
--- what the rules take a class for: an extended header is a header like any other (document 02, request 5)
-abbrev pub plain : Class → Class
-plain channel = channel
-plain histogram = histogram
-plain hit_count = hit_count
-plain sample = sample
-plain bin = bin
-plain last_cell = last_cell
-plain time_bin = time_bin
-plain data_frame = data_frame
-plain monitor_frame = monitor_frame
-plain command_frame = command_frame
-plain text = text
-plain start_event = start_event
-plain continue_event = continue_event
-plain end_event = end_event
-plain frame_end = frame_end
-plain extended_channel = channel
-plain extended_histogram = histogram
-plain unassigned = unassigned
 
 abbrev pub assigned : Class → Bool
 assigned channel = true
@@ -128,8 +101,6 @@ assigned start_event = true
 assigned continue_event = true
 assigned end_event = true
 assigned frame_end = true
-assigned extended_channel = true
-assigned extended_histogram = true
 assigned unassigned = false
 
 -- document 01's table, and document 02's words: the words of each class, from the first to the last
@@ -157,8 +128,6 @@ page_range start_event = range 0x00F0 0x00FF
 page_range continue_event = range 0x0A00 0x0BFF
 page_range end_event = range 0x00E0 0x00EF
 page_range frame_end = range 0x000F 0x000F
-page_range extended_channel = range 0x000D 0x000D
-page_range extended_histogram = range 0x000E 0x000E
 page_range unassigned = range 1 0
 
 -- the word lies in the range

@@ -4,7 +4,7 @@
 use Rattle.std.specs.Prelude.{ℕ, suc, ◌+◌, ◌-◌, ◌/◌, ◌%◌, ◌<◌, ◌≤◌, ◌≡◌, List, [], true, false, length, take, drop}
 use Rattle.format.specs.Words.{words, word_at}
 use Rattle.format.specs.Answers.{accepted, refused}
-use Rattle.format.specs.Book.{Class, unassigned, class_of, after, plain}
+use Rattle.format.specs.Book.{Class, unassigned, class_of, after}
 use Rattle.format.specs.Items.{Item, class_for, words_of}
 use Rattle.format.specs.Rules.{Kind, place, value, order, may_end}
 use Rattle.format.specs.Frames.{Frame, earlier_then, Sound, all_words, encode, Legal, is_start, last_of, kind_in, card_in, front, verdict}
@@ -45,8 +45,8 @@ pub data ItemBroken (s : List ℕ) (end : ℕ) (q : List Item) (p : ℕ) : ℕ �
   no_class : class_of (word_at s p) ≡ unassigned → ItemBroken s end q p 6
   -- "the words after it reach the last word"; in a partial frame "words missing past the partial frame's end"
   cut : end ≤ p + after_at s p → ItemBroken s end q p 7
-  -- "class not allowed here", a header's two alike
-  misplaced : place (kind_in s) q (plain (class_of (word_at s p))) ≡ false → ItemBroken s end q p 8
+  -- "class not allowed here"
+  misplaced : place (kind_in s) q (class_of (word_at s p)) ≡ false → ItemBroken s end q p 8
   -- "a value rule broken": they are the words of no item of which the value rules hold
   misvalued : ((x : Item) → words_at s p ≡ words_of x → value (card_in s) q x ≡ true → ⊥) → ItemBroken s end q p 9
   -- "an order rule broken"

@@ -2,9 +2,9 @@
 -- (document 01, "The word book").
 -- Assumes nothing.
 use Rattle.std.specs.Prelude.{ℕ, ◌+◌, ◌-◌, ◌*◌, ◌/◌, ◌%◌, ◌^◌, ◌<◌, ◌≡◌, List, [], ◌∷◌, ◌++◌, true, length}
-use Rattle.format.specs.Words.{pick, words, long_words, time_words}
-use Rattle.format.specs.Book.{Class, channel, histogram, hit_count, sample, bin, last_cell, time_bin, data_frame, monitor_frame, command_frame, text, start_event, continue_event, end_event, frame_end, extended_channel, extended_histogram, unassigned, class_of, row_of, nth}
-use Rattle.format.specs.Items.{ItemOf, Item, Channel, Histogram, HitCount, Sample, Bin, LastCell, TimeBin, Text, StartEvent, ContinueEvent, EndEvent, is_plain, spelled, words_of, fits}
+use Rattle.format.specs.Words.{words, long_words, time_words}
+use Rattle.format.specs.Book.{Class, channel, histogram, hit_count, sample, bin, last_cell, time_bin, data_frame, monitor_frame, command_frame, text, start_event, continue_event, end_event, frame_end, unassigned, class_of, row_of, nth}
+use Rattle.format.specs.Items.{ItemOf, Item, Channel, Histogram, HitCount, Sample, Bin, LastCell, TimeBin, Text, StartEvent, ContinueEvent, EndEvent, class_for, words_of, fits}
 
 -- how many bits fields of these widths take
 abbrev pub total : List ℕ → ℕ
@@ -46,15 +46,13 @@ widths start_event = 4 ∷ []
 widths continue_event = 9 ∷ []
 widths end_event = 4 ∷ []
 widths frame_end = []
-widths extended_channel = []
-widths extended_histogram = []
 widths unassigned = []
 
 -- CONTENT: the fields of an item's first word, in the book's order. A text's is its n, the final zero counted; a Continue
--- event's and an End event's are zero; an extended header's stands in the word after it.
+-- event's and an End event's are zero.
 abbrev pub content : Item → List ℕ
-content (Channel a b c) = pick (is_plain b) (a ∷ b ∷ c ∷ []) []
-content (Histogram a b c) = pick (is_plain b) (a ∷ b ∷ c ∷ []) []
+content (Channel a b c) = a ∷ b ∷ c ∷ []
+content (Histogram a b c) = a ∷ b ∷ c ∷ []
 content (HitCount a b c) = a ∷ b ∷ c ∷ []
 content (Sample v) = v ∷ []
 content (Bin b n) = b ∷ []
@@ -67,16 +65,12 @@ content (EndEvent n) = 0 ∷ []
 
 -- the item's row of the book
 abbrev pub row_for : {T : Type 0} → ItemOf T → ℕ
-row_for x = row_of (spelled x) - 1
-
--- the word after an extended header's first: "card 5, chip 4, channel 7"
-abbrev pub extended_widths : List ℕ
-extended_widths = 5 ∷ 4 ∷ 7 ∷ []
+row_for x = row_of (class_for x) - 1
 
 -- the words after the first
 abbrev pub later_words : Item → List ℕ
-later_words (Channel a b c) = pick (is_plain b) [] (pack extended_widths 0 (a ∷ b ∷ c ∷ []) ∷ [])
-later_words (Histogram a b c) = pick (is_plain b) [] (pack extended_widths 0 (a ∷ b ∷ c ∷ []) ∷ [])
+later_words (Channel a b c) = []
+later_words (Histogram a b c) = []
 later_words (HitCount a b c) = []
 later_words (Sample v) = []
 later_words (Bin b n) = long_words n
@@ -89,10 +83,10 @@ later_words (EndEvent n) = long_words n
 
 -- an item's first word
 abbrev pub first_word : Item → ℕ
-first_word x = pack (widths (spelled x)) (nth (row_for x)).prefix (content x)
+first_word x = pack (widths (class_for x)) (nth (row_for x)).prefix (content x)
 
 -- T3, back: a word of a class, with its words after it, is what its content is written as
 pub record Read (w : ℕ) (ws : List ℕ) (x : Item) : Type 0 where
   pub words : w ∷ ws ≡ words_of x
   pub fits : fits x ≡ true
-  pub class : spelled x ≡ class_of w
+  pub class : class_for x ≡ class_of w

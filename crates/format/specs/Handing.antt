@@ -1,11 +1,11 @@
 -- Copying a frame by the calls: what the questions tell a caller of each item, and what the caller hands to the writer for it (document 01,
 -- "Reading and writing items").
 -- Assumes nothing.
-use Rattle.std.specs.Prelude.{ℕ, suc, ◌+◌, ◌*◌, ◌^◌, ◌≡◌, List, [], ◌∷◌, ◌++◌, map, length, take, leb}
+use Rattle.std.specs.Prelude.{ℕ, suc, ◌+◌, ◌*◌, ◌^◌, ◌≡◌, List, [], ◌∷◌, ◌++◌, map, length, take}
 use Rattle.format.specs.Words.{pick, words, long_words, time_words}
 use Rattle.format.specs.Answers.{accepted}
 use Rattle.format.specs.Book.{text, page_range}
-use Rattle.format.specs.Items.{ItemOf, Item, Channel, Histogram, HitCount, Sample, Bin, LastCell, TimeBin, Text, StartEvent, ContinueEvent, EndEvent, class_for, spelled, Token, whole}
+use Rattle.format.specs.Items.{ItemOf, Item, Channel, Histogram, HitCount, Sample, Bin, LastCell, TimeBin, Text, StartEvent, ContinueEvent, EndEvent, class_for, Token, whole}
 use Rattle.format.specs.Rules.{Kind, same}
 use Rattle.format.specs.Frames.{Frame, start_word, encode, Legal}
 use Rattle.format.specs.Questions.{IndexedShown, shown, shown_at, text_in, text_at}
@@ -38,10 +38,10 @@ pub data Answers (s : List ℕ) : ℕ → List ItemAnswer → Type 0 where
   then : {n : ℕ} {x : ItemAnswer} {xs : List ItemAnswer} → shown_at s n ≡ accepted x.answer → text_at s n ≡ x.text → Answers s (suc n) xs → Answers s n (x ∷ xs)
 
 -- document 01's column "Content, high bits first", of an item as it is answered: each field at the bit where it begins. A text's is its n; a
--- Continue event's content and an End event's low four bits are zero; of a header whose chip is past 3 the first word is all prefix
+-- Continue event's content and an End event's low four bits are zero
 abbrev pub content_of : ItemOf ℕ → ℕ
-content_of (Channel card chip c) = pick (leb chip 3) (card * 2 ^ 9 + chip * 2 ^ 7 + c) 0
-content_of (Histogram card chip c) = pick (leb chip 3) (card * 2 ^ 9 + chip * 2 ^ 7 + c) 0
+content_of (Channel card chip c) = card * 2 ^ 9 + chip * 2 ^ 7 + c
+content_of (Histogram card chip c) = card * 2 ^ 9 + chip * 2 ^ 7 + c
 content_of (HitCount card chip hits) = card * 2 ^ 9 + chip * 2 ^ 7 + hits
 content_of (Sample v) = v
 content_of (Bin b hits) = b
@@ -53,10 +53,10 @@ content_of (ContinueEvent number) = 0
 content_of (EndEvent size) = 0
 
 -- and its column "Words after it": "count, low word first"; a text's bytes, which the other question answers, and the final zero; "timestamp in
--- 3, number in 2, low words first"; "size, low word first"; a Continue event's number likewise; an extended header's "card 5, chip 4, channel 7"
+-- 3, number in 2, low words first"; "size, low word first"; a Continue event's number likewise
 abbrev pub words_after : ItemOf ℕ → List ℕ → List ℕ
-words_after (Channel card chip c) s = pick (leb chip 3) [] ((card * 2 ^ 11 + chip * 2 ^ 7 + c) ∷ [])
-words_after (Histogram card chip c) s = pick (leb chip 3) [] ((card * 2 ^ 11 + chip * 2 ^ 7 + c) ∷ [])
+words_after (Channel card chip c) s = []
+words_after (Histogram card chip c) s = []
 words_after (HitCount card chip hits) s = []
 words_after (Sample v) s = []
 words_after (Bin b hits) s = long_words hits
@@ -69,7 +69,7 @@ words_after (EndEvent size) s = long_words size
 
 -- the words that an item has by what is told of it: the first of its class's words with the content, and those after it
 abbrev pub answer_words : ItemAnswer → List ℕ
-answer_words x = ((page_range (spelled x.answer.item)).from + content_of x.answer.item) ∷ words_after x.answer.item x.text
+answer_words x = ((page_range (class_for x.answer.item)).from + content_of x.answer.item) ∷ words_after x.answer.item x.text
 
 unfoldable pub all_answer_words : List ItemAnswer → List ℕ
 all_answer_words [] = []

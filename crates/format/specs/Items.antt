@@ -1,10 +1,10 @@
 -- Items: what they are written as, and what a word with the words behind it is read as (document 01, "The word book").
 -- Assumes nothing.
-use Rattle.std.specs.Prelude.{ℕ, zero, suc, ◌+◌, ◌-◌, ◌*◌, ◌/◌, ◌%◌, ◌<◌, ◌≡◌, ◌⊎◌, List, [], ◌∷◌, ◌++◌, Bool, true, ◌&&◌, length, take, drop, get_or, leb, ltb, eqb}
+use Rattle.std.specs.Prelude.{ℕ, zero, suc, ◌+◌, ◌-◌, ◌*◌, ◌/◌, ◌%◌, List, [], ◌∷◌, ◌++◌, Bool, true, ◌&&◌, length, take, drop, leb, ltb, eqb}
 use Rattle.std.proofs.Math.Option.{Option, none, some}
 use Rattle.std.proofs.Math.Pow.{are_bytes}
 use Rattle.format.specs.Words.{pick, words, bytes, long_of, time_of, long_words, time_words, non_zero, all_zero}
-use Rattle.format.specs.Book.{Class, channel, histogram, hit_count, sample, bin, last_cell, time_bin, data_frame, monitor_frame, command_frame, text, start_event, continue_event, end_event, frame_end, extended_channel, extended_histogram, unassigned, class_of, after, plain, assigned}
+use Rattle.format.specs.Book.{Class, channel, histogram, hit_count, sample, bin, last_cell, time_bin, data_frame, monitor_frame, command_frame, text, start_event, continue_event, end_event, frame_end, unassigned, class_of, after, assigned}
 
 -- the eleven kinds, each with its content in the book's order; T is what a text holds
 pub data ItemOf (T : Type 0) : Type 0 where
@@ -44,40 +44,14 @@ class_for (StartEvent a b c) = start_event
 class_for (ContinueEvent n) = continue_event
 class_for (EndEvent n) = end_event
 
--- the low 14 bits of a plain Channel or Histogram word and of a Hit count word: card 5, chip 2, and 7 more
+-- the low 14 bits of a Channel, Histogram or Hit count word: card 5, chip 2, and 7 more
 abbrev pub header_bits : ℕ → ℕ → ℕ → ℕ
 header_bits a b c = a * 512 + b * 128 + c
 
--- the order key of a header: card, chip, channel. It is the word after an extended header's first too: card 5, chip 4, channel 7
-abbrev pub key : ℕ → ℕ → ℕ → ℕ
-key card chip c = card * 2048 + chip * 128 + c
-
--- what comes first decides, and where it is the same, what comes then
-abbrev pub ByFirst : ℕ → ℕ → Type 0 → Type 0
-ByFirst x y then = (x < y) ⊎ ((x ≡ y) × then)
-
--- a header of these chips has one word; one of a chip above has two
-abbrev pub is_plain : ℕ → Bool
-is_plain chip = leb chip 3
-
--- the class of an item's first word: a header's spelling follows from its chip
-abbrev pub spelled : {T : Type 0} → ItemOf T → Class
-spelled (Channel a b c) = pick (is_plain b) channel extended_channel
-spelled (Histogram a b c) = pick (is_plain b) histogram extended_histogram
-spelled (HitCount a b c) = hit_count
-spelled (Sample v) = sample
-spelled (Bin b n) = bin
-spelled (LastCell a b) = last_cell
-spelled (TimeBin t) = time_bin
-spelled (Text s) = text
-spelled (StartEvent a b c) = start_event
-spelled (ContinueEvent n) = continue_event
-spelled (EndEvent n) = end_event
-
 -- the words of an item
 unfoldable pub words_of : Item → List ℕ
-words_of (Channel a b c) = pick (is_plain b) ((0xC000 + header_bits a b c) ∷ []) (0x000D ∷ key a b c ∷ [])
-words_of (Histogram a b c) = pick (is_plain b) ((0x8000 + header_bits a b c) ∷ []) (0x000E ∷ key a b c ∷ [])
+words_of (Channel a b c) = (0xC000 + header_bits a b c) ∷ []
+words_of (Histogram a b c) = (0x8000 + header_bits a b c) ∷ []
 words_of (HitCount a b c) = (0x4000 + header_bits a b c) ∷ []
 words_of (Sample v) = (0x3000 + v) ∷ []
 words_of (Bin b n) = (0x2000 + b) ∷ long_words n
@@ -90,8 +64,8 @@ words_of (EndEvent n) = 0x00E0 ∷ long_words n
 
 -- the content fits its fields; a text has at most 254 bytes, and none of them is zero
 abbrev pub fits : Item → Bool
-fits (Channel a b c) = leb a 31 && leb b 15 && leb c 127
-fits (Histogram a b c) = leb a 31 && leb b 15 && leb c 127
+fits (Channel a b c) = leb a 31 && leb b 3 && leb c 127
+fits (Histogram a b c) = leb a 31 && leb b 3 && leb c 127
 fits (HitCount a b c) = leb a 31 && leb b 3 && leb c 127
 fits (Sample v) = leb v 4095
 fits (Bin b n) = leb b 4095 && ltb n 4294967296
@@ -105,10 +79,6 @@ fits (EndEvent n) = ltb n 4294967296
 -- a text's n bytes: "n at least 1, byte n zero, earlier bytes not zero, a padding byte zero"
 abbrev pub closed : ℕ → List ℕ → Bool
 closed n s = leb 1 n && non_zero (take (n - 1) s) && all_zero (drop (n - 1) s)
-
--- the header in the word after an extended header's first; "Chip under 4 there is 9, so each channel has one spelling"
-abbrev pub extended : (ℕ → ℕ → ℕ → Item) → ℕ → Option Item
-extended header v = pick (is_plain (v / 128 % 16)) none (some (header (v / 2048 % 32) (v / 128 % 16) (v % 128)))
 
 -- the item of a word w of the class with the words ws after it; none where they are no item's
 unfoldable pub decode : Class → ℕ → List ℕ → Option Item
@@ -127,21 +97,19 @@ decode start_event w ws = some (StartEvent (w % 16) (time_of ws) (long_of (drop 
 decode continue_event w ws = pick (eqb (w % 512) 0) (some (ContinueEvent (long_of ws))) none
 decode end_event w ws = pick (eqb (w % 16) 0) (some (EndEvent (long_of ws))) none
 decode frame_end w ws = none
-decode extended_channel w ws = extended Channel (get_or ws 0 0)
-decode extended_histogram w ws = extended Histogram (get_or ws 0 0)
 decode unassigned w ws = none
 
 -- what begins at a word
 pub data Token : Type 0 where
   -- an item, whole
   whole : Item → Token
-  -- the words of a class that are no item's: a value rule is broken, or the class is no item's. The class is as the rules take it
+  -- the words of a class that are no item's: a value rule is broken, or the class is no item's
   broken : Class → Token
   -- the number of the refusal that the word earns wherever it stands: 6 or 7
   flawed : ℕ → Token
 
 abbrev pub token_for : Class → Option Item → Token
-token_for c none = broken (plain c)
+token_for c none = broken c
 token_for c (some x) = whole x
 
 -- of a word w where the words ws are left
@@ -175,3 +143,7 @@ obeys card (EndEvent n) = true
 -- and nothing is too wide for its field
 abbrev pub in_range : ℕ → Item → Bool
 in_range card x = obeys card x && fits x
+
+-- the order key of a header
+abbrev pub key : ℕ → ℕ → ℕ → ℕ
+key card chip c = card * 2048 + chip * 128 + c

@@ -6,7 +6,6 @@ pub mod Items
 pub mod Fields
 pub mod Rules
 pub mod Frames
-pub mod Before
 pub mod Questions
 pub mod Writing
 pub mod Figures

@@ -2,7 +2,7 @@
 -- Assumes nothing.
 use Rattle.std.specs.Prelude.{ℕ, zero, suc, ◌+◌, ◌*◌, List, [], ◌∷◌, ◌++◌, Bool, true, false, not, ◌&&◌, ◌||◌, length, leb, ltb, eqb}
 use Rattle.format.specs.Words.{pick}
-use Rattle.format.specs.Book.{Class, channel, histogram, hit_count, sample, bin, last_cell, time_bin, data_frame, monitor_frame, command_frame, text, start_event, continue_event, end_event, frame_end, extended_channel, extended_histogram, unassigned, row_of}
+use Rattle.format.specs.Book.{Class, channel, histogram, hit_count, sample, bin, last_cell, time_bin, data_frame, monitor_frame, command_frame, text, start_event, continue_event, end_event, frame_end, unassigned, row_of}
 use Rattle.format.specs.Items.{Item, Channel, Histogram, HitCount, Sample, Bin, LastCell, TimeBin, Text, StartEvent, ContinueEvent, EndEvent, class_for, words_of, in_range, key, Token, whole, broken, flawed}
 
 pub data Kind : Type 0 where
@@ -148,8 +148,6 @@ inside_after start_event = inside
 inside_after continue_event = inside
 inside_after end_event = inside
 inside_after frame_end = inside
-inside_after extended_channel = inside
-inside_after extended_histogram = inside
 inside_after unassigned = inside
 
 -- outside an event: before any item, or after an event
@@ -212,7 +210,7 @@ value card p x = in_range card x && sized p x
 -- ---- order
 
 -- "none after 511. A later Time bin in a channel is at least 2 above the last sample's time"; it is later where a Sample stands since the Channel.
--- Channel headers in one event "rise by card, chip, channel, extended or not", so do Histogram headers in a frame, and bin numbers in a histogram
+-- "Channel headers in one event rise by their 14-bit content, so do Histogram headers in a frame, and bin numbers in a histogram"
 abbrev pub order : List Item → Item → Bool
 order p (Channel a b c) = above (key a b c) (gather channel_key (since start_event p))
 order p (Histogram a b c) = above (key a b c) (gather histogram_key p)

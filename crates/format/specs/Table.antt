@@ -1,5 +1,4 @@
--- The figures of document 01, cases 1 to 9 and 12, as one table: what is asked, and beside it the answer that the document gives; behind them those of
--- document 02, request 5, worked out by hand.
+-- The figures of document 01, cases 1 to 9 and 12, as one table: what is asked, and beside it the answer that the document gives.
 -- Assumes nothing.
 use Rattle.std.specs.Prelude.{ℕ, List, [], ◌∷◌, map, get_or, replicate}
 use Rattle.std.proofs.Math.Option.{some}
@@ -10,7 +9,7 @@ use Rattle.format.specs.Items.{ItemOf, Channel, Histogram, Sample, Bin, TimeBin,
 use Rattle.format.specs.Rules.{data_kind, monitor_kind}
 use Rattle.format.specs.Frames.{Frame, verdict}
 use Rattle.format.specs.Questions.{IndexedShown, shown_at, Event, event_at, samples_at, samples_left, counts_at, counts_left}
-use Rattle.format.specs.Figures.{empty, pulse, pedestal, extended_pulse, extended_pedestal, two_headers}
+use Rattle.format.specs.Figures.{empty, pulse, pedestal}
 
 pub data Question : Type 0 where
   -- of some bytes: what frame are they
@@ -103,31 +102,4 @@ table =
     -- 12. "Expecting 255, 00FF: lost 0, expect 0. Then 0000: lost 0, expect 1."
     ∷ row (following (follower.expecting 255) (0x00FF ∷ 0x0000 ∷ []))
     (followed (follower.accepted 0 (follower.expecting 0) ∷ follower.accepted 0 (follower.expecting 1) ∷ []))
-    -- "Word 000D becomes Extended channel .., followed by one word: card 5, chip 4, channel 7"
-    ∷ row (reading (extended_pulse 0x2E0A))
-    (frame
-    (accepted
-    (record {
-      kind = data_kind;
-      card = 5;
-      sequence = 0x0100;
-      items = StartEvent 1 1000 7 ∷ Channel 5 12 10 ∷ TimeBin 3 ∷ Sample 250 ∷ Sample 251 ∷ EndEvent 28 ∷ [];
-    })))
-    ∷ row (ordinal (extended_pulse 0x2E0A) 1) (at 9 (Channel 5 12 10) 11)
-    ∷ row (ordinal (extended_pulse 0x2E0A) 2) (at 11 (TimeBin 3) 12)
-    ∷ row (samples (extended_pulse 0x2E0A) 0 12 10 (2 ∷ 3 ∷ 4 ∷ 5 ∷ [])) (standing (accepted (0xFFFF ∷ 250 ∷ 251 ∷ 0xFFFF ∷ [])))
-    ∷ row (samples (extended_pulse 0x2E0A) 0 0 10 (3 ∷ [])) (standing (refused 13 0))
-    ∷ row (samples (extended_pulse 0x2E0A) 0 16 10 (3 ∷ [])) (standing (refused 13 0))
-    -- "and 000E Extended histogram"
-    ∷ row (reading (extended_pedestal 0x2FCE))
-    (frame (accepted (record { kind = monitor_kind; card = 5; sequence = 0; items = Histogram 5 15 78 ∷ Bin 256 70000 ∷ [] })))
-    ∷ row (ordinal (extended_pedestal 0x2FCE) 0) (at 3 (Histogram 5 15 78) 5)
-    ∷ row (counts (extended_pedestal 0x2FCE) 15 78 (255 ∷ 256 ∷ 257 ∷ [])) (standing (accepted (0 ∷ 70000 ∷ 0 ∷ [])))
-    -- "Chip under 4 there is 9": chip 3
-    ∷ row (reading (extended_pulse 0x298A)) (frame (refused 9 9))
-    ∷ row (reading (extended_pedestal 0x29CE)) (frame (refused 9 3))
-    -- "headers rise by card, chip, channel, extended or not"
-    ∷ row (reading (two_headers 0x8B80 0x000E 0x2A00))
-    (frame (accepted (record { kind = monitor_kind; card = 5; sequence = 0; items = Histogram 5 3 0 ∷ Histogram 5 4 0 ∷ [] })))
-    ∷ row (reading (two_headers 0x000E 0x2A00 0x8B80)) (frame (refused 10 5))
     ∷ []

@@ -2,7 +2,7 @@
 -- 01, "Shape of a frame"). That the two say the same is stated in proofs/front/Tree.antt.
 -- Assumes nothing.
 use Rattle.std.specs.Prelude.{ℕ, suc, ◌+◌, ◌*◌, ◌^◌, ◌<◌, ◌≤◌, ◌≡◌, List, [], ◌∷◌, length}
-use Rattle.format.specs.Items.{Item, Channel, Histogram, HitCount, Sample, Bin, LastCell, TimeBin, Text, StartEvent, ContinueEvent, EndEvent, key}
+use Rattle.format.specs.Items.{Item, Channel, Histogram, HitCount, Sample, Bin, LastCell, TimeBin, Text, StartEvent, ContinueEvent, EndEvent, header_bits}
 use Rattle.format.specs.Rules.{Kind, data_kind, monitor_kind, command_kind}
 use Rattle.format.specs.Frames.{all_words}
 
@@ -119,12 +119,12 @@ AllSpaced (hits a b c ∷ ps) = AllSpaced ps
 AllSpaced (cell a b ∷ ps) = AllSpaced ps
 AllSpaced (pulse a b c r rs ∷ ps) = Spaced 0 (r ∷ rs) × AllSpaced ps
 
--- an event's Channel headers, "by card, chip, channel, extended or not"
+-- the 14-bit contents of an event's Channel headers
 unfoldable pub channels : List Part → List ℕ
 channels [] = []
 channels (hits a b c ∷ ps) = channels ps
 channels (cell a b ∷ ps) = channels ps
-channels (pulse a b c r rs ∷ ps) = key a b c ∷ channels ps
+channels (pulse a b c r rs ∷ ps) = header_bits a b c ∷ channels ps
 
 -- the bytes of an event, "from its Start event word to the end of its End event item"
 abbrev pub event_bytes : Event → ℕ
@@ -155,10 +155,10 @@ unfoldable pub bin_numbers : List Bar → List ℕ
 bin_numbers [] = []
 bin_numbers (bar b n ∷ bs) = b ∷ bin_numbers bs
 
--- and the Histogram headers
+-- the 14-bit contents of the Histogram headers
 unfoldable pub histograms : List Pedestal → List ℕ
 histograms [] = []
-histograms (pedestal a b c bs ∷ hs) = key a b c ∷ histograms hs
+histograms (pedestal a b c bs ∷ hs) = header_bits a b c ∷ histograms hs
 
 unfoldable pub AllBars : List Pedestal → Type 0
 AllBars [] = Unit {0}
@@ -175,11 +175,11 @@ Letters [] = Unit {0}
 Letters (b ∷ s) = (1 ≤ b) × (b ≤ 255) × Letters s
 
 -- "Card equals the frame's card; channel at most 78; hit count at most 79; bin count at least 1"; a text has at most 254 bytes before its zero, so
--- that n is at most 255; and no content is wider than its field: card 5 bits, chip 4 in a header and 2 elsewhere, sample and bin 12, cell and time 9, type 4, timestamp 48,
+-- that n is at most 255; and no content is wider than its field: card 5 bits, chip 2, sample and bin 12, cell and time 9, type 4, timestamp 48,
 -- count, number and size 32
 abbrev pub Limits : ℕ → Item → Type 0
-Limits card (Channel a b c) = (a ≡ card) × (a ≤ 31) × (b ≤ 15) × (c ≤ 78)
-Limits card (Histogram a b c) = (a ≡ card) × (a ≤ 31) × (b ≤ 15) × (c ≤ 78)
+Limits card (Channel a b c) = (a ≡ card) × (a ≤ 31) × (b ≤ 3) × (c ≤ 78)
+Limits card (Histogram a b c) = (a ≡ card) × (a ≤ 31) × (b ≤ 3) × (c ≤ 78)
 Limits card (HitCount a b n) = (a ≡ card) × (a ≤ 31) × (b ≤ 3) × (n ≤ 79)
 Limits card (Sample v) = v ≤ 4095
 Limits card (Bin b n) = (b ≤ 4095) × (1 ≤ n) × (n < 2 ^ 32)

@@ -12,16 +12,16 @@ use Rattle.format.proofs.book.PrefixLaws.{and_left, and_right, and_both}
 use Rattle.format.proofs.items.WordLaws.{below_drop, below_take, long_fits}
 use Rattle.format.proofs.items.TextLaws.{bytes_are}
 use Rattle.format.proofs.items.PartLaws.{payload_bytes}
-use Rattle.format.specs.Words.{Bytes, pick, words, bytes, word_at, long_at, time_at, non_zero, all_zero}
-use Rattle.format.specs.Book.{Class, channel, histogram, hit_count, sample, bin, last_cell, time_bin, data_frame, monitor_frame, command_frame, text, start_event, continue_event, end_event, frame_end, extended_channel, extended_histogram, unassigned, class_of, after, assigned, text_words}
-use Rattle.format.specs.Items.{Item, Channel, Histogram, HitCount, Sample, Bin, LastCell, TimeBin, Text, StartEvent, ContinueEvent, EndEvent, is_plain, in_range, closed, decode, Token, whole, broken, flawed, token_for}
+use Rattle.format.specs.Words.{Bytes, words, bytes, word_at, long_at, time_at, non_zero, all_zero}
+use Rattle.format.specs.Book.{Class, channel, histogram, hit_count, sample, bin, last_cell, time_bin, data_frame, monitor_frame, command_frame, text, start_event, continue_event, end_event, frame_end, unassigned, class_of, after, assigned, text_words}
+use Rattle.format.specs.Items.{Item, Channel, Histogram, HitCount, Sample, Bin, LastCell, TimeBin, Text, StartEvent, ContinueEvent, EndEvent, in_range, closed, decode, Token, whole, broken, flawed, token_for}
 use Rattle.format.specs.Rules.{ReaderMode, fresh, outside, inside, after_channel, after_time, after_sample, unheaded, headed, commands, allowed, among, bad}
 use Rattle.format.specs.Steps.{ReaderState, place_by, marks_end, check_by, Stepped, stopped, marked, step_of}
-use Rattle.format.proofs.reader.TurnLaws.{Stands, step_at, stop_at, alone, no_class, not_there, bin_there, start_there, continue_there, continue_broken, end_there, end_broken, header_there, header_broken, text_there, text_broken}
+use Rattle.format.proofs.reader.TurnLaws.{Stands, step_at, stop_at, alone, no_class, not_there, bin_there, start_there, continue_there, continue_broken, end_there, end_broken, text_there, text_broken}
 use Rattle.cursor.specs.Promises.{TextClosed}
 use Rattle.cursor.proofs.TextLoops.{closed_there}
 use Rattle.rules.specs.Views.{tested, continue_tested, end_tested, text_tested}
-use Rattle.book.specs.Fields.{channel_of, histogram_of, extended_channel_of, extended_histogram_of, hits_of, cell_of, channel_item, histogram_item, hits_item, sample_item, cell_item, time_item}
+use Rattle.book.specs.Fields.{channel_of, histogram_of, hits_of, cell_of, channel_item, histogram_item, hits_item, sample_item, cell_item, time_item}
 use Rattle.book.specs.declared.items.Channel as ch
 use Rattle.book.specs.declared.items.Histogram as hi
 use Rattle.book.specs.declared.items.HitCount as hc
@@ -213,35 +213,6 @@ module _ (card : ℕ) (s : List ℕ) (last at w : ℕ) (st : ReaderState) (e : w
             q ∙ (rw z (end_bad size))
             ∙ step_at card s last at st (broken end_event) (at + 3)
             (end_broken s last at wide (k ∙ ap class_of e) l (λ i. eqb-false low 0 z (f ∙ ap (λ (v : ℕ). v % 16) e ∙ i)))
-
-    -- an extended header's fields are in the word after its first, and its chip is past the plain ones, or is not
-    pub extended_channel_step : (r : Stepped) (x : ch.Channel) → extended_channel ≡ class_of w → at + 2 ≤ last → x ≡ extended_channel_of (word_at s (at + 1))
-        → r ≡ marked (at + 2) (check_by card 0 st (pick (is_plain x.chip) (broken channel) (whole (channel_item x)))) → r ≡ step_of card s last at st
-    unfolding decode check_by
-    extended_channel_step r x k l f q = go (is_plain y.chip) refl (q ∙ ap (λ (x : ch.Channel). marked (at + 2) (check_by card 0 st (pick (is_plain x.chip) (broken channel) (whole (channel_item x))))) f)
-      where
-        y : ch.Channel
-        y = extended_channel_of (word_at s (at + 1))
-
-        go : (b : Bool) → is_plain y.chip ≡ b → r ≡ marked (at + 2) (check_by card 0 st (pick b (broken channel) (whole (channel_item y)))) → r ≡ step_of card s last at st
-        go true i q =
-            q ∙ step_at card s last at st (broken channel) (at + 2) (header_broken s last at wide Channel extended_channel (k ∙ ap class_of e) refl refl (λ ws. refl) l i)
-        go false i q =
-            q ∙ step_at card s last at st (whole (channel_item y)) (at + 2) (header_there s last at wide Channel extended_channel (k ∙ ap class_of e) refl refl (λ ws. refl) l i)
-
-    pub extended_histogram_step : (r : Stepped) (x : hi.Histogram) → extended_histogram ≡ class_of w → at + 2 ≤ last → x ≡ extended_histogram_of (word_at s (at + 1))
-        → r ≡ marked (at + 2) (check_by card 0 st (pick (is_plain x.chip) (broken histogram) (whole (histogram_item x)))) → r ≡ step_of card s last at st
-    unfolding decode check_by
-    extended_histogram_step r x k l f q = go (is_plain y.chip) refl (q ∙ ap (λ (x : hi.Histogram). marked (at + 2) (check_by card 0 st (pick (is_plain x.chip) (broken histogram) (whole (histogram_item x))))) f)
-      where
-        y : hi.Histogram
-        y = extended_histogram_of (word_at s (at + 1))
-
-        go : (b : Bool) → is_plain y.chip ≡ b → r ≡ marked (at + 2) (check_by card 0 st (pick b (broken histogram) (whole (histogram_item y)))) → r ≡ step_of card s last at st
-        go true i q =
-            q ∙ step_at card s last at st (broken histogram) (at + 2) (header_broken s last at wide Histogram extended_histogram (k ∙ ap class_of e) refl refl (λ ws. refl) l i)
-        go false i q =
-            q ∙ step_at card s last at st (whole (histogram_item y)) (at + 2) (header_there s last at wide Histogram extended_histogram (k ∙ ap class_of e) refl refl (λ ws. refl) l i)
 
     -- a text that is closed has at most 254 bytes, none of them zero
     letters : (n : ℕ) (b : List ℕ) → n < 256 → Bytes b → closed n b ≡ true → in_range card (Text (take (n - 1) b)) && true ≡ true

@@ -19,8 +19,8 @@ use book::refusal::Refusal;
 use cursor::texts::is_closed;
 use rules::state::{Kind, State};
 use rules::steps::{
-    Step, bin, channel, continue_event, end_event, extended_channel, extended_histogram, histogram,
-    hit_count, last_cell, sample, start_event, text, time_bin,
+    Step, bin, channel, continue_event, end_event, histogram, hit_count, last_cell, sample,
+    start_event, text, time_bin,
 };
 
 // A Bin's number in its word, its count in the two words after it.
@@ -80,30 +80,6 @@ fn end_at(s: &[u8], last: usize, at: usize, w: u16, st: State) -> Step
     end_event(at, st, EndEvent { size }, EndEvent::low_bits(w), at + 3)
 }
 
-// A Channel's card, chip and channel in the word after its extended one.
-fn extended_channel_at(s: &[u8], last: usize, at: usize, w: u16, card: u16, st: State) -> Step
-    requires { (at < last) × (2 * last ≤ length s.now) × (w ≡ word_at s.now at) × (book.extended_channel ≡ book.class_of w) }
-    ensures { view_step result ≡ step_of card s.now last at (view_state st) }
-{
-    if last < at + 2 {
-        return Step::Stopped(Refusal::CUT);
-    }
-    let x = Channel::of_extended(word(s, at + 1));
-    extended_channel(card, st, x, at + 2)
-}
-
-// A Histogram's card, chip and channel in the word after its extended one.
-fn extended_histogram_at(s: &[u8], last: usize, at: usize, w: u16, card: u16, st: State) -> Step
-    requires { (at < last) × (2 * last ≤ length s.now) × (w ≡ word_at s.now at) × (book.extended_histogram ≡ book.class_of w) }
-    ensures { view_step result ≡ step_of card s.now last at (view_state st) }
-{
-    if last < at + 2 {
-        return Step::Stopped(Refusal::CUT);
-    }
-    let x = Histogram::of_extended(word(s, at + 1));
-    extended_histogram(card, st, x, at + 2)
-}
-
 // A text's bytes in the words after its word.
 fn text_at(s: &[u8], last: usize, at: usize, w: u16, st: State) -> Step
     requires { (at < last) × (2 * last ≤ length s.now) × (w ≡ word_at s.now at) × (book.text ≡ book.class_of w) }
@@ -145,8 +121,6 @@ fn step(s: &[u8], rows: &[u8; 256], last: usize, at: usize, card: u16, st: State
         Class::FrameEnd => Step::Stopped(Refusal::PLACE),
         Class::Unassigned => Step::Stopped(Refusal::CLASS),
         Class::ContinueEvent => continue_at(s, last, at, w, st),
-        Class::ExtendedChannel => extended_channel_at(s, last, at, w, card, st),
-        Class::ExtendedHistogram => extended_histogram_at(s, last, at, w, card, st),
     }
 }
 

@@ -17,13 +17,13 @@ use Rattle.format.specs.Cursor.{standing_at, shown_by, items_from, On}
 use Rattle.format.specs.Questions.{shown, until, past_at, is_channel}
 use Rattle.format.proofs.book.PrefixLaws.{and_left, and_right}
 use Rattle.format.proofs.items.WordLaws.{word_below}
-use Rattle.format.proofs.book.BookLaws.{in_range}
+use Rattle.format.proofs.book.BookLaws.{ranged, in_range}
 use Rattle.format.proofs.reader.CursorLaws.{Turn, channel_turn, answered, run_out}
 use Rattle.book.specs.Fields.{channel_of}
 use Rattle.book.specs.declared.items.Channel as ch
 use Rattle.questions.specs.Sought.{Amid, ends_event, is_header, ChannelAt}
 use Rattle.questions.proofs.PastLaws.{past_hit, past_miss, until_other, until_end}
-use Rattle.questions.proofs.Turns.{ends_shown, never_in_data, amid_next, placed, one_turn, no_channel}
+use Rattle.questions.proofs.Turns.{ends_shown, never_in_data, amid_next, placed, one_turn}
 
 pub record Seeking (s : List ℕ) (from chip c at : ℕ) : Type 0 where
   pub amid : Amid s data_kind at
@@ -137,7 +137,7 @@ module _ (s : List ℕ) (from chip c at : ℕ) (k : Seeking s from chip c at) wh
         let b = ltb-true w 0xC000 (and_right (leb 0x0E00 w) (ltb w 0xC000) e) in
         let o = one_turn s at k.amid h w i a in
         past_item o.x (at + 1) o.turn o.plain.no_end
-        (other_class chip c o.x (no_channel o.x (word_at s at) o.turn.class (omega arith) (omega arith)))
+        (other_class chip c o.x (λ f. let (u, v) = ranged (word_at s at) channel (sym (f ∙ o.turn.class)) refl in omega arith))
 
   -- ---- an item that the cursor answers
 

@@ -9,15 +9,16 @@ use native.Mathlib.Omega.{arith}
 use lib.ListN.{length}
 use Rattle.format.specs.Words.{pick, word_at, long_at}
 use Rattle.format.specs.Book.{Class, start_event, continue_event, end_event, class_of}
-use Rattle.format.specs.Items.{ItemOf, Item, EndEvent, class_for, spelled, words_of}
+use Rattle.format.specs.Items.{ItemOf, Item, EndEvent, class_for, words_of}
 use Rattle.format.specs.Rules.{data_kind, same, gather}
 use Rattle.format.specs.Frames.{last_of}
 use Rattle.format.specs.Cursor.{standing_at, shown_by, items_from, On}
 use Rattle.format.specs.Questions.{Opened, opens, end_size, head_of, events, pick_nth}
+use Rattle.format.proofs.tree.ClassLaws.{same_class}
 use Rattle.format.proofs.rules.SoundLaws.{Opening, starts, continues, Seen, opening, ends, other, seen}
 use Rattle.format.proofs.reader.CursorLaws.{Turn, start_turn, continue_turn, end_turn, answered, run_out}
 use Rattle.questions.specs.Sought.{Amid, opens_event, ends_event, started_at, continued_at, opened_at, inside_at, EventAt}
-use Rattle.questions.proofs.Turns.{opens_shown, ends_shown, amid_next, one_turn, end_spelled}
+use Rattle.questions.proofs.Turns.{opens_shown, ends_shown, amid_next, one_turn}
 
 -- ---- the search for event e
 
@@ -89,7 +90,7 @@ module _ (s : List ℕ) (e left at : ℕ) (k : Seeking s e left at) where
         where
           go : (x : Item) → Turn s at g x n → at < last_of s → Opening x → Opens
           go x t h (starts j ts m q) =
-              let c : start_event ≡ class_of (word_at s at) = ap (λ (y : Item). spelled y) (sym q) ∙ t.class in
+              let c : start_event ≡ class_of (word_at s at) = ap (λ (y : Item). class_for y) (sym q) ∙ t.class in
               let u = start_turn s at g h c in
               let d : same (class_of (word_at s at)) continue_event ≡ false = ap (λ (d : Class). same d continue_event) (sym c) in
               let l : n ≡ at + 6 = sym t.follow ∙ u.follow in
@@ -101,7 +102,7 @@ module _ (s : List ℕ) (e left at : ℕ) (k : Seeking s e left at) where
                 behind = subst (Amid s data_kind) (sym l) (amid_next s data_kind at k.amid _ (at + 6) u);
               }
           go x t h (continues m q) =
-              let c : continue_event ≡ class_of (word_at s at) = ap (λ (y : Item). spelled y) (sym q) ∙ t.class in
+              let c : continue_event ≡ class_of (word_at s at) = ap (λ (y : Item). class_for y) (sym q) ∙ t.class in
               let u = continue_turn s at g h c in
               let d : same (class_of (word_at s at)) continue_event ≡ true = ap (λ (d : Class). same d continue_event) (sym c) in
               let l : n ≡ at + 3 = sym t.follow ∙ u.follow in
@@ -180,7 +181,7 @@ module _ (s : List ℕ) (from at : ℕ) (k : Sizing s from at) where
     pub sizing_found : ends_event z ≡ true → (m : ℕ) → m ≡ long_at s (at + 1) → some m ≡ head_of (gather end_size (items_from s from))
     sizing_found f m e =
         let (x, i, t) = answered s at k.amid.on z n (sym r) in
-        let c : end_event ≡ class_of (word_at s at) = end_spelled x (ends_shown x z i ∙ f) ∙ t.class in
+        let c : end_event ≡ class_of (word_at s at) = same_class end_event (class_for x) (ends_shown x z i ∙ f) ∙ t.class in
         let u = end_turn s at k.amid.on (let a = t.further in let b = t.within in omega arith) c in
         ap some e ∙ sym (ap (λ (xs : List Item). head_of (gather end_size xs)) u.split ∙ its_size _ _) ∙ k.still
 

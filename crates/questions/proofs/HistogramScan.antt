@@ -6,7 +6,7 @@ use mathlib.Core.List.{List, [], ◌∷◌}
 use mathlib.Core.Bool.{Bool, true, false, ◌&&◌, true≢false}
 use mathlib.Core.Option.{none, some}
 use lib.Dec.{leb, ltb, eqb}
-use borrow.Author.Tests.{leb-true, ltb-true}
+use borrow.Author.Tests.{ltb-true}
 use Rattle.format.specs.Words.{word_at}
 use Rattle.format.specs.Book.{channel}
 use Rattle.format.specs.Items.{ItemOf, Item, Channel, Histogram, HitCount, Sample, Bin, LastCell, TimeBin, Text, StartEvent, ContinueEvent, EndEvent, class_for}
@@ -14,7 +14,7 @@ use Rattle.format.specs.Rules.{monitor_kind, place}
 use Rattle.format.specs.Frames.{earlier_then, last_of}
 use Rattle.format.specs.Cursor.{standing_at, shown_by, items_from, On}
 use Rattle.format.specs.Questions.{shown, past_at, is_histogram}
-use Rattle.format.proofs.book.PrefixLaws.{and_left, and_right}
+use Rattle.format.proofs.book.PrefixLaws.{and_right}
 use Rattle.format.proofs.rules.SoundLaws.{monitor_place}
 use Rattle.format.proofs.reader.CursorLaws.{Turn, histogram_turn, bin_turn, answered, run_out}
 use Rattle.book.specs.Fields.{histogram_of}
@@ -79,7 +79,7 @@ module _ (s : List ℕ) (chip c at : ℕ) (k : Seeking s chip c at) where
 
     pub seeking_bin : leb 0x2000 w && ltb w 0x8000 ≡ true → Seeking s chip c (at + 3)
     seeking_bin e =
-        past_item _ (at + 3) (bin_turn s at g h (bin_word s at k.amid h w i (leb-true 0x2000 w (and_left (leb 0x2000 w) (ltb w 0x8000) e)) (ltb-true w 0x8000 (and_right (leb 0x2000 w) (ltb w 0x8000) e)))) refl
+        past_item _ (at + 3) (bin_turn s at g h (bin_word s at k.amid h w i (ltb-true w 0x8000 (and_right (leb 0x2000 w) (ltb w 0x8000) e)))) refl
 
   -- ---- an item that the cursor answers
 

@@ -9,16 +9,15 @@ use mathlib.Core.Option.{none, some}
 use native.Mathlib.Omega.{arith}
 use lib.ListN.{length}
 use Rattle.format.specs.Words.{pick, word_at}
-use Rattle.format.specs.Book.{Class, channel, histogram, hit_count, sample, bin, last_cell, time_bin, data_frame, monitor_frame, command_frame, text, start_event, continue_event, end_event, frame_end, extended_channel, extended_histogram, unassigned, class_of}
-use Rattle.format.specs.Items.{ItemOf, Item, Channel, Histogram, HitCount, Sample, Bin, LastCell, TimeBin, Text, StartEvent, ContinueEvent, EndEvent, class_for, is_plain, spelled, words_of}
+use Rattle.format.specs.Book.{Class, channel, histogram, hit_count, sample, bin, last_cell, time_bin, data_frame, monitor_frame, command_frame, text, start_event, continue_event, end_event, frame_end, unassigned, class_of}
+use Rattle.format.specs.Items.{ItemOf, Item, Channel, Histogram, HitCount, Sample, Bin, LastCell, TimeBin, Text, StartEvent, ContinueEvent, EndEvent, class_for, words_of}
 use Rattle.format.specs.Rules.{Kind, data_kind, monitor_kind, same, latest, in_event, inside_after, between_events, fresh, outside, inside, after_channel, after_time, after_sample, allowed, among, place}
 use Rattle.format.specs.Frames.{Frame, earlier_then, last_of}
 use Rattle.format.specs.Steps.{next_at}
 use Rattle.format.specs.Cursor.{standing_at, shown_by, On}
 use Rattle.format.specs.Questions.{shown}
 use Rattle.format.proofs.book.BookLaws.{ranged}
-use Rattle.format.proofs.items.WordLaws.{pick_elim}
-use Rattle.format.proofs.items.HeaderLaws.{channel_long}
+use Rattle.format.proofs.tree.ClassLaws.{same_class}
 use Rattle.format.proofs.rules.SoundLaws.{Plain, starts, continues, Seen, opening, ends, other, seen, monitor_place}
 use Rattle.format.proofs.reader.CursorLaws.{Turn, turn, on_range, shown_class, answered, nothing_answered}
 use Rattle.questions.specs.Sought.{Amid, opens_event, ends_event}
@@ -37,20 +36,6 @@ told_start (Text n) = refl
 told_start (StartEvent t ts n) = refl
 told_start (ContinueEvent n) = refl
 told_start (EndEvent n) = refl
-
--- what ends an event is an End event, and so is its word
-pub end_spelled : (x : Item) → same end_event (class_for x) ≡ true → end_event ≡ spelled x
-end_spelled (Channel a b c) e = absurd (true≢false (sym e))
-end_spelled (Histogram a b c) e = absurd (true≢false (sym e))
-end_spelled (HitCount a b c) e = absurd (true≢false (sym e))
-end_spelled (Sample v) e = absurd (true≢false (sym e))
-end_spelled (Bin b n) e = absurd (true≢false (sym e))
-end_spelled (LastCell a b) e = absurd (true≢false (sym e))
-end_spelled (TimeBin t) e = absurd (true≢false (sym e))
-end_spelled (Text t) e = absurd (true≢false (sym e))
-end_spelled (StartEvent t ts n) e = absurd (true≢false (sym e))
-end_spelled (ContinueEvent n) e = absurd (true≢false (sym e))
-end_spelled (EndEvent n) e = refl
 
 told_end : (z : ItemOf ℕ) → same end_event (class_for z) ≡ ends_event z
 told_end (Channel a b c) = refl
@@ -92,8 +77,6 @@ module _ (d : Class) (i : among d (allowed inside) ≡ false) (c : among d (allo
   never_within continue_event = i
   never_within end_event = i
   never_within frame_end = i
-  never_within extended_channel = i
-  never_within extended_histogram = i
   never_within unassigned = i
 
   pub never_in_data : among d (allowed outside) ≡ false → among d (allowed fresh) ≡ false → (p : List Item) → place data_kind p d ≡ true → ⊥
@@ -124,30 +107,6 @@ module _ (s : List ℕ) (kind : Kind) (at : ℕ) (a : Amid s kind at) where
   pub placed : (x : Item) (n : ℕ) → Turn s at a.on x n → place kind (earlier_then [] a.on.before) (class_for x) ≡ true
   placed x n t = ap (λ (k : Kind). place k (earlier_then [] a.on.before) (class_for x)) (sym a.kind_is) ∙ t.allowed.placed
 
--- ---- a header's spelling, by the word at which it stands
-
--- from a Time bin's first word on it is plain
-plain_channel : (b v : ℕ) → pick (is_plain b) channel extended_channel ≡ class_of v → 0x0E00 ≤ v → is_plain b ≡ true
-plain_channel b v e l = go (is_plain b) refl
-  where
-    go : (p : Bool) → is_plain b ≡ p → is_plain b ≡ true
-    go true i = i
-    go false i = let (p, q) = ranged v extended_channel (sym e ∙ rw i) refl in absurd (omega arith)
-
--- and below the plain Channel's words no Channel stands then
-pub no_channel : (x : Item) (v : ℕ) → spelled x ≡ class_of v → 0x0E00 ≤ v → v < 0xC000 → channel ≡ class_for x → ⊥
-no_channel (Channel a b c) v e l h f = let (p, q) = ranged v channel (sym e ∙ rw (plain_channel b v e l)) refl in omega arith
-no_channel (Histogram a b c) v e l h f = true≢false (sym (ap (same histogram) f))
-no_channel (HitCount a b c) v e l h f = true≢false (sym (ap (same hit_count) f))
-no_channel (Sample n) v e l h f = true≢false (sym (ap (same sample) f))
-no_channel (Bin b n) v e l h f = true≢false (sym (ap (same bin) f))
-no_channel (LastCell a b) v e l h f = true≢false (sym (ap (same last_cell) f))
-no_channel (TimeBin t) v e l h f = true≢false (sym (ap (same time_bin) f))
-no_channel (Text t) v e l h f = true≢false (sym (ap (same text) f))
-no_channel (StartEvent t ts n) v e l h f = true≢false (sym (ap (same start_event) f))
-no_channel (ContinueEvent n) v e l h f = true≢false (sym (ap (same continue_event) f))
-no_channel (EndEvent n) v e l h f = true≢false (sym (ap (same end_event) f))
-
 -- ---- a word of a data frame
 
 -- an item of one word that neither starts nor ends an event
@@ -173,8 +132,7 @@ module _ (s : List ℕ) (at : ℕ) (a : Amid s data_kind at) (h : at < last_of s
       no x c k t f = absurd (f (earlier_then [] a.on.before) (ap (place data_kind (earlier_then [] a.on.before)) (sym k) ∙ placed s data_kind at a x (next_at s at) t))
 
       go : (x : Item) → Turn s at a.on x (next_at s at) → One s at a.on
-      go (Channel b c d) t =
-          one (Channel b c d) refl refl refl (channel_long b c d ∙ ap (λ (p : Bool). pick p 1 2) (plain_channel c (word_at s at) t.class (omega arith))) t
+      go (Channel b c d) t = one (Channel b c d) refl refl refl refl t
       go (Histogram b c d) t = no (Histogram b c d) histogram refl t (never_in_data histogram refl refl refl refl refl refl)
       go (HitCount b c d) t = one (HitCount b c d) refl refl refl refl t
       go (Sample v) t = one (Sample v) refl refl refl refl t
@@ -190,42 +148,33 @@ module _ (s : List ℕ) (at : ℕ) (a : Amid s data_kind at) (h : at < last_of s
 
 data Which (c : Class) : Type 0 where
   header : c ≡ histogram → Which c
-  extended : c ≡ extended_histogram → Which c
   counted : c ≡ bin → Which c
 
-which : (x : Item) → same (class_for x) histogram || same (class_for x) bin ≡ true → Which (spelled x)
-which (Channel a b c) e = absurd (true≢false (sym e))
-which (Histogram a b c) e = pick_elim Which (is_plain b) (λ i. header refl) (λ i. extended refl)
-which (HitCount a b c) e = absurd (true≢false (sym e))
-which (Sample v) e = absurd (true≢false (sym e))
-which (Bin b n) e = counted refl
-which (LastCell a b) e = absurd (true≢false (sym e))
-which (TimeBin t) e = absurd (true≢false (sym e))
-which (Text t) e = absurd (true≢false (sym e))
-which (StartEvent t ts n) e = absurd (true≢false (sym e))
-which (ContinueEvent n) e = absurd (true≢false (sym e))
-which (EndEvent n) e = absurd (true≢false (sym e))
+which : (c : Class) → same c histogram || same c bin ≡ true → Which c
+which c e = go (same c histogram) refl
+  where
+    go : (b : Bool) → same c histogram ≡ b → Which c
+    go true f = header (same_class c histogram f)
+    go false f = counted (same_class c bin (ap (λ (b : Bool). b || same c bin) (sym f) ∙ e))
 
 module _ (s : List ℕ) (at : ℕ) (a : Amid s monitor_kind at) (h : at < last_of s) (w : ℕ) (e : w ≡ word_at s at) where
   kinds : Which (class_of (word_at s at))
   kinds =
       let (x, t) = turn s at a.on h in
-      subst Which t.class (which x (monitor_place (earlier_then [] a.on.before) (class_for x) (placed s monitor_kind at a x (next_at s at) t)))
+      subst Which t.class (which (class_for x) (monitor_place (earlier_then [] a.on.before) (class_for x) (placed s monitor_kind at a x (next_at s at) t)))
 
   pub header_word : 0x8000 ≤ w → histogram ≡ class_of (word_at s at)
   header_word l = go kinds
     where
       go : Which (class_of (word_at s at)) → histogram ≡ class_of (word_at s at)
       go (header k) = sym k
-      go (extended k) = let (i, j) = ranged (word_at s at) extended_histogram k refl in absurd (omega arith)
       go (counted k) = let (i, j) = ranged (word_at s at) bin k refl in absurd (omega arith)
 
-  pub bin_word : 0x2000 ≤ w → w < 0x8000 → bin ≡ class_of (word_at s at)
-  bin_word m l = go kinds
+  pub bin_word : w < 0x8000 → bin ≡ class_of (word_at s at)
+  bin_word l = go kinds
     where
       go : Which (class_of (word_at s at)) → bin ≡ class_of (word_at s at)
       go (header k) = let (i, j) = ranged (word_at s at) histogram k refl in absurd (omega arith)
-      go (extended k) = let (i, j) = ranged (word_at s at) extended_histogram k refl in absurd (omega arith)
       go (counted k) = sym k
 
 -- ---- an item that the cursor answers lies further on, and in an accepted frame it answers one

@@ -15,8 +15,8 @@ use lib.Seq.{get_or-set_same, get_or-set_other}
 use borrow.Author.Tests.{eqb-true, eqb-false, leb-true, leb-false, ltb-true, ltb-false, lt-ltb}
 use Rattle.format.specs.Words.{pick, word_at, long_at}
 use Rattle.format.specs.Answers.{Outcome, accepted, refused}
-use Rattle.format.specs.Items.{ItemOf, Item, Channel, Histogram, HitCount, Sample, Bin, LastCell, TimeBin, Text, StartEvent, ContinueEvent, EndEvent, is_plain, words_of}
-use Rattle.format.specs.Book.{Class, after, channel, histogram, hit_count, sample, bin, text, start_event, continue_event, end_event, extended_channel, extended_histogram, class_of}
+use Rattle.format.specs.Items.{ItemOf, Item, Channel, Histogram, HitCount, Sample, Bin, LastCell, TimeBin, Text, StartEvent, ContinueEvent, EndEvent, words_of}
+use Rattle.format.specs.Book.{Class, after, channel, histogram, hit_count, sample, bin, text, start_event, continue_event, end_event, class_of}
 use Rattle.format.specs.Steps.{next_at}
 use Rattle.format.specs.Frames.{Frame, last_of, head_fault, judged, verdict}
 use Rattle.format.specs.Questions.{done, shown}
@@ -279,11 +279,6 @@ module _ (s map : List ℕ) (at h : ℕ) (g : Noting s map at h) where
       go true x = note_past _ _ j (histogram_turn s at g.ahead.on l (histogram_is w a (ltb-true w 0xC000 x) ∙ ap class_of e)) q
       go false x = note_past _ _ j (channel_turn s at g.ahead.on l (channel_is w (ltb-false w 0xC000 x) b ∙ ap class_of e)) q
 
-  -- a header's word is of the one class or the other
-  either : {A : Type 0} (p : Bool) (c d e : Class) → pick p c d ≡ e → (e ≡ c → A) → (e ≡ d → A) → A
-  either true c d e k f g = f (sym k)
-  either false c d e k f g = g (sym k)
-
   -- a Time bin or a Last cell: no other item has a first word of that range
   pub note_short : (w : ℕ) → w ≡ word_at s at → leb 0x3000 w && ltb w 0x8000 ≡ false → leb 0x2000 w && ltb w 0x3000 ≡ false → w < 0x8000 → 0x0E00 ≤ w → Noting s (set map at h) (at + 1) h
   unfolding words_of
@@ -298,12 +293,8 @@ module _ (s map : List ℕ) (at h : ℕ) (g : Noting s map at h) where
           note_past x (at + 1) h (subst (λ (i : ℕ). Turn s at g.ahead.on x i) m t) q
 
       go : w < 0x2000 → (x : Item) → Turn s at g.ahead.on x (next_at s at) → Noting s (set map at h) (at + 1) h
-      go b (Channel i j c) t =
-          either (is_plain j) channel extended_channel (class_of (word_at s at)) t.class
-          (λ k. let (p, q) = ranged (word_at s at) channel k refl in absurd (omega arith)) (λ k. let (p, q) = ranged (word_at s at) extended_channel k refl in absurd (omega arith))
-      go b (Histogram i j c) t =
-          either (is_plain j) histogram extended_histogram (class_of (word_at s at)) t.class
-          (λ k. let (p, q) = ranged (word_at s at) histogram k refl in absurd (omega arith)) (λ k. let (p, q) = ranged (word_at s at) extended_histogram k refl in absurd (omega arith))
+      go b (Channel i j c) t = let (p, q) = ranged (word_at s at) channel (sym t.class) refl in absurd (omega arith)
+      go b (Histogram i j c) t = let (p, q) = ranged (word_at s at) histogram (sym t.class) refl in absurd (omega arith)
       go b (HitCount i j c) t = let (p, q) = ranged (word_at s at) hit_count (sym t.class) refl in absurd (omega arith)
       go b (Sample v) t = let (p, q) = ranged (word_at s at) sample (sym t.class) refl in absurd (omega arith)
       go b (Bin i n) t = let (p, q) = ranged (word_at s at) bin (sym t.class) refl in absurd (omega arith)

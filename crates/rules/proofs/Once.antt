@@ -5,8 +5,7 @@ use Prim.Native.Nat.{ℕ}
 use mathlib.Core.Path.{◌≡◌}
 use mathlib.Core.Bool.{Bool}
 use Rattle.format.specs.Book.{channel, histogram, sample, bin, time_bin, text, start_event, continue_event}
-use Rattle.format.specs.Words.{pick}
-use Rattle.format.specs.Items.{is_plain, whole, broken}
+use Rattle.format.specs.Items.{whole}
 use Rattle.format.specs.Rules.{allowed, among}
 use Rattle.format.specs.Steps as steps
 use Rattle.format.specs.Steps.{ended_by, start, marked, check_by}
@@ -26,7 +25,7 @@ use Rattle.rules.specs.declared.state.Mode.{Mode}
 use Rattle.rules.specs.declared.state.State.{State}
 use Rattle.rules.specs.declared.steps.Step.{Step}
 use Rattle.rules.specs.Views.{view_kind, view_mode, view_state, view_step, continue_tested, end_tested, text_tested}
-use Rattle.rules.specs.Promises.{Started, MayEnd, MayStart, MayContinue, MayStandInside, MayTime, MaySample, MayHistogram, MayBin, MayText, PausedFrom, ChannelStep, HistogramStep, ExtendedChannelStep, ExtendedHistogramStep, HitCountStep, LastCellStep, TimeBinStep, SampleStep, BinStep, StartEventStep, ContinueEventStep, EndEventStep, TextStep}
+use Rattle.rules.specs.Promises.{Started, MayEnd, MayStart, MayContinue, MayStandInside, MayTime, MaySample, MayHistogram, MayBin, MayText, PausedFrom, ChannelStep, HistogramStep, HitCountStep, LastCellStep, TimeBinStep, SampleStep, BinStep, StartEventStep, ContinueEventStep, EndEventStep, TextStep}
 use Rattle.rules.proofs.Unique.{same_state, same_step}
 
 -- ---- the state, and what may stand where
@@ -71,12 +70,6 @@ channel_once card st x next = one view_step same_step (marked next (check_by car
 
 pub histogram_once : (card : ℕ) (st : State) (x : Histogram) (next : ℕ) (r q : Step) → HistogramStep card st x next r → HistogramStep card st x next q → r ≡ q
 histogram_once card st x next = one view_step same_step (marked next (check_by card 0 (view_state st) (whole (histogram_item x))))
-
-pub extended_channel_once : (card : ℕ) (st : State) (x : Channel) (next : ℕ) (r q : Step) → ExtendedChannelStep card st x next r → ExtendedChannelStep card st x next q → r ≡ q
-extended_channel_once card st x next = one view_step same_step (marked next (check_by card 0 (view_state st) (pick (is_plain x.chip) (broken channel) (whole (channel_item x)))))
-
-pub extended_histogram_once : (card : ℕ) (st : State) (x : Histogram) (next : ℕ) (r q : Step) → ExtendedHistogramStep card st x next r → ExtendedHistogramStep card st x next q → r ≡ q
-extended_histogram_once card st x next = one view_step same_step (marked next (check_by card 0 (view_state st) (pick (is_plain x.chip) (broken histogram) (whole (histogram_item x)))))
 
 pub hit_count_once : (card : ℕ) (st : State) (x : HitCount) (next : ℕ) (r q : Step) → HitCountStep card st x next r → HitCountStep card st x next q → r ≡ q
 hit_count_once card st x next = one view_step same_step (marked next (check_by card 0 (view_state st) (whole (hits_item x))))

@@ -2,15 +2,15 @@
 -- Assumes nothing.
 use Prim.Native.Nat.{ℕ, ◌+◌, ◌*◌, ◌-◌, ◌/◌, ◌%◌, ◌≤◌, ◌<◌}
 use mathlib.Core.Path.{◌≡◌, refl, sym, ap, ◌∙◌}
-use mathlib.Core.Bool.{Bool, true, false, not, ◌&&◌, ◌||◌, and-true, true-and}
-use lib.Dec.{leb, ltb, eqb}
+use mathlib.Core.Bool.{Bool, true, false, ◌&&◌, ◌||◌, and-true, true-and}
+use lib.Dec.{leb, eqb}
 use native.Mathlib.Omega.{arith}
-use borrow.Author.Tests.{leb-true, leb-false, le-ltb, lt-ltb, eqb-true, eqb-false, eq-eqb, ne_eqb}
+use borrow.Author.Tests.{leb-true, eqb-true, eqb-false, eq-eqb, ne_eqb}
 use Rattle.format.specs.Words.{pick}
 use Rattle.format.specs.Book.{Class, channel, histogram, hit_count, sample, bin, last_cell, time_bin, data_frame, monitor_frame, command_frame, text, start_event, continue_event, end_event, frame_end}
-use Rattle.format.specs.Items.{Item, Channel, Histogram, HitCount, Sample, Bin, LastCell, TimeBin, StartEvent, class_for, is_plain, in_range, key, whole, broken}
+use Rattle.format.specs.Items.{Item, Channel, Histogram, HitCount, Sample, Bin, LastCell, TimeBin, StartEvent, class_for, in_range, key, whole}
 use Rattle.format.specs.Rules.{ReaderMode, fresh, outside, inside, after_channel, after_time, after_sample, unheaded, headed, commands, allowed, among, Checked, good, bad}
-use Rattle.format.specs.Steps.{Marks, ReaderState, place_by, sized_by, paused, order_by, marks_channel, marks_start, marks_end, state_after, check_by, Stepped, marked}
+use Rattle.format.specs.Steps.{ReaderState, place_by, sized_by, paused, order_by, marks_start, marks_end, state_after, check_by, Stepped, marked}
 use Rattle.rules.specs.Views.{tested, continue_tested, end_tested, text_tested}
 
 -- equal tests give equal answers; the state counts only where the order rule holds
@@ -33,22 +33,6 @@ pub whole_turn : (card at next : ℕ) (st : ReaderState) (x : Item) (r : Stepped
     → r ≡ marked next (check_by card at st (whole x))
 unfolding check_by
 whole_turn card at next st x r e p v o s = e ∙ same_tested next p v o s
-
--- and to one read in two words, of whose value the spelling is a part: b says that its chip has the plain one
-spelled_turn : (card next : ℕ) (st : ReaderState) (x : Item) (r : Stepped) (b p v w o : Bool) (s : ReaderState) → r ≡ marked next (tested p w o s)
-    → p ≡ place_by st (class_for x) → w ≡ not b && v → (b ≡ false → w ≡ v → r ≡ marked next (check_by card 0 st (whole x)))
-    → r ≡ marked next (check_by card 0 st (pick b (broken (class_for x)) (whole x)))
-unfolding check_by
-spelled_turn card next st x r true p v w o s e f h k =
-    e ∙ ap (λ (w : Bool). marked next (tested p w o s)) h ∙ ap (λ (p : Bool). marked next (tested p false o s)) f
-spelled_turn card next st x r false p v w o s e f h k = k refl h
-
-past_plain : (b : ℕ) → ltb 3 b ≡ not (is_plain b)
-past_plain b = go (is_plain b) refl
-  where
-    go : (t : Bool) → is_plain b ≡ t → ltb 3 b ≡ not t
-    go true i = le-ltb 3 b (leb-true b 3 i)
-    go false i = lt-ltb 3 b (leb-false b 3 i)
 
 -- Hit count, Last cell and End event stand where a Channel may
 pub hit_inside : (m : ReaderMode) → among channel (allowed m) ≡ among hit_count (allowed m)
@@ -86,31 +70,17 @@ end_inside fresh = refl
 
 -- the eleven items, each from the answers to its tests
 module _ (next : ℕ) (st : ReaderState) (r : Stepped) where
-  pub channel_turn : (card a b c k : ℕ) (m : Marks) {p v : Bool} → k ≡ key a b c → m ≡ marks_channel (k + 1) st.marks
-      → r ≡ marked next (tested p v (leb st.key k) (record { mode = after_channel; key = k + 1; next = st.next; marks = m }))
+  pub channel_turn : (card a b c k n : ℕ) {p v : Bool} → k ≡ key a b c → n ≡ pick (eqb st.marks.opener 0 && eqb st.marks.first 0) (k + 1) st.marks.first
+      → r ≡ marked next (tested p v (leb st.key k) (record { mode = after_channel; key = k + 1; next = st.next; marks = record { opener = st.marks.opener; first = n; lead = st.marks.lead } }))
       → p ≡ place_by st channel → v ≡ in_range card (Channel a b c) → r ≡ marked next (check_by card 0 st (whole (Channel a b c)))
-  channel_turn card a b c k m {p} {v} q i e f g =
-      whole_turn card 0 next st (Channel a b c) r (rw (i, q) at e) f (g ∙ sym (and-true _)) refl (λ o. refl)
-
-  pub extended_channel_turn : (card a b c k : ℕ) (m : Marks) {p v w : Bool} → k ≡ key a b c → m ≡ marks_channel (k + 1) st.marks
-      → r ≡ marked next (tested p w (leb st.key k) (record { mode = after_channel; key = k + 1; next = st.next; marks = m }))
-      → p ≡ place_by st channel → v ≡ in_range card (Channel a b c) → w ≡ ltb 3 b && v
-      → r ≡ marked next (check_by card 0 st (pick (is_plain b) (broken channel) (whole (Channel a b c))))
-  extended_channel_turn card a b c k m {p} {v} {w} q i e f g h =
-      spelled_turn card next st (Channel a b c) r (is_plain b) p v w (leb st.key k) (record { mode = after_channel; key = k + 1; next = st.next; marks = m }) e f (h ∙ ap (λ (t : Bool). t && v) (past_plain b)) (λ j l. channel_turn card a b c k m q i e f (l ∙ g))
+  channel_turn card a b c k n {p} {v} q m e f g =
+      whole_turn card 0 next st (Channel a b c) r (rw (m, q) at e) f (g ∙ sym (and-true _)) refl (λ o. refl)
 
   pub histogram_turn : (card a b c k : ℕ) {p v : Bool} → k ≡ key a b c
       → r ≡ marked next (tested p v (leb st.key k) (record { mode = headed; key = k + 1; next = 0; marks = st.marks }))
       → p ≡ place_by st histogram → v ≡ in_range card (Histogram a b c) → r ≡ marked next (check_by card 0 st (whole (Histogram a b c)))
   histogram_turn card a b c k {p} {v} q e f g =
       whole_turn card 0 next st (Histogram a b c) r (rw q at e) f (g ∙ sym (and-true _)) refl (λ o. refl)
-
-  pub extended_histogram_turn : (card a b c k : ℕ) {p v w : Bool} → k ≡ key a b c
-      → r ≡ marked next (tested p w (leb st.key k) (record { mode = headed; key = k + 1; next = 0; marks = st.marks }))
-      → p ≡ place_by st histogram → v ≡ in_range card (Histogram a b c) → w ≡ ltb 3 b && v
-      → r ≡ marked next (check_by card 0 st (pick (is_plain b) (broken histogram) (whole (Histogram a b c))))
-  extended_histogram_turn card a b c k {p} {v} {w} q e f g h =
-      spelled_turn card next st (Histogram a b c) r (is_plain b) p v w (leb st.key k) (record { mode = headed; key = k + 1; next = 0; marks = st.marks }) e f (h ∙ ap (λ (t : Bool). t && v) (past_plain b)) (λ j l. histogram_turn card a b c k q e f (l ∙ g))
 
   pub hit_turn : (card a b c : ℕ) {p v : Bool}
       → r ≡ marked next (tested p v true (record { mode = inside; key = st.key; next = st.next; marks = st.marks }))

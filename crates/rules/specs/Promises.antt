@@ -2,8 +2,7 @@
 -- Assumes nothing.
 use Rattle.std.specs.Prelude.{ℕ, ◌≡◌, Bool}
 use Rattle.format.specs.Book.{channel, histogram, sample, bin, time_bin, text, start_event, continue_event}
-use Rattle.format.specs.Words.{pick}
-use Rattle.format.specs.Items.{is_plain, whole, broken}
+use Rattle.format.specs.Items.{whole}
 use Rattle.format.specs.Rules.{allowed, among}
 use Rattle.format.specs.Steps as steps
 use Rattle.format.specs.Steps.{ended_by, start, marked, check_by}
@@ -66,13 +65,6 @@ ChannelStep card st x next r = view_step r ≡ marked next (check_by card 0 (vie
 
 abbrev pub HistogramStep : ℕ → State → Histogram → ℕ → Step → Type 0
 HistogramStep card st x next r = view_step r ≡ marked next (check_by card 0 (view_state st) (whole (histogram_item x)))
-
--- of a header that is read in two words: "Chip under 4 there is 9"
-abbrev pub ExtendedChannelStep : ℕ → State → Channel → ℕ → Step → Type 0
-ExtendedChannelStep card st x next r = view_step r ≡ marked next (check_by card 0 (view_state st) (pick (is_plain x.chip) (broken channel) (whole (channel_item x))))
-
-abbrev pub ExtendedHistogramStep : ℕ → State → Histogram → ℕ → Step → Type 0
-ExtendedHistogramStep card st x next r = view_step r ≡ marked next (check_by card 0 (view_state st) (pick (is_plain x.chip) (broken histogram) (whole (histogram_item x))))
 
 abbrev pub HitCountStep : ℕ → State → HitCount → ℕ → Step → Type 0
 HitCountStep card st x next r = view_step r ≡ marked next (check_by card 0 (view_state st) (whole (hits_item x)))

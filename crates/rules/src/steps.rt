@@ -1,9 +1,9 @@
 // The rules of place, value and order at one item, by the state alone. The reader and the writer both go by these.
 ghost use Rattle.std.specs.Prelude.{◌≡◌, ◌&&◌, ◌||◌, ◌+◌, ◌*◌, ◌-◌, ◌≤◌, ◌<◌, eqb};
 ghost use Rattle.format.specs.Words.{pick};
-ghost use Rattle.format.specs.Steps.{marked, marks_channel};
-ghost use Rattle.rules.specs.Views.{view_marks, view_state, view_step, tested};
-ghost use Rattle.rules.specs.Promises.{ChannelStep, HistogramStep, ExtendedChannelStep, ExtendedHistogramStep, HitCountStep, LastCellStep, TimeBinStep, SampleStep, BinStep, StartEventStep, ContinueEventStep, EndEventStep, TextStep};
+ghost use Rattle.format.specs.Steps.{marked};
+ghost use Rattle.rules.specs.Views.{view_state, view_step, tested};
+ghost use Rattle.rules.specs.Promises.{ChannelStep, HistogramStep, HitCountStep, LastCellStep, TimeBinStep, SampleStep, BinStep, StartEventStep, ContinueEventStep, EndEventStep, TextStep};
 
 use crate::state::{
     Marks, Mode, State, may_bin, may_continue, may_histogram, may_sample, may_stand_inside,
@@ -58,24 +58,18 @@ fn lead_of(opener: usize, lead: usize, at: usize) -> usize
     lead
 }
 
-// The marks with a Channel at hand whose key is one less than `above`.
-fn channel_marks(m: Marks, above: u32) -> Marks
-    ensures { view_marks result ≡ marks_channel above (view_marks m) }
-{
-    Marks {
-        opener: m.opener,
-        first: first_of(m.opener, m.first, above),
-        lead: m.lead,
-    }
-}
-
 pub fn channel(card: u16, st: State, x: Channel, next: usize) -> Step
     ensures { ChannelStep card st x next result }
 {
     let mode = st.mode;
     let k = key(x.card, x.chip, x.channel);
     let above = k + 1;
-    let marks = channel_marks(st.marks, above);
+    let m = st.marks;
+    let marks = Marks {
+        opener: m.opener,
+        first: first_of(m.opener, m.first, above),
+        lead: m.lead,
+    };
     let after = State {
         mode: Mode::AfterChannel,
         key: above,
@@ -85,30 +79,6 @@ pub fn channel(card: u16, st: State, x: Channel, next: usize) -> Step
     judged(
         may_stand_inside(mode),
         x.valid(card),
-        st.key <= k,
-        after,
-        next,
-    )
-}
-
-// A Channel read in two words: a chip that the plain spelling has breaks a value rule. The test is one of the value's, and no branch before the turn,
-// which made every turn of the walk dearer.
-pub fn extended_channel(card: u16, st: State, x: Channel, next: usize) -> Step
-    ensures { ExtendedChannelStep card st x next result }
-{
-    let mode = st.mode;
-    let k = key(x.card, x.chip, x.channel);
-    let above = k + 1;
-    let marks = channel_marks(st.marks, above);
-    let after = State {
-        mode: Mode::AfterChannel,
-        key: above,
-        next: st.next,
-        marks,
-    };
-    judged(
-        may_stand_inside(mode),
-        (Channel::LAST_PLAIN_CHIP < x.chip) & x.valid(card),
         st.key <= k,
         after,
         next,
@@ -129,29 +99,6 @@ pub fn histogram(card: u16, st: State, x: Histogram, next: usize) -> Step
         marks,
     };
     judged(may_histogram(mode), x.valid(card), st.key <= k, after, next)
-}
-
-// A Histogram read in two words.
-pub fn extended_histogram(card: u16, st: State, x: Histogram, next: usize) -> Step
-    ensures { ExtendedHistogramStep card st x next result }
-{
-    let mode = st.mode;
-    let k = key(x.card, x.chip, x.channel);
-    let above = k + 1;
-    let marks = st.marks;
-    let after = State {
-        mode: Mode::Headed,
-        key: above,
-        next: 0,
-        marks,
-    };
-    judged(
-        may_histogram(mode),
-        (Histogram::LAST_PLAIN_CHIP < x.chip) & x.valid(card),
-        st.key <= k,
-        after,
-        next,
-    )
 }
 
 pub fn hit_count(card: u16, st: State, x: HitCount, next: usize) -> Step

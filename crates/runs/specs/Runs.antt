@@ -5,8 +5,8 @@ use Rattle.std.specs.Prelude.{ℕ, ◌*◌, ◌^◌, ◌<◌, ◌≡◌, List, [
 use Rattle.follower.specs.Follow as follower
 use Rattle.format.specs.Words.{pick}
 use Rattle.format.specs.Book.{start_event, end_event}
-use Rattle.format.specs.Items.{Item, StartEvent, ContinueEvent, class_for}
-use Rattle.format.specs.Rules.{data_kind, same, count, gather, channel_key}
+use Rattle.format.specs.Items.{Item, Channel, Histogram, HitCount, Sample, Bin, LastCell, TimeBin, Text, StartEvent, ContinueEvent, EndEvent, class_for, header_bits}
+use Rattle.format.specs.Rules.{data_kind, same, count, gather}
 use Rattle.format.specs.Frames.{Frame, all_words, encode, Legal}
 use Rattle.format.specs.Tree.{Rising}
 use Rattle.format.specs.Questions.{end_size, until}
@@ -26,9 +26,23 @@ events (x ∷ xs) = pick (same start_event (class_for x)) ((x ∷ until start_ev
 abbrev pub bytes_of : List Item → ℕ
 bytes_of xs = 2 * length (all_words xs)
 
+-- the 14-bit content of a Channel header
+abbrev pub content : Item → List ℕ
+content (Channel a b c) = header_bits a b c ∷ []
+content (Histogram a b c) = []
+content (HitCount a b c) = []
+content (Sample v) = []
+content (Bin b n) = []
+content (LastCell a b) = []
+content (TimeBin t) = []
+content (Text s) = []
+content (StartEvent t ts n) = []
+content (ContinueEvent n) = []
+content (EndEvent n) = []
+
 pub record Lawful (event : List Item) : Type 0 where
-  -- "channel headers go on rising", by card, chip, channel
-  pub rising : Rising 0 (gather channel_key event)
+  -- "channel headers go on rising"
+  pub rising : Rising 0 (gather content event)
   -- "End event's size counts all parts, Continue items included"
   pub sized : Each (λ (n : ℕ). n ≡ bytes_of event) (gather end_size event)
   -- and no event, ended or left open, is past 32 bits

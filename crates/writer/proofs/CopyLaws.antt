@@ -228,16 +228,16 @@ module _ (f : frames.Frame) (k : Kind) (e : view_kind k ≡ f.kind) (buf : List 
 below : (n m k : ℕ) → leb n m ≡ true → m < k → ltb n k ≡ true
 below n m k e h = lt-ltb n k (omega (arith, leb-true n m e))
 
-three_typed : (a b c chips : ℕ) → chips < 65536 → leb a 31 && leb b chips && leb c 127 ≡ true → ltb a 65536 && ltb b 65536 && ltb c 65536 ≡ true
-three_typed a b c chips h e =
-    let f = and_left (leb a 31 && leb b chips) (leb c 127) e in
-    and_both _ _ (and_both _ _ (below a 31 65536 (and_left (leb a 31) (leb b chips) f) (omega arith)) (below b chips 65536 (and_right (leb a 31) (leb b chips) f) h))
-    (below c 127 65536 (and_right (leb a 31 && leb b chips) (leb c 127) e) (omega arith))
+three_typed : (a b c : ℕ) → leb a 31 && leb b 3 && leb c 127 ≡ true → ltb a 65536 && ltb b 65536 && ltb c 65536 ≡ true
+three_typed a b c e =
+    let f = and_left (leb a 31 && leb b 3) (leb c 127) e in
+    and_both _ _ (and_both _ _ (below a 31 65536 (and_left (leb a 31) (leb b 3) f) (omega arith)) (below b 3 65536 (and_right (leb a 31) (leb b 3) f) (omega arith)))
+    (below c 127 65536 (and_right (leb a 31 && leb b 3) (leb c 127) e) (omega arith))
 
 fits_typed : (x : items.Item) → fits x ≡ true → typed (argument_for x) ≡ true
-fits_typed (items.Channel a b c) e = three_typed a b c 15 (omega arith) e
-fits_typed (items.Histogram a b c) e = three_typed a b c 15 (omega arith) e
-fits_typed (items.HitCount a b c) e = three_typed a b c 3 (omega arith) e
+fits_typed (items.Channel a b c) e = three_typed a b c e
+fits_typed (items.Histogram a b c) e = three_typed a b c e
+fits_typed (items.HitCount a b c) e = three_typed a b c e
 fits_typed (items.Sample v) e = below v 4095 65536 e (omega arith)
 fits_typed (items.Bin b n) e =
     and_both _ _ (below b 4095 65536 (and_left (leb b 4095) (ltb n 4294967296) e) (omega arith)) (and_right (leb b 4095) (ltb n 4294967296) e)

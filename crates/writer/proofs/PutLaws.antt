@@ -25,7 +25,7 @@ use Rattle.book.specs.Fields.{start_word, channel_item, histogram_item, hits_ite
 use Rattle.book.specs.declared.items.Item as handed
 use Rattle.book.specs.declared.items.Item.TheVariants as item
 use Rattle.book.specs.declared.items.StartEvent as start
-use Rattle.book.proofs.FieldLaws.{channel_words_lem, histogram_words_lem, hits_words, sample_words, bin_words, cell_words, time_words_lem, start_words, continue_words, end_words}
+use Rattle.book.proofs.FieldLaws.{channel_words, histogram_words, hits_words, sample_words, bin_words, cell_words, time_words_lem, start_words, continue_words, end_words}
 use Rattle.rules.specs.Views.{tested, continue_tested, end_tested, text_tested}
 use Rattle.writer.specs.Views.{time_cut, item_bytes, text_bytes, lettered, room_in, answered_by, placed, placed_left}
 use Rattle.writer.proofs.StoreTurns.{zero_behind}
@@ -137,8 +137,8 @@ module _ (buf : List ℕ) (n card : ℕ) (st : ReaderState) (o : Stepped) (answe
           omega (arith, t)
 
   pub item_put : (x : handed.Item) → o ≡ marked 0 (check_by card (n / 2) st (given (view_item x))) → Stored (item_bytes x) → Promised (given (view_item x))
-  item_put (item.Channel x) = arm (channel_item x) _ (channel_words_lem x)
-  item_put (item.Histogram x) = arm (histogram_item x) _ (histogram_words_lem x)
+  item_put (item.Channel x) = arm (channel_item x) _ (channel_words x)
+  item_put (item.Histogram x) = arm (histogram_item x) _ (histogram_words x)
   item_put (item.HitCount x) = arm (hits_item x) _ (hits_words x)
   item_put (item.Sample x) = arm (sample_item x) _ (sample_words x)
   item_put (item.Bin x) = arm (bin_item x) _ (bin_words x)

@@ -7,7 +7,7 @@ use Rattle.format.specs.Answers.{Outcome, accepted, refused, and_then, leaves}
 use Rattle.format.specs.Steps.{Stepped, moved, stopped}
 use Rattle.format.specs.PartialSteps as steps
 use Rattle.book.specs.Views.{refusal}
-use Rattle.book.specs.Fields.{channel_words, histogram_words, hits_word, sample_word, bin_word, cell_word, time_bin_word, start_word}
+use Rattle.book.specs.Fields.{channel_word, histogram_word, hits_word, sample_word, bin_word, cell_word, time_bin_word, start_word}
 use Rattle.book.specs.declared.items.Item.{Item}
 use Rattle.book.specs.declared.items.Item.TheVariants as item
 use Rattle.rules.specs.Views.{view_state}
@@ -42,12 +42,11 @@ piece_bytes (piece.Word w) = bytes (w ∷ [])
 piece_bytes (piece.Long w n) = bytes (w ∷ long_words n)
 piece_bytes (piece.Event w t n) = bytes (w ∷ (time_cut t ++ long_words n))
 piece_bytes piece.Nothing = []
-piece_bytes (piece.Pair w v) = bytes (w ∷ v ∷ [])
 
 -- the bytes of an item that is handed over, its fields cut to their widths; a text's are not in it
 abbrev pub item_bytes : Item → List ℕ
-item_bytes (item.Channel x) = bytes (channel_words x)
-item_bytes (item.Histogram x) = bytes (histogram_words x)
+item_bytes (item.Channel x) = bytes (channel_word x ∷ [])
+item_bytes (item.Histogram x) = bytes (histogram_word x ∷ [])
 item_bytes (item.HitCount x) = bytes (hits_word x ∷ [])
 item_bytes (item.Sample x) = bytes (sample_word x ∷ [])
 item_bytes (item.Bin x) = bytes (bin_word x ∷ long_words x.count)

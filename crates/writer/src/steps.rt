@@ -1,11 +1,10 @@
 // One item put behind the bytes that a state stands for: by the state alone, so that code which carries the state writes a frame in one pass.
 ghost use Rattle.std.specs.Prelude.{◌≡◌, ◌≤◌};
-ghost use Rattle.format.specs.Words.{bytes};
 ghost use Rattle.format.specs.Items.{whole};
 ghost use Rattle.format.specs.Steps.{marked, check_by};
 ghost use Rattle.format.specs.Writing.{given};
 ghost use Rattle.format.specs.PartialSteps.{PutWrote};
-ghost use Rattle.book.specs.Fields.{channel_words, histogram_words, continue_item, end_item};
+ghost use Rattle.book.specs.Fields.{continue_item, end_item};
 ghost use Rattle.book.specs.Views.{view_item};
 ghost use Rattle.rules.specs.Views.{view_state, view_step};
 ghost use Rattle.writer.specs.Views.{view_put, room_in, answered_by, piece_bytes, item_bytes, placed, placed_left, lettered, Short};
@@ -13,8 +12,7 @@ ghost use Rattle.writer.specs.Promises.{PutDone, PutTextDone};
 
 use crate::answers::Put;
 use crate::stores::{Piece, piece_size, put_letters, put_piece};
-use book::class::Class;
-use book::items::{Channel, ContinueEvent, EndEvent, Histogram, Item, Text};
+use book::items::{ContinueEvent, EndEvent, Item, Text};
 use book::refusal::Refusal;
 use cursor::texts::no_zero;
 use frame::head::MOST;
@@ -73,33 +71,13 @@ fn put_words(buf: &mut [u8], length: usize, turn: Step, piece: Piece) -> Put
     }
 }
 
-// A Channel header in its one spelling, by its chip.
-fn channel_piece(x: Channel) -> Piece
-    ensures { piece_bytes result ≡ bytes (channel_words x) }
-{
-    if x.chip <= Channel::LAST_PLAIN_CHIP {
-        return Piece::Word(x.word());
-    }
-    Piece::Pair(Class::EXTENDED_CHANNEL, x.extended())
-}
-
-// And a Histogram header.
-fn histogram_piece(x: Histogram) -> Piece
-    ensures { piece_bytes result ≡ bytes (histogram_words x) }
-{
-    if x.chip <= Histogram::LAST_PLAIN_CHIP {
-        return Piece::Word(x.word());
-    }
-    Piece::Pair(Class::EXTENDED_HISTOGRAM, x.extended())
-}
-
 // What an item is written as: a plain value, so that the buffer is lent once and not in each arm, which the check pays for (docs/PROVING.md).
 fn piece_of(item: Item) -> Piece
     ensures { piece_bytes result ≡ item_bytes item }
 {
     match item {
-        Item::Channel(x) => channel_piece(x),
-        Item::Histogram(x) => histogram_piece(x),
+        Item::Channel(x) => Piece::Word(x.word()),
+        Item::Histogram(x) => Piece::Word(x.word()),
         Item::HitCount(x) => Piece::Word(x.word()),
         Item::Sample(x) => Piece::Word(x.word()),
         Item::Bin(x) => Piece::Long(x.word(), x.count),

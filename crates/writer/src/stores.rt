@@ -15,16 +15,6 @@ pub(crate) fn put_word(buf: &mut [u8], at: usize, w: u16)
     buf[at + 1] = (w / 256) as u8;
 }
 
-// Two words.
-fn put_two(buf: &mut [u8], at: usize, w: u16, v: u16)
-    requires { at + 3 < length buf.old }
-    ensures { buf.new ≡ sets buf.old at (bytes (w ∷ v ∷ [])) }
-{
-    let next = at + 2;
-    put_word(buf, at, w);
-    put_word(buf, next, v);
-}
-
 // A word, and a number of 32 bits, low word first.
 fn put_three(buf: &mut [u8], at: usize, w: u16, n: u32)
     requires { at + 5 < length buf.old }
@@ -49,15 +39,13 @@ fn put_six(buf: &mut [u8], at: usize, w: u16, time: u64, n: u32)
     put_three(buf, next, high, n);
 }
 
-// What an item is written as: a word, a word and a number of 32 bits, a word and numbers of 48 and 32 bits, or two words; a text is put by its
-// letters.
+// What an item is written as: a word, a word and a number of 32 bits, or a word and numbers of 48 and 32 bits; a text is put by its letters.
 #[derive(Drop)]
 pub(crate) enum Piece {
     Word(u16),
     Long(u16, u32),
     Event(u16, u64, u32),
     Nothing,
-    Pair(u16, u16),
 }
 
 pub(crate) fn piece_size(piece: Piece) -> usize
@@ -68,7 +56,6 @@ pub(crate) fn piece_size(piece: Piece) -> usize
         Piece::Long(_, _) => 6,
         Piece::Event(_, _, _) => 12,
         Piece::Nothing => 0,
-        Piece::Pair(_, _) => 4,
     }
 }
 
@@ -81,7 +68,6 @@ pub(crate) fn put_piece(buf: &mut [u8], at: usize, piece: Piece)
         Piece::Long(w, n) => put_three(buf, at, w, n),
         Piece::Event(w, time, n) => put_six(buf, at, w, time, n),
         Piece::Nothing => {}
-        Piece::Pair(w, v) => put_two(buf, at, w, v),
     }
 }
 

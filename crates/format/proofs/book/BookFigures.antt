@@ -5,12 +5,12 @@ use mathlib.Core.Path.{◌≡◌, refl}
 use mathlib.Core.List.{[], ◌∷◌, map, flatten}
 use Rattle.format.specs.Words.{words, bytes, non_zero, all_zero}
 use Rattle.format.specs.Prefix.{find}
-use Rattle.format.specs.Book.{Class, channel, histogram, hit_count, sample, bin, last_cell, time_bin, data_frame, monitor_frame, command_frame, text, start_event, continue_event, end_event, frame_end, extended_channel, extended_histogram, unassigned, class_of, row_of, class_at}
+use Rattle.format.specs.Book.{Class, channel, histogram, hit_count, sample, bin, last_cell, time_bin, data_frame, monitor_frame, command_frame, text, start_event, continue_event, end_event, frame_end, unassigned, class_of, row_of, class_at}
 use Rattle.format.specs.Items.{Item, words_of, decode, whole, broken, flawed, token_of, tokens}
 use Rattle.format.specs.Figures.{tabled, figures, figure_words}
 
 -- the rows, numbered in the table's order
-pub rows_numbered : map row_of tabled ≡ 1 ∷ 2 ∷ 3 ∷ 4 ∷ 5 ∷ 6 ∷ 7 ∷ 8 ∷ 9 ∷ 10 ∷ 11 ∷ 12 ∷ 13 ∷ 14 ∷ 15 ∷ 16 ∷ 17 ∷ 0 ∷ []
+pub rows_numbered : map row_of tabled ≡ 1 ∷ 2 ∷ 3 ∷ 4 ∷ 5 ∷ 6 ∷ 7 ∷ 8 ∷ 9 ∷ 10 ∷ 11 ∷ 12 ∷ 13 ∷ 14 ∷ 15 ∷ 0 ∷ []
 rows_numbered = refl
 
 -- the book has its rows in that order
@@ -30,8 +30,6 @@ row_stands start_event = refl
 row_stands end_event = refl
 row_stands frame_end = refl
 row_stands continue_event = refl
-row_stands extended_channel = refl
-row_stands extended_histogram = refl
 row_stands unassigned = refl
 
 pub figures_written : flatten (map words_of figures) ≡ figure_words
@@ -51,16 +49,11 @@ pub figures_refused : map (tokens 0)
     ∷ (0x0102 ∷ 0x4241 ∷ [])
     ∷ (0x0103 ∷ 0x4200 ∷ 0x0000 ∷ [])
     ∷ (0x0101 ∷ 0x4100 ∷ [])
-    -- extended headers of chip 3, whose one spelling is the plain one; the word after the first is data, and may look like a frame's end
-    ∷ (0x000D ∷ 0x298A ∷ [])
-    ∷ (0x000E ∷ 0x000F ∷ [])
-    -- a frame start is a class and no item; an unassigned word; a Bin with one word after it; an extended header with none
+    -- a frame start is a class and no item; an unassigned word; a Bin with one word after it
     ∷ (0x0805 ∷ [])
     ∷ (0x0001 ∷ [])
-    ∷ (0x2100 ∷ 0x1170 ∷ [])
-    ∷ (0x000D ∷ []) ∷ [])
+    ∷ (0x2100 ∷ 0x1170 ∷ []) ∷ [])
     ≡ (broken end_event ∷ []) ∷ (broken text ∷ []) ∷ (broken text ∷ []) ∷ (broken text ∷ []) ∷ (broken text ∷ [])
-    ∷ (broken channel ∷ []) ∷ (broken histogram ∷ [])
-    ∷ (broken data_frame ∷ []) ∷ (flawed 6 ∷ []) ∷ (flawed 7 ∷ []) ∷ (flawed 7 ∷ []) ∷ []
+    ∷ (broken data_frame ∷ []) ∷ (flawed 6 ∷ []) ∷ (flawed 7 ∷ []) ∷ []
 unfolding tokens token_of decode class_of find bytes non_zero all_zero
 figures_refused = refl

@@ -43,14 +43,14 @@ abbrev Spans : Row Class → Type 0
 Spans r = span r ≡ page_range r.class
 
 spans : (r : Row Class) → Memᴰ r book → span r ≡ page_range r.class
-spans = each Spans book (refl, (refl, (refl, (refl, (refl, (refl, (refl, (refl, (refl, (refl, (refl, (refl, (refl, (refl, (refl, (refl, (refl, tt)))))))))))))))))
+spans = each Spans book (refl, (refl, (refl, (refl, (refl, (refl, (refl, (refl, (refl, (refl, (refl, (refl, (refl, (refl, (refl, tt)))))))))))))))
 
 -- each row's class is an assigned one
 abbrev Assigns : Row Class → Type 0
 Assigns r = assigned r.class ≡ true
 
 assigns : (r : Row Class) → Memᴰ r book → assigned r.class ≡ true
-assigns = each Assigns book (refl, (refl, (refl, (refl, (refl, (refl, (refl, (refl, (refl, (refl, (refl, (refl, (refl, (refl, (refl, (refl, (refl, tt)))))))))))))))))
+assigns = each Assigns book (refl, (refl, (refl, (refl, (refl, (refl, (refl, (refl, (refl, (refl, (refl, (refl, (refl, (refl, (refl, tt)))))))))))))))
 
 -- a word of a row's span matches the row
 in_span : (r : Row Class) (w : ℕ) → (span r).from ≤ w → w ≤ (span r).to → matches r w ≡ true

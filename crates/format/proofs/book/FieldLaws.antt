@@ -53,7 +53,7 @@ abbrev Fills : Row Class → Type 0
 Fills r = 16 - r.bits ≡ total (widths r.class)
 
 pub fills : (r : Row Class) → Memᴰ r book → 16 - r.bits ≡ total (widths r.class)
-fills = each Fills book (refl, (refl, (refl, (refl, (refl, (refl, (refl, (refl, (refl, (refl, (refl, (refl, (refl, (refl, (refl, (refl, (refl, tt)))))))))))))))))
+fills = each Fills book (refl, (refl, (refl, (refl, (refl, (refl, (refl, (refl, (refl, (refl, (refl, (refl, (refl, (refl, (refl, tt)))))))))))))))
 
 -- a word of a row is the row's prefix and its fields
 pub word_of_fields : (r : Row Class) → Memᴰ r book → (w : ℕ) → matches r w ≡ true

@@ -9,7 +9,7 @@ use mathlib.Core.List.{List}
 use native.Mathlib.Omega.{arith}
 use lib.Dec.{lit<}
 use Rattle.format.specs.Prefix.{Row, find, prefix_free, Matched}
-use Rattle.format.specs.Book.{Class, channel, histogram, hit_count, sample, bin, last_cell, time_bin, data_frame, monitor_frame, command_frame, text, start_event, continue_event, end_event, frame_end, extended_channel, extended_histogram, unassigned, class_of, assigned, page_range, Within}
+use Rattle.format.specs.Book.{Class, channel, histogram, hit_count, sample, bin, last_cell, time_bin, data_frame, monitor_frame, command_frame, text, start_event, continue_event, end_event, frame_end, unassigned, class_of, assigned, page_range, Within}
 use Rattle.format.proofs.book.PrefixLaws.{Searched, hit, miss, searched, found}
 use Rattle.format.proofs.book.BookLaws.{ranged, in_range}
 
@@ -48,8 +48,6 @@ in_printed w start_event a h = in_range w 11 (lit< tt) h
 in_printed w continue_event a h = in_range w 14 (lit< tt) h
 in_printed w end_event a h = in_range w 12 (lit< tt) h
 in_printed w frame_end a h = in_range w 13 (lit< tt) h
-in_printed w extended_channel a h = in_range w 15 (lit< tt) h
-in_printed w extended_histogram a h = in_range w 16 (lit< tt) h
 in_printed w unassigned a h = absurd (true≢false (sym a))
 
 -- of each class exactly the words of its printed range
@@ -76,8 +74,6 @@ class_none w = (λ e c a h. true≢false (sym a ∙ ap assigned (sym (in_printed
     only continue_event a = absurd (true≢false a)
     only end_event a = absurd (true≢false a)
     only frame_end a = absurd (true≢false a)
-    only extended_channel a = absurd (true≢false a)
-    only extended_histogram a = absurd (true≢false a)
     only unassigned a = refl
 
     go : ((c : Class) → assigned c ≡ true → Within w (page_range c) → ⊥) → (b : Bool) → assigned (class_of w) ≡ b → class_of w ≡ unassigned

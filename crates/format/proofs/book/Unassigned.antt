@@ -1,4 +1,4 @@
--- T2, last sentence: "All other words .. are unassigned": with document 02's, 3,293 of them. The words of a high byte other than 0 are counted a page at a time.
+-- T2, last sentence: "All other words, 3,295 of them, are unassigned." The words of a high byte other than 0 are counted a page at a time.
 -- Assumes nothing.
 use mathlib.Core.Path.{◌≡◌, refl, sym, ap, ap₂, ◌∙◌}
 use mathlib.Core.Bool.{true}
@@ -46,7 +46,7 @@ pages (suc n) h z =
     ap (sum unread (h * 256)) e ∙ sum_append unread 256 (h * 256) (n * 256)
     ∙ ap₂ ◌+◌ (page h z) (ap (λ (a : ℕ). sum unread a (n * 256)) g ∙ pages n (suc h) (λ i. omega arith))
 
-low : sum unread 0 256 ≡ 221
+low : sum unread 0 256 ≡ 223
 unfolding sum class_of find
 low = refl
 
@@ -54,6 +54,6 @@ high : sum (λ (k : ℕ). 256 * unread (k * 256)) 1 255 ≡ 3072
 unfolding sum class_of find
 high = refl
 
--- of the 65,536 words, 3,293 are unassigned
-pub unassigned_count : sum unread 0 65536 ≡ 3293
+-- of the 65,536 words, 3,295 are unassigned
+pub unassigned_count : sum unread 0 65536 ≡ 3295
 unassigned_count = sum_append unread 256 0 65280 ∙ ap₂ ◌+◌ low (pages 255 1 (λ i. omega arith) ∙ high)

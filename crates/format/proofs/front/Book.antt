@@ -10,7 +10,7 @@ use mathlib.Core.List.{List, [], ◌∷◌, ◌++◌, map, flatten, Memᴰ}
 use lib.ListN.{length, get_or, take, drop}
 use Rattle.format.specs.Prefix.{Row, matches, find, prefix_free, Matched}
 use Rattle.format.specs.Book.{Class, unassigned, book, class_of, row_of, class_at, after, assigned, page_range, Within, nth, sum, unread}
-use Rattle.format.specs.Items.{Item, spelled, words_of, fits, in_range, whole, token_of, tokens}
+use Rattle.format.specs.Items.{Item, class_for, header_bits, words_of, fits, in_range, whole, token_of, tokens, key}
 use Rattle.format.specs.Tree.{Limits}
 use Rattle.format.specs.Fields.{cut, pack, Fit, widths, content, row_for, first_word, later_words, Read, total}
 use Rattle.format.specs.Figures.{tabled, figures, figure_words}
@@ -23,6 +23,7 @@ use Rattle.format.proofs.book.FieldLaws as field
 use Rattle.format.proofs.items.ItemLaws as item
 use Rattle.format.proofs.items.WrittenLaws as written
 use Rattle.format.proofs.rules.LimitLaws as limit
+use Rattle.format.proofs.rules.KeyLaws as keys
 
 -- T1. "a word's type is a prefix of varying length, tried shortest first": for ANY table in which no prefix begins another, and any kind of class.
 
@@ -58,12 +59,12 @@ book_ranges = table.class_range
 pub book_unassigned : (w : ℕ) → (class_of w ≡ unassigned) ↔ ((c : Class) → assigned c ≡ true → Within w (page_range c) → ⊥)
 book_unassigned = table.class_none
 
--- "3,807 of them", of the 65,536 words from 0 on, less the 512 that document 02 makes Continue event and the two extended headers.
-pub book_unassigned_count : sum unread 0 65536 ≡ 3293
+-- "3,807 of them", of the 65,536 words from 0 on, less the 512 that document 02 makes Continue event.
+pub book_unassigned_count : sum unread 0 65536 ≡ 3295
 book_unassigned_count = count.unassigned_count
 
 -- The rows are numbered from 1 in the table's order (specs/Figures, `tabled`), 0 is no row's, and the book has its rows in that order.
-pub book_rows : map row_of tabled ≡ 1 ∷ 2 ∷ 3 ∷ 4 ∷ 5 ∷ 6 ∷ 7 ∷ 8 ∷ 9 ∷ 10 ∷ 11 ∷ 12 ∷ 13 ∷ 14 ∷ 15 ∷ 16 ∷ 17 ∷ 0 ∷ []
+pub book_rows : map row_of tabled ≡ 1 ∷ 2 ∷ 3 ∷ 4 ∷ 5 ∷ 6 ∷ 7 ∷ 8 ∷ 9 ∷ 10 ∷ 11 ∷ 12 ∷ 13 ∷ 14 ∷ 15 ∷ 0 ∷ []
 book_rows = figure.rows_numbered
 
 pub book_row_stands : (c : Class) → class_at (row_of c) ≡ c
@@ -85,22 +86,22 @@ pub fields_there : (ns : List ℕ) (head : ℕ) (xs : List ℕ) → Fit ns xs �
 fields_there = field.cut_packed
 
 -- and an item's first word is the prefix of its class with its content: card, chip and channel, or whatever the table names.
-pub item_first : (x : Item) → words_of x ≡ pack (widths (spelled x)) (nth (row_for x)).prefix (content x) ∷ later_words x
+pub item_first : (x : Item) → words_of x ≡ pack (widths (class_for x)) (nth (row_for x)).prefix (content x) ∷ later_words x
 item_first = written.first_word_lem
 
-pub item_content : (x : Item) → fits x ≡ true → cut (widths (spelled x)) (first_word x) ≡ content x
+pub item_content : (x : Item) → fits x ≡ true → cut (widths (class_for x)) (first_word x) ≡ content x
 item_content = written.content_cut
 
 -- the same of an item that is read at a word, whatever the words behind it
-pub item_fields : (w : ℕ) (ws : List ℕ) (x : Item) → ((i : ℕ) → get_or ws i 0 < 65536) → token_of w ws ≡ whole x → cut (widths (spelled x)) w ≡ content x
+pub item_fields : (w : ℕ) (ws : List ℕ) (x : Item) → ((i : ℕ) → get_or ws i 0 < 65536) → token_of w ws ≡ whole x → cut (widths (class_for x)) w ≡ content x
 item_fields = written.read_content
 
 -- and that first word is of the item's class
-pub item_class : (x : Item) → fits x ≡ true → class_of (first_word x) ≡ spelled x
+pub item_class : (x : Item) → fits x ≡ true → class_of (first_word x) ≡ class_for x
 item_class x f = (written.written x f).class
 
 -- "Words after it": an item is one word and as many as its class and that word say.
-pub item_count : (x : Item) → fits x ≡ true → length (words_of x) ≡ 1 + after (spelled x) (first_word x)
+pub item_count : (x : Item) → fits x ≡ true → length (words_of x) ≡ 1 + after (class_for x) (first_word x)
 item_count = written.words_count
 
 -- T4. There: an item that fits, read from its words, is itself, whatever stands behind it; that is then read as if the item were not there.
@@ -132,6 +133,10 @@ item_in_range = limit.range_fits
 pub item_data : (k : ℕ) (ws : List ℕ) → tokens k ws ≡ tokens 0 (drop k ws)
 item_data = item.tokens_skip
 
+-- "Channel headers in one event rise by their 14-bit content, so do Histogram headers": the key by which they are compared rises with it.
+pub key_rises : (a b c a' b' c' : ℕ) → b < 4 → c < 128 → b' < 4 → c' < 128 → (key a b c < key a' b' c') ↔ (header_bits a b c < header_bits a' b' c')
+key_rises = keys.key_rises
+
 -- FIGURES: the words that document 01 prints for the items of its cases 3 and 7, and a few more (proofs/book/BookFigures has words that are no
 -- item's as well), are what these items are written as, and are read as these items.
 pub figures_written : flatten (map words_of figures) ≡ figure_words
@@ -146,9 +151,7 @@ figures_read = figure.figures_read
 --
 --   limit                          constant of the code                                            numeral of `fits`, `obeys`
 --   card                           LAST_CARD, that of Channel, Histogram, HitCount                 31
---   chip of a header               Channel, Histogram ::LAST_CHIP                                  15
---   chip of a plain header word    LAST_PLAIN_CHIP, that of Channel, Histogram                     3, of `is_plain`
---   chip of the other items        HitCount, LastCell ::LAST_CHIP                                  3
+--   chip                           Channel, Histogram, HitCount, LastCell ::LAST_CHIP              3
 --   channel                        Channel, Histogram ::LAST                                       78
 --   hit count                      HitCount::MOST                                                  79
 --   sample value                   Sample::LAST                                                    4095

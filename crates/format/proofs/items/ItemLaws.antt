@@ -8,24 +8,55 @@ use mathlib.Core.Bool.{Bool, true, false, ◌&&◌}
 use mathlib.Core.Option.{Option, none, some}
 use native.Mathlib.Omega.{arith}
 use lib.Dec.{leb, ltb, lit<}
-use lib.Pow.{are_bytes}
+use lib.Pow.{are_bytes, mod-pow-add}
 use lib.ListN.{length, get_or, take, drop, length-append, length-drop, take-append-drop}
 use lib.Seq.{take_at, drop_at, length-take-le}
 use borrow.Author.Tests.{leb-true, eqb-true, le-leb, lt-ltb}
 use Rattle.format.specs.Words.{pick, words, bytes, long_of, time_of, long_words, time_words, non_zero}
-use Rattle.format.specs.Book.{Class, channel, histogram, hit_count, sample, bin, last_cell, time_bin, data_frame, monitor_frame, command_frame, text, start_event, continue_event, end_event, frame_end, extended_channel, extended_histogram, unassigned, class_of, after, assigned}
-use Rattle.format.specs.Items.{ItemOf, Item, Channel, Histogram, HitCount, Sample, Bin, LastCell, TimeBin, Text, StartEvent, ContinueEvent, EndEvent, header_bits, is_plain, spelled, words_of, fits, decode, Token, whole, flawed, token_for, token_of, tokens}
+use Rattle.format.specs.Book.{Class, channel, histogram, hit_count, sample, bin, last_cell, time_bin, data_frame, monitor_frame, command_frame, text, start_event, continue_event, end_event, frame_end, unassigned, class_of, after, assigned}
+use Rattle.format.specs.Items.{ItemOf, Item, Channel, Histogram, HitCount, Sample, Bin, LastCell, TimeBin, Text, StartEvent, ContinueEvent, EndEvent, class_for, header_bits, words_of, fits, decode, Token, whole, flawed, token_for, token_of, tokens}
 use Rattle.format.specs.Fields.{Read}
 use Rattle.format.proofs.book.PrefixLaws.{and_left, and_right, and_both}
 use Rattle.format.proofs.book.BookLaws.{ranged, in_range}
-use Rattle.format.proofs.items.HeaderLaws.{Written, three_there, three_back, three_fits, channel_spelling, histogram_spelling, header_written, plain_decoded, extended_decoded}
-use Rattle.format.proofs.items.WordLaws.{pick_elim, length_words, bytes_below, long_there, long_back, long_below, time_there, time_back, time_below, below_drop, below_take}
+use Rattle.format.proofs.items.WordLaws.{length_words, bytes_below, long_there, long_back, long_below, time_there, time_back, time_below, below_drop, below_take}
 use Rattle.format.proofs.items.TextLaws.{are_bytes_lem, bytes_are, text_there, text_back}
+
+-- three fields of a word below its head: card 5, chip 2, and 7 bits
+three_there : (h a b c : ℕ) → h % 16384 ≡ 0 → leb a 31 && leb b 3 && leb c 127 ≡ true
+    → (((h + header_bits a b c) / 512 % 32 ≡ a) × ((h + header_bits a b c) / 128 % 4 ≡ b)) × (((h + header_bits a b c) % 128 ≡ c) × (header_bits a b c < 16384))
+three_there h a b c e f =
+    let g = and_left (leb a 31 && leb b 3) (leb c 127) f in
+    let p : a ≤ 31 = leb-true a 31 (and_left (leb a 31) (leb b 3) g) in
+    let q : b ≤ 3 = leb-true b 3 (and_right (leb a 31) (leb b 3) g) in
+    let r : c ≤ 127 = leb-true c 127 (and_right (leb a 31 && leb b 3) (leb c 127) f) in
+    ((omega arith, omega arith), (omega arith, omega arith))
+
+-- the parts of 14 bits, apart from the word that they come from, so that omega has few quotients at a time
+three_parts : (w h m n a b c : ℕ) → w ≡ h + m → m ≡ a * 512 + n → n ≡ b * 128 + c → w ≡ h + header_bits a b c
+three_parts w h m n a b c e f g = omega arith
+
+three_back : (h w : ℕ) → h ≤ w → w < h + 16384 → h % 16384 ≡ 0 → w ≡ h + header_bits (w / 512 % 32) (w / 128 % 4) (w % 128)
+three_back h w p q e = three_parts w h (w % 16384) (w % 512) (w / 512 % 32) (w / 128 % 4) (w % 128) (omega arith) (mod-pow-add w 5 9) (mod-pow-add w 2 7)
+
+three_fits : (w : ℕ) → leb (w / 512 % 32) 31 && leb (w / 128 % 4) 3 && leb (w % 128) 127 ≡ true
+three_fits w =
+    and_both _ _ (and_both _ _ (le-leb (w / 512 % 32) 31 (omega arith)) (le-leb (w / 128 % 4) 3 (omega arith))) (le-leb (w % 128) 127 (omega arith))
+
+-- what an item is written as: its first word, of its class, and the words after it, which are as many as the class and the word say
+pub record Written (x : Item) (w : ℕ) (ws : List ℕ) : Type 0 where
+  pub words : words_of x ≡ w ∷ ws
+  pub class : class_of w ≡ class_for x
+  pub count : after (class_for x) w ≡ length ws
+  pub read : decode (class_for x) w ws ≡ some x
 
 written : (x : Item) → fits x ≡ true → (w : ℕ) × (ws : List ℕ) × Written x w ws
 unfolding words_of decode
-written (Channel a b c) f = header_written Channel channel extended_channel 0xC000 0x000D channel_spelling a b c f
-written (Histogram a b c) f = header_written Histogram histogram extended_histogram 0x8000 0x000E histogram_spelling a b c f
+written (Channel a b c) f =
+    let ((p, q), (r, l)) = three_there 0xC000 a b c refl f in
+    (0xC000 + header_bits a b c, [], record { words = refl; class = in_range _ 0 (lit< tt) (omega arith, omega arith); count = refl; read = rw (p, q, r) })
+written (Histogram a b c) f =
+    let ((p, q), (r, l)) = three_there 0x8000 a b c refl f in
+    (0x8000 + header_bits a b c, [], record { words = refl; class = in_range _ 1 (lit< tt) (omega arith, omega arith); count = refl; read = rw (p, q, r) })
 written (HitCount a b c) f =
     let ((p, q), (r, l)) = three_there 0x4000 a b c refl f in
     (0x4000 + header_bits a b c, [], record { words = refl; class = in_range _ 2 (lit< tt) (omega arith, omega arith); count = refl; read = rw (p, q, r) })
@@ -69,10 +100,10 @@ tokens_skip zero ws = refl
 tokens_skip (suc k) [] = refl
 tokens_skip (suc k) (w ∷ ws) = tokens_skip k ws
 
--- the class of an item's first word is an assigned one
-pub item_assigned : {T : Type 0} (x : ItemOf T) → assigned (spelled x) ≡ true
-item_assigned (Channel a b c) = pick_elim (λ (c : Class). assigned c ≡ true) (is_plain b) (λ e. refl) (λ e. refl)
-item_assigned (Histogram a b c) = pick_elim (λ (c : Class). assigned c ≡ true) (is_plain b) (λ e. refl) (λ e. refl)
+-- the class of an item is an assigned one
+pub item_assigned : {T : Type 0} (x : ItemOf T) → assigned (class_for x) ≡ true
+item_assigned (Channel a b c) = refl
+item_assigned (Histogram a b c) = refl
 item_assigned (HitCount a b c) = refl
 item_assigned (Sample v) = refl
 item_assigned (Bin b n) = refl
@@ -103,7 +134,7 @@ kept false o x e = let z : ◌≡◌ {A = ℕ} 0 1 = cc in absurd (omega arith)
 no_item : {A : Type 0} (x : Item) → ◌≡◌ {A = Option Item} none (some x) → A
 no_item x e = let z : ◌≡◌ {A = ℕ} 0 1 = cc in absurd (omega arith)
 
-read_as : (w : ℕ) (ws : List ℕ) (y x : Item) → some y ≡ some x → w ∷ ws ≡ words_of y → fits y ≡ true → spelled y ≡ class_of w → Read w ws x
+read_as : (w : ℕ) (ws : List ℕ) (y x : Item) → some y ≡ some x → w ∷ ws ≡ words_of y → fits y ≡ true → class_for y ≡ class_of w → Read w ws x
 read_as w ws y x e p q r = subst (Read w ws) (some_item y x e) (record { words = p; fits = q; class = r })
 
 alone : (w : ℕ) (ws : List ℕ) → length ws ≡ 0 → w ∷ ws ≡ w ∷ []
@@ -118,8 +149,12 @@ one_read w v ws e n = alone w ws n ∙ ap (λ (v : ℕ). v ∷ []) e
 
 decoded : (c : Class) (w : ℕ) (ws : List ℕ) (x : Item) → class_of w ≡ c → length ws ≡ after c w → ((i : ℕ) → get_or ws i 0 < 65536) → decode c w ws ≡ some x → Read w ws x
 unfolding decode words_of
-decoded channel w ws x k n b e = plain_decoded Channel channel extended_channel 0xC000 0x000D channel_spelling w ws x k n e
-decoded histogram w ws x k n b e = plain_decoded Histogram histogram extended_histogram 0x8000 0x000E histogram_spelling w ws x k n e
+decoded channel w ws x k n b e =
+    let (p, q) = ranged w channel k refl in
+    read_as w ws _ x e (three_read 0xC000 w ws p (omega arith) refl n) (three_fits w) (sym k)
+decoded histogram w ws x k n b e =
+    let (p, q) = ranged w histogram k refl in
+    read_as w ws _ x e (three_read 0x8000 w ws p (omega arith) refl n) (three_fits w) (sym k)
 decoded hit_count w ws x k n b e =
     let (p, q) = ranged w hit_count k refl in
     read_as w ws _ x e (three_read 0x4000 w ws p (omega arith) refl n) (three_fits w) (sym k)
@@ -176,8 +211,6 @@ decoded end_event w ws x k n b e =
     let v : w ≡ 0x00E0 = omega arith in
     read_as w ws _ x f (ap₂ ◌∷◌ v (long_back ws n b)) (lt-ltb (long_of ws) 4294967296 (long_below ws b)) (sym k)
 decoded frame_end w ws x k n b e = no_item x e
-decoded extended_channel w ws x k n b e = extended_decoded Channel channel extended_channel 0xC000 0x000D channel_spelling w ws x k n b e
-decoded extended_histogram w ws x k n b e = extended_decoded Histogram histogram extended_histogram 0x8000 0x000E histogram_spelling w ws x k n b e
 decoded unassigned w ws x k n b e = no_item x e
 
 -- what a token's tests let through

@@ -1,31 +1,29 @@
 -- What follows from reading back what was written: an item's words are its own, as many as its first word says, and its first word is its
 -- class's prefix with its content.
 -- Assumes nothing.
-use Prim.Native.Nat.{ℕ, suc, ◌+◌, ◌-◌, ◌*◌, ◌/◌, ◌%◌, ◌<◌, ◌≤◌}
-use mathlib.Core.Path.{◌≡◌, refl, sym, ap, subst, ◌∙◌}
+use Prim.Native.Nat.{ℕ, ◌+◌, ◌-◌, ◌%◌, ◌<◌}
+use mathlib.Core.Path.{◌≡◌, refl, sym, ap, ◌∙◌}
 use mathlib.Core.List.{List, [], ◌∷◌, ◌++◌, append-nil, append_cancel_left}
-use mathlib.Core.Bool.{Bool, true, false, ◌&&◌}
-use mathlib.Core.Logic.{◌↔◌}
+use mathlib.Core.Bool.{Bool, true, ◌&&◌}
 use mathlib.Core.Option.{Option, none, some}
 use native.Mathlib.Omega.{arith}
 use lib.Dec.{leb, ltb, eqb}
 use lib.Pow.{are_bytes}
 use lib.ListN.{length, get_or, take, drop, length-drop}
 use lib.Seq.{take_all}
-use borrow.Author.Tests.{leb-true, le-leb, lt-leb}
-use Rattle.format.specs.Words.{pick, words, bytes, long_of, long_words, time_words, non_zero}
-use Rattle.format.specs.Book.{Class, channel, histogram, hit_count, sample, bin, last_cell, time_bin, data_frame, monitor_frame, command_frame, text, start_event, continue_event, end_event, frame_end, extended_channel, extended_histogram, unassigned, class_of, row_of, after, nth}
-use Rattle.format.specs.Items.{ItemOf, Item, Channel, Histogram, HitCount, Sample, Bin, LastCell, TimeBin, Text, StartEvent, ContinueEvent, EndEvent, is_plain, spelled, words_of, fits, closed, extended, decode, Token, whole, token_of, tokens}
-use Rattle.format.specs.Fields.{cut, Fit, widths, extended_widths, content, row_for, later_words, first_word}
-use Rattle.format.proofs.book.PrefixLaws.{and_left, and_right, and_both}
+use borrow.Author.Tests.{leb-true}
+use Rattle.format.specs.Words.{words, bytes, long_of, long_words, time_words, non_zero}
+use Rattle.format.specs.Book.{Class, channel, histogram, hit_count, sample, bin, last_cell, time_bin, data_frame, monitor_frame, command_frame, text, start_event, continue_event, end_event, frame_end, unassigned, class_of, after, nth}
+use Rattle.format.specs.Items.{ItemOf, Item, Channel, Histogram, HitCount, Sample, Bin, LastCell, TimeBin, Text, StartEvent, ContinueEvent, EndEvent, class_for, words_of, fits, closed, decode, Token, whole, token_of, tokens}
+use Rattle.format.specs.Fields.{cut, Fit, widths, content, row_for, later_words, first_word}
+use Rattle.format.proofs.book.PrefixLaws.{and_left, and_right}
 use Rattle.format.proofs.items.WordLaws.{pick_elim}
-use Rattle.format.proofs.items.HeaderLaws.{Written, Spelling, plain_chip, plain_fits, extended_is}
-use Rattle.format.proofs.items.ItemLaws.{read_written, written_read, token_passed, tokens_skip}
+use Rattle.format.proofs.items.ItemLaws.{Written, read_written, written_read, token_passed, tokens_skip}
 use Rattle.format.proofs.book.FieldLaws.{cut_packed}
 
-pub row_class : {T : Type 0} (x : ItemOf T) → (nth (row_for x)).class ≡ spelled x
-row_class (Channel a b c) = pick_elim (λ (c : Class). (nth (row_of c - 1)).class ≡ c) (is_plain b) (λ e. refl) (λ e. refl)
-row_class (Histogram a b c) = pick_elim (λ (c : Class). (nth (row_of c - 1)).class ≡ c) (is_plain b) (λ e. refl) (λ e. refl)
+pub row_class : {T : Type 0} (x : ItemOf T) → (nth (row_for x)).class ≡ class_for x
+row_class (Channel a b c) = refl
+row_class (Histogram a b c) = refl
 row_class (HitCount a b c) = refl
 row_class (Sample v) = refl
 row_class (Bin b n) = refl
@@ -39,16 +37,8 @@ row_class (EndEvent n) = refl
 -- T3, put in: the first word is the prefix of the item's row with its content below it
 pub first_word_lem : (x : Item) → words_of x ≡ first_word x ∷ later_words x
 unfolding words_of
-first_word_lem (Channel a b c) = go (is_plain b) refl
-  where
-    go : (p : Bool) → is_plain b ≡ p → words_of (Channel a b c) ≡ first_word (Channel a b c) ∷ later_words (Channel a b c)
-    go true e = rw e (ap (λ (w : ℕ). w ∷ []) (omega arith))
-    go false e = rw e (ap (λ (v : ℕ). 0x000D ∷ v ∷ []) (omega arith))
-first_word_lem (Histogram a b c) = go (is_plain b) refl
-  where
-    go : (p : Bool) → is_plain b ≡ p → words_of (Histogram a b c) ≡ first_word (Histogram a b c) ∷ later_words (Histogram a b c)
-    go true e = rw e (ap (λ (w : ℕ). w ∷ []) (omega arith))
-    go false e = rw e (ap (λ (v : ℕ). 0x000E ∷ v ∷ []) (omega arith))
+first_word_lem (Channel a b c) = ap (λ (w : ℕ). w ∷ []) (omega arith)
+first_word_lem (Histogram a b c) = ap (λ (w : ℕ). w ∷ []) (omega arith)
 first_word_lem (HitCount a b c) = ap (λ (w : ℕ). w ∷ []) (omega arith)
 first_word_lem (Sample v) = ap (λ (w : ℕ). w ∷ []) (omega arith)
 first_word_lem (Bin b n) = ap (λ (w : ℕ). w ∷ long_words n) (omega arith)
@@ -65,7 +55,7 @@ three_tests p q r e =
     let f = and_left (p && q) r e in
     (and_left p q f, and_right p q f, and_right (p && q) r e)
 
-pub three_fit : (a b c : ℕ) → leb a 31 && leb b 3 && leb c 127 ≡ true → Fit (5 ∷ 2 ∷ 7 ∷ []) (a ∷ b ∷ c ∷ [])
+three_fit : (a b c : ℕ) → leb a 31 && leb b 3 && leb c 127 ≡ true → Fit (5 ∷ 2 ∷ 7 ∷ []) (a ∷ b ∷ c ∷ [])
 three_fit a b c f =
     let (p, q, r) = three_tests (leb a 31) (leb b 3) (leb c 127) f in
     let h = leb-true a 31 p in
@@ -73,23 +63,10 @@ three_fit a b c f =
     let l = leb-true c 127 r in
     (omega arith, (omega arith, (omega arith, tt)))
 
-pub key_fit : (a b c : ℕ) → leb a 31 && leb b 15 && leb c 127 ≡ true → Fit extended_widths (a ∷ b ∷ c ∷ [])
-key_fit a b c f =
-    let (p, q, r) = three_tests (leb a 31) (leb b 15) (leb c 127) f in
-    let h = leb-true a 31 p in
-    let k = leb-true b 15 q in
-    let l = leb-true c 127 r in
-    (omega arith, (omega arith, (omega arith, tt)))
-
--- a header's content in either spelling
-header_fit : (p : Bool) (c d : Class) (xs : List ℕ) → (p ≡ true → Fit (widths c) xs) → Fit (widths d) [] → Fit (widths (pick p c d)) (pick p xs [])
-header_fit true c d xs f g = f refl
-header_fit false c d xs f g = g
-
 -- an item that fits has a content that fits its fields
-pub content_fit : (x : Item) → fits x ≡ true → Fit (widths (spelled x)) (content x)
-content_fit (Channel a b c) f = header_fit (is_plain b) channel extended_channel (a ∷ b ∷ c ∷ []) (λ e. three_fit a b c (plain_fits a b c e f)) tt
-content_fit (Histogram a b c) f = header_fit (is_plain b) histogram extended_histogram (a ∷ b ∷ c ∷ []) (λ e. three_fit a b c (plain_fits a b c e f)) tt
+pub content_fit : (x : Item) → fits x ≡ true → Fit (widths (class_for x)) (content x)
+content_fit (Channel a b c) f = three_fit a b c f
+content_fit (Histogram a b c) f = three_fit a b c f
 content_fit (HitCount a b c) f = three_fit a b c f
 content_fit (Sample v) f = let h = leb-true v 4095 f in (omega arith, tt)
 content_fit (Bin b n) f = let h = leb-true b 4095 (and_left (leb b 4095) (ltb n 4294967296) f) in (omega arith, tt)
@@ -108,8 +85,8 @@ content_fit (ContinueEvent n) f = (omega arith, tt)
 content_fit (EndEvent n) f = (omega arith, tt)
 
 -- T3, cut out: the fields cut from an item's first word are its content
-pub content_cut : (x : Item) → fits x ≡ true → cut (widths (spelled x)) (first_word x) ≡ content x
-content_cut x f = cut_packed (widths (spelled x)) (nth (row_for x)).prefix (content x) (content_fit x f)
+pub content_cut : (x : Item) → fits x ≡ true → cut (widths (class_for x)) (first_word x) ≡ content x
+content_cut x f = cut_packed (widths (class_for x)) (nth (row_for x)).prefix (content x) (content_fit x f)
 
 -- OWN WORDS
 
@@ -133,21 +110,18 @@ some_item x y e = cc
 
 -- what is read of a class is an item of that class
 abbrev OfClass : Class → Option Item → Type 0
-OfClass c o = (x : Item) → o ≡ some x → spelled x ≡ c
+OfClass c o = (x : Item) → o ≡ some x → class_for x ≡ c
 
-of_item : (c : Class) (y : Item) → spelled y ≡ c → OfClass c (some y)
-of_item c y k x e = ap spelled (sym (some_item y x e)) ∙ k
+of_item : (c : Class) (y : Item) → class_for y ≡ c → OfClass c (some y)
+of_item c y k x e = ap class_for (sym (some_item y x e)) ∙ k
 
 of_none : (c : Class) → OfClass c none
 of_none c x e = let z : ◌≡◌ {A = ℕ} 0 1 = cc in absurd (omega arith)
 
-of_extended : (header : ℕ → ℕ → ℕ → Item) (d : Class) (v : ℕ) → ((a b k : ℕ) → is_plain b ≡ false → spelled (header a b k) ≡ d) → OfClass d (extended header v)
-of_extended header d v s x e = let (i, j) = extended_is header v x e in ap spelled (sym j) ∙ s _ _ _ i
-
 pub decode_class : (c : Class) (w : ℕ) (ws : List ℕ) → OfClass c (decode c w ws)
 unfolding decode
-decode_class channel w ws = of_item channel _ (rw (plain_chip w))
-decode_class histogram w ws = of_item histogram _ (rw (plain_chip w))
+decode_class channel w ws = of_item channel _ refl
+decode_class histogram w ws = of_item histogram _ refl
 decode_class hit_count w ws = of_item hit_count _ refl
 decode_class sample w ws = of_item sample _ refl
 decode_class bin w ws = of_item bin _ refl
@@ -161,8 +135,6 @@ decode_class start_event w ws = of_item start_event _ refl
 decode_class continue_event w ws = pick_elim (OfClass continue_event) (eqb (w % 512) 0) (λ t. of_item continue_event (ContinueEvent (long_of ws)) refl) (λ t. of_none continue_event)
 decode_class end_event w ws = pick_elim (OfClass end_event) (eqb (w % 16) 0) (λ t. of_item end_event (EndEvent (long_of ws)) refl) (λ t. of_none end_event)
 decode_class frame_end w ws = of_none frame_end
-decode_class extended_channel w ws = of_extended Channel extended_channel (get_or ws 0 0) (λ a b k e. rw e)
-decode_class extended_histogram w ws = of_extended Histogram extended_histogram (get_or ws 0 0) (λ a b k e. rw e)
 decode_class unassigned w ws = of_none unassigned
 
 head_token : (t : Token) (x : Item) (ts : List Token) → t ∷ ts ≡ whole x ∷ [] → t ≡ whole x
@@ -188,7 +160,7 @@ written x f =
     let d : length (drop n ws) ≡ 0 = no_tokens (drop n ws) (sym (tokens_skip n ws) ∙ tail_token _ x _ t) in
     let m : n ≡ length ws = omega (arith, p.there, length-drop n ws) in
     let r : decode (class_of w) w ws ≡ some x = ap (decode (class_of w) w) (sym (take_all n ws (omega arith))) ∙ p.read in
-    let c : class_of w ≡ spelled x = sym (decode_class (class_of w) w ws x r) in
+    let c : class_of w ≡ class_for x = sym (decode_class (class_of w) w ws x r) in
     record {
       words = first_word_lem x;
       class = c;
@@ -196,26 +168,8 @@ written x f =
       read = ap (λ (c : Class). decode c w ws) (sym c) ∙ r;
     }
 
--- ONE SPELLING: exactly one list of words is read as the item, and it is the item's
-pub one_spelling : (x : Item) → fits x ≡ true → (ws : List ℕ) → ((i : ℕ) → get_or ws i 0 < 65536) → (tokens 0 ws ≡ whole x ∷ []) ↔ (ws ≡ words_of x)
-unfolding tokens
-one_spelling x f ws b = (there ws b, back)
-  where
-    there : (ws : List ℕ) → ((i : ℕ) → get_or ws i 0 < 65536) → tokens 0 ws ≡ whole x ∷ [] → ws ≡ words_of x
-    there [] b e = let z : ◌≡◌ {A = ℕ} 0 1 = cc in absurd (omega arith)
-    there (w ∷ ws) b e =
-        let h : token_of w ws ≡ whole x = head_token _ x _ e in
-        let n = after (class_of w) w in
-        let d : length (drop n ws) ≡ 0 = no_tokens (drop n ws) (sym (tokens_skip n ws) ∙ tail_token _ x _ e) in
-        let r = written_read w ws x (λ i. b (suc i)) h in
-        let m : length ws ≤ n = omega (arith, length-drop n ws) in
-        ap (λ (l : List ℕ). w ∷ l) (sym (take_all n ws m)) ∙ r.words
-
-    back : ws ≡ words_of x → tokens 0 ws ≡ whole x ∷ []
-    back e = ap (tokens 0) (e ∙ sym (append-nil (words_of x))) ∙ read_written x [] f
-
 -- an item has one word and those after it
-pub words_count : (x : Item) → fits x ≡ true → length (words_of x) ≡ 1 + after (spelled x) (first_word x)
+pub words_count : (x : Item) → fits x ≡ true → length (words_of x) ≡ 1 + after (class_for x) (first_word x)
 words_count x f = let h = written x f in ap length h.words ∙ omega (arith, h.count)
 
 -- READ: what is read at a word has the content that is cut from the word
@@ -226,20 +180,5 @@ head_word w v ws vs e = cc
 pub read_first : (w : ℕ) (ws : List ℕ) (x : Item) → ((i : ℕ) → get_or ws i 0 < 65536) → token_of w ws ≡ whole x → w ≡ first_word x
 read_first w ws x b e = head_word w (first_word x) _ _ ((written_read w ws x b e).words ∙ first_word_lem x)
 
-pub read_content : (w : ℕ) (ws : List ℕ) (x : Item) → ((i : ℕ) → get_or ws i 0 < 65536) → token_of w ws ≡ whole x → cut (widths (spelled x)) w ≡ content x
-read_content w ws x b e = ap (cut (widths (spelled x))) (read_first w ws x b e) ∙ content_cut x (written_read w ws x b e).fits
-
--- a header's one list of words, plain or extended by its chip
-module _ (header : ℕ → ℕ → ℕ → Item) (c d : Class) (h e : ℕ) (law : Spelling header c d h e) (a b k : ℕ) (p : a ≤ 31) (r : k ≤ 127)
-    (ws : List ℕ) (below : (i : ℕ) → get_or ws i 0 < 65536) where
-  in_fields : b ≤ 15 → fits (header a b k) ≡ true
-  in_fields q = law.fit a b k ∙ and_both _ _ (and_both _ _ (le-leb a 31 p) (le-leb b 15 q)) (le-leb k 127 r)
-
-  spelling_is : (l : List ℕ) → b ≤ 15 → words_of (header a b k) ≡ l → (tokens 0 ws ≡ whole (header a b k) ∷ []) ↔ (ws ≡ l)
-  spelling_is l q i = subst (λ (l : List ℕ). (tokens 0 ws ≡ whole (header a b k) ∷ []) ↔ (ws ≡ l)) i (one_spelling (header a b k) (in_fields q) ws below)
-
-  pub plain_spelling : b ≤ 3 → (tokens 0 ws ≡ whole (header a b k) ∷ []) ↔ (ws ≡ (h + (a * 512 + b * 128 + k)) ∷ [])
-  plain_spelling q = spelling_is _ (omega arith) (law.words a b k ∙ rw (le-leb b 3 q))
-
-  pub extended_spelling : 4 ≤ b → b ≤ 15 → (tokens 0 ws ≡ whole (header a b k) ∷ []) ↔ (ws ≡ e ∷ (a * 2048 + b * 128 + k) ∷ [])
-  extended_spelling l q = spelling_is _ q (law.words a b k ∙ rw (lt-leb b 3 (omega arith)))
+pub read_content : (w : ℕ) (ws : List ℕ) (x : Item) → ((i : ℕ) → get_or ws i 0 < 65536) → token_of w ws ≡ whole x → cut (widths (class_for x)) w ≡ content x
+read_content w ws x b e = ap (cut (widths (class_for x))) (read_first w ws x b e) ∙ content_cut x (written_read w ws x b e).fits

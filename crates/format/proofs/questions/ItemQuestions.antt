@@ -19,7 +19,6 @@ use Rattle.format.specs.Rules.{Kind, same}
 use Rattle.format.specs.Frames.{Frame, Sound, all_words, frame_words, encode, last_of, verdict}
 use Rattle.format.specs.Questions.{IndexedItem, nth, item_at, text_in, text_found, text_at, pick_nth}
 use Rattle.format.specs.Stands.{ItemIs, index_of}
-use Rattle.format.proofs.items.HeaderLaws.{channel_long, histogram_long, header_some}
 use Rattle.format.proofs.book.PrefixLaws.{and_left, and_right}
 use Rattle.format.proofs.items.WordLaws.{bytes_append, length_bytes, length_words}
 use Rattle.format.proofs.items.TextLaws.{are_bytes_lem, text_there}
@@ -98,8 +97,8 @@ all_words_lem (x ∷ xs) ys = ap (λ (l : List ℕ). words_of x ++ l) (all_words
 -- an item has a word
 pub some_word : (x : Item) → 1 ≤ length (words_of x)
 unfolding words_of
-some_word (Channel a b c) = omega (arith, channel_long a b c, header_some b)
-some_word (Histogram a b c) = omega (arith, histogram_long a b c, header_some b)
+some_word (Channel a b c) = omega arith
+some_word (Histogram a b c) = omega arith
 some_word (HitCount a b c) = omega arith
 some_word (Sample v) = omega arith
 some_word (Bin b n) = omega arith

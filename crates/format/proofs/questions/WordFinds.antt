@@ -17,7 +17,6 @@ use Rattle.format.specs.Items.{Item, Channel, Histogram, HitCount, Sample, Bin, 
 use Rattle.format.specs.Rules.{Kind, same, in_event, count, among}
 use Rattle.format.specs.Frames.{Sound, earlier_then, all_words}
 use Rattle.format.specs.Questions.{Behind, Opened, events, pick_nth, present, until, past, past_at, is_channel, is_histogram, channel_in, channel_at, sample_word, bin_word}
-use Rattle.format.proofs.items.HeaderLaws.{header_long, channel_long, histogram_long}
 use Rattle.format.proofs.questions.ItemQuestions.{no_some, some_is, all_words_lem}
 use Rattle.format.proofs.questions.EventQuestions.{picked_inside, picked_event, event_picked}
 use Rattle.format.proofs.questions.FindLaws.{as_channel, event_items, present_is}
@@ -242,7 +241,7 @@ channel_items e chip c xs = go (pick_nth e (events 3 xs))
 -- the items before it, and the word behind it
 pub record Headed (xs : List Item) (e chip c : ℕ) (b : Behind) : Type 0 where
   pub channel : ChannelIn xs e chip c b.items
-  pub index : b.index ≡ 3 + length (all_words channel.within.before) + length (words_of channel.within.opener) + length (all_words channel.left) + header_long chip
+  pub index : b.index ≡ 3 + length (all_words channel.within.before) + length (words_of channel.within.opener) + length (all_words channel.left) + 1
 
 pub headed_at : (xs : List Item) (e chip c : ℕ) (b : Behind) → channel_at e chip c xs ≡ accepted b → Headed xs e chip c b
 unfolding channel_at words_of
@@ -256,7 +255,7 @@ headed_at xs e chip c b i = go (pick_nth e (events 3 xs)) refl i
         let m : o.inside ≡ 3 + length (all_words h.before) + length (words_of h.opener) = picked_inside xs e o.event h o p in
         let r = passed_at (is_channel chip c) o.inside (until end_event o.items) b q in
         let (a, j) = as_channel chip c r.item r.passes in
-        let n : length (words_of r.item) ≡ header_long chip = ap (λ (x : Item). length (words_of x)) j ∙ channel_long a chip c in
+        let n : length (words_of r.item) ≡ 1 = ap (λ (x : Item). length (words_of x)) j in
         record {
           channel = record { event = o.event; within = h; left = r.before; card = a; header = sym l ∙ r.split ∙ ap (λ (x : Item). r.before ++ (x ∷ b.items)) j };
           index = omega (arith, r.index);
@@ -415,13 +414,12 @@ same_bins ys zs b n m x y q h =
     (omega (arith, bins_counted x.before x.same_histogram, bins_counted y.before y.same_histogram))
 
 pub sample_long : (xs ys : List Item) (e chip c t n : ℕ) (h : ChannelIn xs e chip c ys) (k : SampleIn ys t n)
-    → length (all_words (before_sample h k)) ≡ length (all_words h.within.before) + length (words_of h.within.opener) + length (all_words h.left) + header_long chip + length (all_words (k.before ++ (TimeBin k.time ∷ k.run)))
+    → length (all_words (before_sample h k)) ≡ length (all_words h.within.before) + length (words_of h.within.opener) + length (all_words h.left) + 1 + length (all_words (k.before ++ (TimeBin k.time ∷ k.run)))
 unfolding all_words words_of
 sample_long xs ys e chip c t n h k =
     let run : List Item = k.before ++ (TimeBin k.time ∷ k.run) in
-    omega (arith, words_long h.within.before (h.within.opener ∷ (h.left ++ (Channel h.card chip c ∷ run))), length-append (words_of h.within.opener) (all_words (h.left ++ (Channel h.card chip c ∷ run))), words_long h.left (Channel h.card chip c ∷ run), length-append (words_of (Channel h.card chip c)) (all_words run), channel_long h.card chip c)
+    omega (arith, words_long h.within.before (h.within.opener ∷ (h.left ++ (Channel h.card chip c ∷ run))), length-append (words_of h.within.opener) (all_words (h.left ++ (Channel h.card chip c ∷ run))), words_long h.left (Channel h.card chip c ∷ run))
 
-pub bin_long : (xs ys : List Item) (chip c b n : ℕ) (h : HistogramIn xs chip c ys) (k : BinIn ys b n) → length (all_words (before_bin h k)) ≡ length (all_words h.left) + header_long chip + length (all_words k.before)
+pub bin_long : (xs ys : List Item) (chip c b n : ℕ) (h : HistogramIn xs chip c ys) (k : BinIn ys b n) → length (all_words (before_bin h k)) ≡ length (all_words h.left) + 1 + length (all_words k.before)
 unfolding all_words words_of
-bin_long xs ys chip c b n h k =
-    omega (arith, words_long h.left (Histogram h.card chip c ∷ k.before), length-append (words_of (Histogram h.card chip c)) (all_words k.before), histogram_long h.card chip c)
+bin_long xs ys chip c b n h k = omega (arith, words_long h.left (Histogram h.card chip c ∷ k.before))

@@ -7,7 +7,7 @@ use mathlib.Core.List.{List, [], ◌∷◌, ◌++◌, append_assoc}
 use mathlib.Core.Logic.{◌↔◌}
 use mathlib.Core.Option.{Option, none, some}
 use native.Mathlib.Omega.{arith}
-use lib.ListN.{length, get_or, length-append}
+use lib.ListN.{length, get_or}
 use Rattle.format.specs.Words.{Bytes}
 use Rattle.format.specs.Answers.{Outcome, accepted, refused, and_then}
 use Rattle.format.specs.Book.{channel, histogram, bin, sample}
@@ -159,13 +159,13 @@ module _ (s : List ℕ) (bs : Bytes s) (f : Frame) (v : verdict s ≡ accepted f
       at_word h p k =
           let r = passed_at (is_histogram chip c) 3 f.items h p in
           let (a, j) = as_histogram chip c r.item r.passes in
-          let long : length (words_of r.item) ≡ length (words_of (Histogram a chip c)) = ap (λ (x : Item). length (words_of x)) j in (
+          let one : length (words_of r.item) ≡ 1 = ap (λ (x : Item). length (words_of x)) j in (
             k.count_is,
             record {
               items = h.items;
               histogram = record { left = r.before; card = a; header = r.split ∙ ap (λ (x : Item). r.before ++ (x ∷ h.items)) j };
               bin = k.is;
-              index = omega (arith, k.index, r.index, words_long r.before (Histogram a chip c ∷ k.is.before), length-append (words_of (Histogram a chip c)) (all_words k.is.before));
+              index = omega (arith, k.index, r.index, words_long r.before (Histogram a chip c ∷ k.is.before));
             },
           )
 

@@ -14,7 +14,7 @@ use borrow.Author.Tests.{le-leb, lt-leb, lt-ltb, le-ltb, leb-true, ltb-true, eqb
 use Rattle.format.specs.Words.{pick, Bytes, words, bytes, word_at, long_at, time_at}
 use Rattle.format.specs.Answers.{accepted}
 use Rattle.format.specs.Book.{Class, channel, histogram, hit_count, sample, bin, last_cell, time_bin, text, start_event, continue_event, end_event, class_of, after, assigned}
-use Rattle.format.specs.Items.{ItemOf, Item, Channel, Histogram, HitCount, Sample, Bin, LastCell, TimeBin, Text, StartEvent, ContinueEvent, EndEvent, class_for, spelled, words_of, decode, Token, whole, broken, flawed, token_for, tokens}
+use Rattle.format.specs.Items.{ItemOf, Item, Channel, Histogram, HitCount, Sample, Bin, LastCell, TimeBin, Text, StartEvent, ContinueEvent, EndEvent, class_for, words_of, decode, Token, whole, broken, flawed, token_for, tokens}
 use Rattle.format.specs.Rules.{Kind, same}
 use Rattle.format.specs.Frames.{Frame, earlier_then, Allowed, Sound, start_word, all_words, frame_words, encode, last_of, verdict}
 use Rattle.format.specs.Steps.{token_at, next_at, rest}
@@ -154,7 +154,7 @@ stood s at x n e = go (leb 3 at && ltb at (last_of s)) refl e
 pub record Turn (s : List ℕ) (at : ℕ) (g : On s at) (x : Item) (n : ℕ) : Type 0 where
   pub there : standing_at s at ≡ some (record { item = x; next = n })
   pub token : token_at s (last_of s) at ≡ whole x
-  pub class : spelled x ≡ class_of (word_at s at)
+  pub class : class_for x ≡ class_of (word_at s at)
   pub split : items_from s at ≡ x ∷ items_from s n
   pub follow : next_at s at ≡ n
   pub wide : n ≡ at + length (words_of x)

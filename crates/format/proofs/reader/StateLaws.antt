@@ -10,7 +10,7 @@ use lib.ListN.{length}
 use lib.Dec.{leb, ltb, eqb}
 use borrow.Author.Tests.{leb-true, leb-false, le-leb, lt-leb, ltb-true, ltb-false, ne_eqb}
 use Rattle.format.specs.Words.{pick}
-use Rattle.format.specs.Book.{Class, channel, histogram, hit_count, sample, bin, last_cell, time_bin, data_frame, monitor_frame, command_frame, text, start_event, continue_event, end_event, frame_end, extended_channel, extended_histogram, unassigned}
+use Rattle.format.specs.Book.{Class, channel, histogram, hit_count, sample, bin, last_cell, time_bin, data_frame, monitor_frame, command_frame, text, start_event, continue_event, end_event, frame_end, unassigned}
 use Rattle.format.specs.Items.{Item, Channel, Histogram, HitCount, Sample, Bin, LastCell, TimeBin, Text, StartEvent, ContinueEvent, EndEvent, class_for, words_of, in_range, key, Token, whole, broken, flawed}
 use Rattle.format.specs.Rules.{Kind, data_kind, monitor_kind, command_kind, same, since, before, count, has, latest, total, gather, channel_key, histogram_key, bin_number, start_time, head_or_zero, above, openers, in_event, begun, time, last_time, ReaderMode, fresh, outside, inside, after_channel, after_time, after_sample, unheaded, headed, commands, inside_after, between_events, mode_after, allowed, among, place, event_size, value, order, Checked, good, bad, check}
 use Rattle.format.specs.Steps.{Marks, ReaderState, above_all, opener_after, first_after, lead_after, marks_after, state_of, start, value_by, marks_channel, marks_start, marks_end, paused, order_by, state_after, check_by, open_in}
@@ -67,8 +67,6 @@ within_data start_event = tt
 within_data continue_event = tt
 within_data end_event = tt
 within_data frame_end = tt
-within_data extended_channel = tt
-within_data extended_histogram = tt
 within_data unassigned = tt
 
 in_data : (p : List Item) → InData (mode_after data_kind p)
@@ -102,8 +100,6 @@ open_in_lem p = go (in_event p)
     within continue_event = refl
     within end_event = refl
     within frame_end = refl
-    within extended_channel = refl
-    within extended_histogram = refl
     within unassigned = refl
 
     between : (q : List Item) → open_in (between_events q) ≡ false

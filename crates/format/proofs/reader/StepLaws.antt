@@ -12,12 +12,11 @@ use lib.ListN.{length, get_or, take, drop, length-append, length-drop, drop_of_l
 use lib.Seq.{drop-cons, drop-drop, get_or-take, length-take-le}
 use Rattle.format.specs.Words.{pick, words, bytes, word_at, long_of}
 use Rattle.format.specs.Answers.{Outcome, accepted, refused, and_then}
-use Rattle.format.specs.Book.{Class, channel, histogram, hit_count, sample, bin, last_cell, time_bin, data_frame, monitor_frame, command_frame, text, start_event, continue_event, end_event, frame_end, extended_channel, extended_histogram, unassigned, class_of, after}
-use Rattle.format.specs.Items.{Item, Channel, Histogram, Text, ContinueEvent, EndEvent, words_of, closed, decode, Token, whole, broken, flawed, token_of, tokens}
+use Rattle.format.specs.Book.{Class, channel, histogram, hit_count, sample, bin, last_cell, time_bin, data_frame, monitor_frame, command_frame, text, start_event, continue_event, end_event, frame_end, unassigned, class_of, after}
+use Rattle.format.specs.Items.{Item, Text, ContinueEvent, EndEvent, words_of, closed, decode, Token, whole, broken, flawed, token_of, tokens}
 use Rattle.format.specs.Rules.{Kind, total, Checked, good, bad, check}
 use Rattle.format.specs.Frames.{width, walk}
 use Rattle.format.specs.Steps.{ReaderState, state_of, start, check_by, token_at, next_at, rest, Stepped, moved, stopped, marked, step_of, index_in, Summary, summary, summed}
-use Rattle.format.proofs.items.HeaderLaws.{plain_chip, extended_is, channel_long, histogram_long}
 use Rattle.format.proofs.items.WordLaws.{length_words, word_at_lem}
 use Rattle.format.proofs.items.TextLaws.{TextRead, text_back}
 use Rattle.format.proofs.items.ItemLaws.{tokens_skip, Passed, token_passed}
@@ -52,8 +51,8 @@ text_width n ws e h =
 
 decode_width : (c : Class) (w : ℕ) (ws : List ℕ) (x : Item) → length ws ≡ after c w → decode c w ws ≡ some x → length (words_of x) ≡ 1 + after c w
 unfolding decode words_of
-decode_width channel w ws x n e = same_words _ x 1 e (channel_long (w / 512 % 32) (w / 128 % 4) (w % 128) ∙ rw (plain_chip w))
-decode_width histogram w ws x n e = same_words _ x 1 e (histogram_long (w / 512 % 32) (w / 128 % 4) (w % 128) ∙ rw (plain_chip w))
+decode_width channel w ws x n e = same_words _ x 1 e refl
+decode_width histogram w ws x n e = same_words _ x 1 e refl
 decode_width hit_count w ws x n e = same_words _ x 1 e refl
 decode_width sample w ws x n e = same_words _ x 1 e refl
 decode_width bin w ws x n e = same_words _ x 3 e refl
@@ -67,12 +66,6 @@ decode_width start_event w ws x n e = same_words _ x 6 e refl
 decode_width continue_event w ws x n e = let (t, f) = kept (eqb (w % 512) 0) (some (ContinueEvent (long_of ws))) x e in same_words (ContinueEvent (long_of ws)) x 3 f refl
 decode_width end_event w ws x n e = let (t, f) = kept (eqb (w % 16) 0) (some (EndEvent (long_of ws))) x e in same_words (EndEvent (long_of ws)) x 3 f refl
 decode_width frame_end w ws x n e = no_item x e
-decode_width extended_channel w ws x n e =
-    let (i, j) = extended_is Channel (get_or ws 0 0) x e in
-    same_words _ x 2 (ap some j) (channel_long (get_or ws 0 0 / 2048 % 32) (get_or ws 0 0 / 128 % 16) (get_or ws 0 0 % 128) ∙ rw i)
-decode_width extended_histogram w ws x n e =
-    let (i, j) = extended_is Histogram (get_or ws 0 0) x e in
-    same_words _ x 2 (ap some j) (histogram_long (get_or ws 0 0 / 2048 % 32) (get_or ws 0 0 / 128 % 16) (get_or ws 0 0 % 128) ∙ rw i)
 decode_width unassigned w ws x n e = no_item x e
 
 -- ---- the tokens from a word on

@@ -7,14 +7,13 @@ use mathlib.Core.Bool.{Bool, true, false, true≢false}
 use mathlib.Core.Option.{Option, none, some}
 use native.Mathlib.Omega.{arith}
 use lib.Dec.{eqb}
-use lib.ListN.{length, get_or, take, drop}
+use lib.ListN.{length, take, drop}
 use lib.Seq.{take-take, length-take-le}
 use Rattle.format.specs.Words.{Bytes, pick, words, bytes, word_at, long_of}
-use Rattle.format.specs.Book.{Class, channel, histogram, hit_count, sample, bin, last_cell, time_bin, data_frame, monitor_frame, command_frame, text, start_event, continue_event, end_event, frame_end, extended_channel, extended_histogram, unassigned, class_of, after, text_words}
-use Rattle.format.specs.Items.{Item, Channel, Histogram, Text, ContinueEvent, EndEvent, class_for, closed, decode, whole}
+use Rattle.format.specs.Book.{Class, channel, histogram, hit_count, sample, bin, last_cell, time_bin, data_frame, monitor_frame, command_frame, text, start_event, continue_event, end_event, frame_end, unassigned, class_of, after, text_words}
+use Rattle.format.specs.Items.{Item, Text, ContinueEvent, EndEvent, class_for, closed, decode, whole}
 use Rattle.format.specs.Rules.{same}
 use Rattle.format.specs.Steps.{token_at}
-use Rattle.format.proofs.items.HeaderLaws.{extended_is}
 use Rattle.format.proofs.items.TextLaws.{text_back}
 use Rattle.format.proofs.items.ItemLaws.{token_passed}
 use Rattle.format.proofs.reader.StepLaws.{left_after}
@@ -60,8 +59,6 @@ decode_text end_event w ws t e =
     let (c, f) = kept (eqb (w % 16) 0) (some (EndEvent (long_of ws))) (Text t) e in
     other (EndEvent (long_of ws)) t refl f
 decode_text frame_end w ws t e = no_some (Text t) e
-decode_text extended_channel w ws t e = let (i, j) = extended_is Channel (get_or ws 0 0) (Text t) e in other _ t refl (ap some j)
-decode_text extended_histogram w ws t e = let (i, j) = extended_is Histogram (get_or ws 0 0) (Text t) e in other _ t refl (ap some j)
 decode_text unassigned w ws t e = no_some (Text t) e
 
 module _ (s : List ℕ) (last at : ℕ) (room : 2 * last ≤ length s) (h : at < last) (t : List ℕ) (e : token_at s last at ≡ whole (Text t)) where

@@ -12,8 +12,8 @@ use lib.ListN.{length, get_or, take, drop}
 use lib.Seq.{get_or-drop, get_or-take}
 use borrow.Author.Tests.{le-leb, lt-leb, eq-eqb, ne_eqb}
 use Rattle.format.specs.Words.{pick, words, bytes, word_at, long_at, time_at, long_of, time_of}
-use Rattle.format.specs.Book.{Class, channel, histogram, hit_count, sample, bin, last_cell, time_bin, data_frame, monitor_frame, command_frame, text, start_event, continue_event, end_event, frame_end, unassigned, class_of, after, plain, assigned, text_words}
-use Rattle.format.specs.Items.{Item, Channel, Histogram, HitCount, Sample, Bin, LastCell, TimeBin, Text, StartEvent, ContinueEvent, EndEvent, is_plain, closed, extended, decode, Token, whole, broken, flawed, token_for, token_of}
+use Rattle.format.specs.Book.{Class, channel, histogram, hit_count, sample, bin, last_cell, time_bin, data_frame, monitor_frame, command_frame, text, start_event, continue_event, end_event, frame_end, unassigned, class_of, after, assigned, text_words}
+use Rattle.format.specs.Items.{Item, Channel, Histogram, HitCount, Sample, Bin, LastCell, TimeBin, Text, StartEvent, ContinueEvent, EndEvent, closed, decode, Token, whole, broken, flawed, token_for, token_of}
 use Rattle.format.specs.Rules.{Checked, good, bad}
 use Rattle.format.specs.Steps.{ReaderState, check_by, token_at, next_at, Stepped, moved, stopped, marked, step_of}
 use Rattle.format.proofs.items.WordLaws.{word_at_lem}
@@ -132,28 +132,6 @@ module _ (s : List ℕ) (last at : ℕ) where
     end_broken k l z =
         let w = there end_event (broken end_event) 2 k refl refl (omega arith) (rw (ne_eqb (word_at s at % 16) 0 z)) in
         record { token = w.token; follow = w.follow ∙ add_assoc at 1 2 }
-
-    -- an extended header's word after its first
-    header_after : at + 2 ≤ last → get_or (take 1 (drop (at + 1) (take last (words s)))) 0 0 ≡ word_at s (at + 1)
-    header_after l = word_after 1 0 (omega arith) (omega arith) ∙ ap (λ (i : ℕ). word_at s i) (add-zero (at + 1))
-
-    pub header_there : (header : ℕ → ℕ → ℕ → Item) (c : Class) → c ≡ class_of (word_at s at) → assigned c ≡ true → after c (word_at s at) ≡ 1
-        → ((ws : List ℕ) → decode c (word_at s at) ws ≡ extended header (get_or ws 0 0)) → at + 2 ≤ last → is_plain (word_at s (at + 1) / 128 % 16) ≡ false
-        → Stands s last at (whole (header (word_at s (at + 1) / 2048 % 32) (word_at s (at + 1) / 128 % 16) (word_at s (at + 1) % 128))) (at + 2)
-    header_there header c k a z d l i =
-        let ws : List ℕ = take 1 (drop (at + 1) (take last (words s))) in
-        let v : ℕ = word_at s (at + 1) in
-        let t : Token = whole (header (v / 2048 % 32) (v / 128 % 16) (v % 128)) in
-        let w = there c t 1 k a z (omega arith) (ap (token_for c) (d ws ∙ ap (extended header) (header_after l)) ∙ rw i) in
-        record { token = w.token; follow = w.follow ∙ add_assoc at 1 1 }
-
-    pub header_broken : (header : ℕ → ℕ → ℕ → Item) (c : Class) → c ≡ class_of (word_at s at) → assigned c ≡ true → after c (word_at s at) ≡ 1
-        → ((ws : List ℕ) → decode c (word_at s at) ws ≡ extended header (get_or ws 0 0)) → at + 2 ≤ last → is_plain (word_at s (at + 1) / 128 % 16) ≡ true
-        → Stands s last at (broken (plain c)) (at + 2)
-    header_broken header c k a z d l i =
-        let ws : List ℕ = take 1 (drop (at + 1) (take last (words s))) in
-        let w = there c (broken (plain c)) 1 k a z (omega arith) (ap (token_for c) (d ws ∙ ap (extended header) (header_after l)) ∙ rw i) in
-        record { token = w.token; follow = w.follow ∙ add_assoc at 1 1 }
 
     -- a text's bytes stand right after its word
     pub text_there : text ≡ class_of (word_at s at) → at + 1 + text_words (word_at s at) ≤ last

@@ -8,7 +8,7 @@ use native.Mathlib.Omega.{arith}
 use lib.ListN.{length, length-append}
 use borrow.Author.Tests.{le-leb}
 use Rattle.format.specs.Words.{pick}
-use Rattle.format.specs.Book.{Class, channel, histogram, hit_count, sample, bin, last_cell, time_bin, data_frame, monitor_frame, command_frame, text, start_event, continue_event, end_event, frame_end, extended_channel, extended_histogram, unassigned}
+use Rattle.format.specs.Book.{Class, channel, histogram, hit_count, sample, bin, last_cell, time_bin, data_frame, monitor_frame, command_frame, text, start_event, continue_event, end_event, frame_end, unassigned}
 use Rattle.format.specs.Items.{Item, Channel, Histogram, HitCount, Sample, Bin, LastCell, TimeBin, Text, StartEvent, ContinueEvent, EndEvent, class_for, words_of}
 use Rattle.format.specs.Rules.{Kind, data_kind, monitor_kind, command_kind, same, since, count, has, latest, total, in_event, openers, begun, between_events, inside_after, outside, headed, unheaded, allowed, among, place}
 use Rattle.format.specs.Frames.{Allowed, Sound, earlier_then, all_words}
@@ -134,8 +134,6 @@ no_start_within start_event = refl
 no_start_within continue_event = refl
 no_start_within end_event = refl
 no_start_within frame_end = refl
-no_start_within extended_channel = refl
-no_start_within extended_histogram = refl
 no_start_within unassigned = refl
 
 no_continue_within : (c : Class) → among continue_event (allowed (inside_after c)) ≡ false
@@ -154,8 +152,6 @@ no_continue_within start_event = refl
 no_continue_within continue_event = refl
 no_continue_within end_event = refl
 no_continue_within frame_end = refl
-no_continue_within extended_channel = refl
-no_continue_within extended_histogram = refl
 no_continue_within unassigned = refl
 
 -- in a monitor frame only these two classes have a place

@@ -7,7 +7,7 @@ use mathlib.Core.Bool.{Bool, true, false, ◌||◌, true≢false}
 use mathlib.Core.Logic.{◌⊎◌, inl, inr}
 use lib.ListN.{get_or}
 use borrow.Author.Tests.{eqb-true}
-use Rattle.format.specs.Book.{Class, channel, histogram, hit_count, sample, bin, last_cell, time_bin, data_frame, monitor_frame, command_frame, text, start_event, continue_event, end_event, frame_end, extended_channel, extended_histogram, unassigned, row_of}
+use Rattle.format.specs.Book.{Class, channel, histogram, hit_count, sample, bin, last_cell, time_bin, data_frame, monitor_frame, command_frame, text, start_event, continue_event, end_event, frame_end, unassigned, row_of}
 use Rattle.format.specs.Items.{Item, Channel, Histogram, HitCount, Sample, Bin, LastCell, TimeBin, Text, StartEvent, ContinueEvent, EndEvent, class_for}
 use Rattle.format.specs.Rules.{same, among}
 
@@ -43,7 +43,7 @@ abbrev class_at : ℕ → Class
 class_at n =
     get_or
     (unassigned ∷ channel ∷ histogram ∷ hit_count ∷ sample ∷ bin ∷ last_cell ∷ time_bin ∷ data_frame ∷ monitor_frame ∷ command_frame ∷ text ∷ start_event
-    ∷ end_event ∷ frame_end ∷ continue_event ∷ extended_channel ∷ extended_histogram ∷ []) n unassigned
+    ∷ end_event ∷ frame_end ∷ continue_event ∷ []) n unassigned
 
 row_back : (c : Class) → class_at (row_of c) ≡ c
 row_back channel = refl
@@ -61,8 +61,6 @@ row_back start_event = refl
 row_back continue_event = refl
 row_back end_event = refl
 row_back frame_end = refl
-row_back extended_channel = refl
-row_back extended_histogram = refl
 row_back unassigned = refl
 
 pub same_class : (c d : Class) → same c d ≡ true → c ≡ d

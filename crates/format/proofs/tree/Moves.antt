@@ -11,8 +11,8 @@ use lib.Dec.{leb, ltb}
 use lib.ListN.{length}
 use borrow.Author.Tests.{leb-true, leb-false, eqb-true, le-leb, lt-leb, eq-eqb, ltb-true, ltb-false}
 use Rattle.format.specs.Words.{pick}
-use Rattle.format.specs.Book.{Class, channel, histogram, hit_count, sample, bin, last_cell, time_bin, data_frame, monitor_frame, command_frame, text, start_event, continue_event, end_event, frame_end, extended_channel, extended_histogram, unassigned}
-use Rattle.format.specs.Items.{Item, Channel, Histogram, HitCount, Sample, Bin, LastCell, TimeBin, Text, StartEvent, ContinueEvent, EndEvent, class_for, words_of, in_range, key}
+use Rattle.format.specs.Book.{Class, channel, histogram, hit_count, sample, bin, last_cell, time_bin, data_frame, monitor_frame, command_frame, text, start_event, continue_event, end_event, frame_end, unassigned}
+use Rattle.format.specs.Items.{Item, Channel, Histogram, HitCount, Sample, Bin, LastCell, TimeBin, Text, StartEvent, ContinueEvent, EndEvent, class_for, header_bits, words_of, in_range, key}
 use Rattle.format.specs.Rules.{Kind, data_kind, monitor_kind, command_kind, same, since, before, count, has, latest, total, gather, channel_key, histogram_key, bin_number, above, openers, in_event, begun, time, last_time, ReaderMode, fresh, outside, inside, after_channel, after_time, after_sample, unheaded, headed, inside_after, between_events, mode_after, allowed, among, place, may_end, event_size, sized, value, order}
 use Rattle.format.specs.Frames.{Allowed}
 use Rattle.format.specs.Steps.{ended_by}
@@ -67,14 +67,14 @@ pub data Move : State → Item → State → Type 0 where
   continues : (n : ℕ) → Move begin (ContinueEvent n) (amid false 0 3)
   counts : (st : State) (h : Bool) (m n a b c : ℕ) → Body st h m n → Move st (HitCount a b c) (amid h m (n + 1))
   cells : (st : State) (h : Bool) (m n a b : ℕ) → Body st h m n → Move st (LastCell a b) (amid h m (n + 1))
-  opens : (st : State) (h : Bool) (m n a b c : ℕ) → Body st h m n → m ≤ key a b c → Move st (Channel a b c) (opened h (suc (key a b c)) (n + length (words_of (Channel a b c))))
+  opens : (st : State) (h : Bool) (m n a b c : ℕ) → Body st h m n → m ≤ header_bits a b c → Move st (Channel a b c) (opened h (suc (header_bits a b c)) (n + 1))
   ends : (st : State) (h : Bool) (m n z : ℕ) → Body st h m n → EndSize h n z → Move st (EndEvent z) out
   times : (h : Bool) (m n t : ℕ) → Move (opened h m n) (TimeBin t) (timed h m (n + 1) t)
   first : (h : Bool) (m n t v : ℕ) → t ≤ 511 → Move (timed h m n t) (Sample v) (sampled h m (n + 1) (t + 1))
   next : (h : Bool) (m n t v : ℕ) → t ≤ 511 → Move (sampled h m n t) (Sample v) (sampled h m (n + 1) (t + 1))
   later : (h : Bool) (m n t u : ℕ) → t + 1 ≤ u → Move (sampled h m n t) (TimeBin u) (timed h m (n + 1) u)
-  heads : (a b c : ℕ) → Move empty (Histogram a b c) (filling (suc (key a b c)) 0)
-  heads_next : (m k a b c : ℕ) → m ≤ key a b c → Move (filling m k) (Histogram a b c) (filling (suc (key a b c)) 0)
+  heads : (a b c : ℕ) → Move empty (Histogram a b c) (filling (suc (header_bits a b c)) 0)
+  heads_next : (m k a b c : ℕ) → m ≤ header_bits a b c → Move (filling m k) (Histogram a b c) (filling (suc (header_bits a b c)) 0)
   fills : (m k b n : ℕ) → k ≤ b → Move (filling m k) (Bin b n) (filling m (suc b))
   says : (s : List ℕ) → Move texts (Text s) texts
 
@@ -95,7 +95,7 @@ pub data Moves : State → List Item → Type 0 where
 pub record InEvent (card : ℕ) (p : List Item) (h : Bool) (m n : ℕ) : Type 0 where
   pub opened : in_event p ≡ true
   pub here : begun p ≡ h
-  pub keys : (b c : ℕ) → above (key card b c) (gather channel_key (since start_event p)) ≡ leb m (key card b c)
+  pub keys : (b c : ℕ) → above (key card b c) (gather channel_key (since start_event p)) ≡ leb m (header_bits card b c)
   pub words : total (since start_event p) ≡ n
 
 pub record Left (card : ℕ) (p : List Item) (h : Bool) (m n : ℕ) (w : ReaderMode) : Type 0 where
@@ -111,7 +111,7 @@ pub record Shut (p : List Item) : Type 0 where
 pub record Filled (card : ℕ) (p : List Item) (m k : ℕ) : Type 0 where
   pub stands : mode_after monitor_kind p ≡ headed
   pub ended : may_end p ≡ true
-  pub keys : (b c : ℕ) → above (key card b c) (gather histogram_key p) ≡ leb m (key card b c)
+  pub keys : (b c : ℕ) → above (key card b c) (gather histogram_key p) ≡ leb m (header_bits card b c)
   pub bins : (b : ℕ) → above b (gather bin_number (since histogram p)) ≡ leb k b
 
 abbrev pub Leaves : ℕ → List Item → State → Type 0
@@ -168,8 +168,6 @@ ended_within start_event = refl
 ended_within continue_event = refl
 ended_within end_event = refl
 ended_within frame_end = refl
-ended_within extended_channel = refl
-ended_within extended_histogram = refl
 ended_within unassigned = refl
 
 -- an item of one word that neither ends the event nor heads a channel
@@ -246,25 +244,25 @@ module _ (card : ℕ) where
   end_size p false m n z i = (λ e. tt, λ e. rw i.here)
 
   -- a header is above those before it exactly where its content is one that may come next
-  header_order : (a b c m : ℕ) (ks : List ℕ) → a ≡ card → above (key card b c) ks ≡ leb m (key card b c) → (above (key a b c) ks ≡ true) ↔ (m ≤ key a b c)
+  header_order : (a b c m : ℕ) (ks : List ℕ) → a ≡ card → above (key card b c) ks ≡ leb m (header_bits card b c) → (above (key a b c) ks ≡ true) ↔ (m ≤ header_bits a b c)
   header_order a b c m ks e k =
-      let f : above (key a b c) ks ≡ leb m (key a b c) = subst (λ (a : ℕ). above (key a b c) ks ≡ leb m (key a b c)) (sym e) k in
-      (λ h. leb-true m (key a b c) (sym f ∙ h), λ h. f ∙ le-leb m (key a b c) h)
+      let f : above (key a b c) ks ≡ leb m (header_bits a b c) = subst (λ (a : ℕ). above (key a b c) ks ≡ leb m (header_bits a b c)) (sym e) k in
+      (λ h. leb-true m (header_bits a b c) (sym f ∙ h), λ h. f ∙ le-leb m (header_bits a b c) h)
 
   -- the rules of headers
-  pub channel_order : (p : List Item) (h : Bool) (m n a b c : ℕ) → InEvent card p h m n → a ≡ card → (order p (Channel a b c) ≡ true) ↔ (m ≤ key a b c)
+  pub channel_order : (p : List Item) (h : Bool) (m n a b c : ℕ) → InEvent card p h m n → a ≡ card → (order p (Channel a b c) ≡ true) ↔ (m ≤ header_bits a b c)
   channel_order p h m n a b c i e = header_order a b c m (gather channel_key (since start_event p)) e (i.keys b c)
 
-  pub histogram_order : (p : List Item) (m a b c : ℕ) → ((b c : ℕ) → above (key card b c) (gather histogram_key p) ≡ leb m (key card b c)) → a ≡ card
-      → (order p (Histogram a b c) ≡ true) ↔ (m ≤ key a b c)
+  pub histogram_order : (p : List Item) (m a b c : ℕ) → ((b c : ℕ) → above (key card b c) (gather histogram_key p) ≡ leb m (header_bits card b c)) → a ≡ card
+      → (order p (Histogram a b c) ≡ true) ↔ (m ≤ header_bits a b c)
   histogram_order p m a b c k e = header_order a b c m (gather histogram_key p) e (k b c)
 
   -- and those above a header
-  above_header : (a b c m : ℕ) (ks : List ℕ) → a ≡ card → ((b c : ℕ) → above (key card b c) ks ≡ leb m (key card b c)) → m ≤ key a b c
-      → (b' c' : ℕ) → above (key card b' c') (key a b c ∷ ks) ≡ leb (suc (key a b c)) (key card b' c')
+  above_header : (a b c m : ℕ) (ks : List ℕ) → a ≡ card → ((b c : ℕ) → above (key card b c) ks ≡ leb m (header_bits card b c)) → m ≤ header_bits a b c
+      → (b' c' : ℕ) → above (key card b' c') (key a b c ∷ ks) ≡ leb (suc (header_bits a b c)) (header_bits card b' c')
   unfolding above
   above_header a b c m ks e k l b' c' =
-      rise (key card b' c') (key a b c) (key card b' c') (key a b c) m (above (key card b' c') ks) (λ h. omega arith) (λ h. omega arith) l (k b' c')
+      rise (key card b' c') (key a b c) (header_bits card b' c') (header_bits a b c) m (above (key card b' c') ks) (λ h. omega arith) (λ h. omega arith) l (k b' c')
 
   -- what the items leave after a Start event, a Channel, a Histogram, a Bin
   after_start : (p : List Item) (t ts n : ℕ) → Left card (StartEvent t ts n ∷ p) true 0 6 inside
@@ -275,7 +273,7 @@ module _ (card : ℕ) where
         event = record {
           opened = o;
           here = le-leb 1 (1 + count start_event (since end_event p)) (omega arith);
-          keys = λ b c. sym (le-leb 0 (key card b c) (omega arith));
+          keys = λ b c. sym (le-leb 0 (header_bits card b c) (omega arith));
           words = refl;
         };
         stands = stands_after p (StartEvent t ts n) o;
@@ -286,13 +284,13 @@ module _ (card : ℕ) where
   unfolding since count gather total above words_of
   after_continue p n e = subst (λ (q : List Item). Left card (ContinueEvent n ∷ q) false 0 3 inside) (sym e)
       (record {
-        event = record { opened = refl; here = refl; keys = λ b c. sym (le-leb 0 (key card b c) (omega arith)); words = refl };
+        event = record { opened = refl; here = refl; keys = λ b c. sym (le-leb 0 (header_bits card b c) (omega arith)); words = refl };
         stands = refl;
         ended = refl;
       })
 
-  after_channel_lem : (p : List Item) (h : Bool) (m n a b c : ℕ) → a ≡ card → m ≤ key a b c → InEvent card p h m n
-      → Left card (Channel a b c ∷ p) h (suc (key a b c)) (n + length (words_of (Channel a b c))) after_channel
+  after_channel_lem : (p : List Item) (h : Bool) (m n a b c : ℕ) → a ≡ card → m ≤ header_bits a b c → InEvent card p h m n
+      → Left card (Channel a b c ∷ p) h (suc (header_bits a b c)) (n + 1) after_channel
   unfolding since gather total words_of
   after_channel_lem p h m n a b c e l i =
       let o = still_open p (Channel a b c) refl i.opened in
@@ -307,8 +305,8 @@ module _ (card : ℕ) where
         ended = refl;
       }
 
-  after_histogram : (p : List Item) (m a b c : ℕ) → a ≡ card → m ≤ key a b c
-      → ((b c : ℕ) → above (key card b c) (gather histogram_key p) ≡ leb m (key card b c)) → Filled card (Histogram a b c ∷ p) (suc (key a b c)) 0
+  after_histogram : (p : List Item) (m a b c : ℕ) → a ≡ card → m ≤ header_bits a b c
+      → ((b c : ℕ) → above (key card b c) (gather histogram_key p) ≡ leb m (header_bits card b c)) → Filled card (Histogram a b c ∷ p) (suc (header_bits a b c)) 0
   unfolding since gather above
   after_histogram p m a b c e l k =
       record {
@@ -328,9 +326,9 @@ module _ (card : ℕ) where
         bins = λ b'. rise b' b b' b k (above b' (gather bin_number (since histogram p))) (λ h. h) (λ h. h) l (f.bins b');
       }
 
-  empty_keys : (p : List Item) → p ≡ [] → (b c : ℕ) → above (key card b c) (gather histogram_key p) ≡ leb 0 (key card b c)
+  empty_keys : (p : List Item) → p ≡ [] → (b c : ℕ) → above (key card b c) (gather histogram_key p) ≡ leb 0 (header_bits card b c)
   unfolding gather above
-  empty_keys p e b c = ap (λ (p : List Item). above (key card b c) (gather histogram_key p)) e ∙ sym (le-leb 0 (key card b c) (omega arith))
+  empty_keys p e b c = ap (λ (p : List Item). above (key card b c) (gather histogram_key p)) e ∙ sym (le-leb 0 (header_bits card b c) (omega arith))
 
   -- the time that the next sample has
   time_bin_lem : (p : List Item) (t : ℕ) → time (TimeBin t ∷ p) ≡ t

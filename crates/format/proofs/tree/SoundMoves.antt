@@ -6,11 +6,10 @@ use mathlib.Core.List.{List, [], ◌∷◌}
 use mathlib.Core.Bool.{Bool, true, false, true≢false}
 use mathlib.Core.Logic.{inl, inr}
 use native.Mathlib.Omega.{arith}
-use lib.ListN.{length}
 use lib.Dec.{eqb}
 use borrow.Author.Tests.{leb-true}
 use Rattle.format.specs.Book.{Class, channel, hit_count, sample, last_cell, time_bin, end_event}
-use Rattle.format.specs.Items.{Item, Channel, Histogram, EndEvent, class_for, key, words_of, in_range}
+use Rattle.format.specs.Items.{Item, Channel, Histogram, EndEvent, class_for, header_bits, in_range}
 use Rattle.format.specs.Rules.{Kind, data_kind, monitor_kind, command_kind, since, has, time, last_time, ReaderMode, fresh, outside, inside, after_channel, after_time, after_sample, unheaded, headed, commands, mode_after, allowed, among, place, may_end, sized, value, order}
 use Rattle.format.specs.Frames.{earlier_then, Allowed, Sound}
 use Rattle.format.specs.Tree.{Limited}
@@ -34,7 +33,7 @@ module _ (card : ℕ) where
   body_move st p h m n x ds d i v o (inr (inl (is_last_cell a b))) k = (amid h m (n + 1), cells st h m n a b d)
   body_move st p h m n x ds d i v o (inr (inr (inl (is_channel a b c)))) k =
       let e = ((limits card (Channel a b c)).0 (ranged p (Channel a b c) v)).0 in
-      (opened h (suc (key a b c)) (n + length (words_of (Channel a b c))), opens st h m n a b c d ((channel_order card p h m n a b c i e).0 o))
+      (opened h (suc (header_bits a b c)) (n + 1), opens st h m n a b c d ((channel_order card p h m n a b c i e).0 o))
   body_move st p h m n x ds d i v o (inr (inr (inr (inl (is_end_event z))))) k =
       (out, ends st h m n z d ((end_size card p h m n z i).0 (and_right (in_range card (EndEvent z)) (sized p (EndEvent z)) v)))
   body_move st p h m n x ds d i v o (inr (inr (inr (inr g)))) k = k g
@@ -64,13 +63,13 @@ module _ (card : ℕ) where
   sampled_move p h m n t x e f s o (inr (inr g)) = absurd g
 
   empty_move : (x : Item) → OneOf (allowed unheaded) x → Moved empty x
-  empty_move x (inl (is_histogram a b c)) = (filling (suc (key a b c)) 0, heads a b c)
+  empty_move x (inl (is_histogram a b c)) = (filling (suc (header_bits a b c)) 0, heads a b c)
   empty_move x (inr h) = absurd h
 
   filling_move : (p : List Item) (m k : ℕ) (x : Item) → Filled card p m k → value card p x ≡ true → order p x ≡ true → OneOf (allowed headed) x → Moved (filling m k) x
   filling_move p m k x f v o (inl (is_histogram a b c)) =
       let e = ((limits card (Histogram a b c)).0 (ranged p (Histogram a b c) v)).0 in
-      (filling (suc (key a b c)) 0, heads_next m k a b c ((histogram_order card p m a b c f.keys e).0 o))
+      (filling (suc (header_bits a b c)) 0, heads_next m k a b c ((histogram_order card p m a b c f.keys e).0 o))
   filling_move p m k x f v o (inr (inl (is_bin b n))) = (filling m (suc b), fills m k b n (leb-true k b (sym (f.bins b) ∙ o)))
   filling_move p m k x f v o (inr (inr h)) = absurd h
 

@@ -7,7 +7,7 @@ use mathlib.Core.List.{List, [], ◌∷◌}
 use mathlib.Core.Bool.{Bool, true, false}
 use native.Mathlib.Omega.{arith}
 use lib.ListN.{length, length-append}
-use Rattle.format.specs.Items.{Item, Channel, Histogram, HitCount, Sample, Bin, LastCell, TimeBin, Text, StartEvent, ContinueEvent, EndEvent, key, words_of}
+use Rattle.format.specs.Items.{Item, Channel, Histogram, HitCount, Sample, Bin, LastCell, TimeBin, Text, StartEvent, ContinueEvent, EndEvent, header_bits, words_of}
 use Rattle.format.specs.Frames.{all_words}
 use Rattle.format.specs.Tree.{Stretch, stretch, Part, hits, cell, pulse, Event, event, Bar, bar, Pedestal, pedestal, new, ending, Tail, shut, opening, Readout, events, through, of_samples, of_stretches, of_parts, of_events, of_tail, of_readout, of_bars, of_pedestals, of_texts, Rising, Spaced, AllSpaced, channels, Ordered, AllEvents, TailOrdered, ReadoutOrdered, bin_numbers, histograms, AllBars}
 use Rattle.format.proofs.tree.Moves.{State, begin, out, amid, opened, timed, sampled, empty, filling, texts, Body, free, past, Outer, at_first, at_next, EndSize, starts, continues, counts, cells, opens, ends, times, first, next, later, heads, heads_next, fills, says, at_outer, at_body, at_empty, at_filling, at_texts, Moves, done, move}
@@ -75,11 +75,10 @@ module _ (h : Bool) where
       (parts_moves ps (amid h m (n + 1)) m (n + 1) xs (free h m (n + 1)) s r
       (λ st' m' n' d f. k st' m' n' d (λ ys. omega (arith, f ys, one_word (LastCell a₁ a₂) (of_parts ps ys) refl))))
   parts_moves (pulse a₁ a₂ a₃ (stretch t v vs) rs ∷ ps) st m n xs b s r k =
-      let m₂ : ℕ = suc (key a₁ a₂ a₃) in
-      let w : ℕ = length (words_of (Channel a₁ a₂ a₃)) in
+      let m₂ : ℕ = suc (header_bits a₁ a₂ a₃) in
       move _ _ _ _ (opens st h m n a₁ a₂ a₃ b r.0)
-      (move _ _ _ _ (times h m₂ (n + w) t)
-      (run_moves v vs m₂ (n + w + 1) t (of_stretches rs (of_parts ps xs)) s.0.1
+      (move _ _ _ _ (times h m₂ (n + 1) t)
+      (run_moves v vs m₂ (n + 1 + 1) t (of_stretches rs (of_parts ps xs)) s.0.1
       (λ n₁ t₁ e f. runs_moves rs m₂ n₁ t₁ (of_parts ps xs) (subst (λ (k : ℕ). Spaced k rs) (omega arith) s.0.2)
       (λ n₂ t₂ g. parts_moves ps (sampled h m₂ n₂ t₂) m₂ n₂ xs (past h m₂ n₂ t₂) s.1 r.1
       (λ st' m' n' d i. k st' m' n' d
@@ -89,7 +88,7 @@ module _ (h : Bool) where
         g (of_parts ps ys),
         f (of_stretches rs (of_parts ps ys)),
         one_word (TimeBin t) (Sample v ∷ of_samples vs (of_stretches rs (of_parts ps ys))) refl,
-        count_cons (Channel a₁ a₂ a₃) (TimeBin t ∷ Sample v ∷ of_samples vs (of_stretches rs (of_parts ps ys))),
+        one_word (Channel a₁ a₂ a₃) (TimeBin t ∷ Sample v ∷ of_samples vs (of_stretches rs (of_parts ps ys))) refl,
       )))))))
 
 -- an event's parts with which the frame ends
@@ -133,13 +132,13 @@ unfolding of_pedestals Rising histograms AllBars
 pedestals_moves [] m k r l = done (filling m k) (at_filling m k)
 pedestals_moves (pedestal a b c bs ∷ hs) m k r l =
     move _ _ _ _ (heads_next m k a b c r.0)
-    (bars_moves bs (suc (key a b c)) 0 (of_pedestals hs) l.0 (λ k'. pedestals_moves hs (suc (key a b c)) k' r.1 l.1))
+    (bars_moves bs (suc (header_bits a b c)) 0 (of_pedestals hs) l.0 (λ k'. pedestals_moves hs (suc (header_bits a b c)) k' r.1 l.1))
 
 pub monitor_moves : (hs : List Pedestal) → Rising 0 (histograms hs) → AllBars hs → Moves empty (of_pedestals hs)
 unfolding of_pedestals Rising histograms AllBars
 monitor_moves [] r l = done empty at_empty
 monitor_moves (pedestal a b c bs ∷ hs) r l =
-    move _ _ _ _ (heads a b c) (bars_moves bs (suc (key a b c)) 0 (of_pedestals hs) l.0 (λ k'. pedestals_moves hs (suc (key a b c)) k' r.1 l.1))
+    move _ _ _ _ (heads a b c) (bars_moves bs (suc (header_bits a b c)) 0 (of_pedestals hs) l.0 (λ k'. pedestals_moves hs (suc (header_bits a b c)) k' r.1 l.1))
 
 pub texts_moves : (ss : List (List ℕ)) → Moves texts (of_texts ss)
 unfolding of_texts
@@ -258,8 +257,7 @@ in_body st h m n xs (past _ _ _ t) u b =
     }
 
 -- a Channel before its runs is a part
-channel_part : (h : Bool) (m n a b c : ℕ) (xs : List Item) → m ≤ key a b c → InChannel h (suc (key a b c)) (n + length (words_of (Channel a b c))) xs
-    → InBody h m n (Channel a b c ∷ xs)
+channel_part : (h : Bool) (m n a b c : ℕ) (xs : List Item) → m ≤ header_bits a b c → InChannel h (suc (header_bits a b c)) (n + 1) xs → InBody h m n (Channel a b c ∷ xs)
 unfolding of_stretches of_parts Rising Spaced AllSpaced channels words_of
 channel_part h m n a b c xs l i =
     let r = i.stretch in
@@ -273,7 +271,7 @@ channel_part h m n a b c xs l i =
       spaced = ((omega arith, omega (arith, f.fits), subst (λ (k : ℕ). Spaced k f.runs) (omega arith) f.apart), f.spaced);
       rising = (l, f.rising);
       sized = subst (Sized h f.after)
-          (omega (arith, one_word (Sample r.sample) counted refl, one_word (TimeBin i.start) sampled refl, count_cons (Channel a b c) (TimeBin i.start ∷ sampled)))
+          (omega (arith, one_word (Sample r.sample) counted refl, one_word (TimeBin i.start) sampled refl, one_word (Channel a b c) (TimeBin i.start ∷ sampled) refl))
           f.sized;
       lawful = f.lawful;
       leaves =
@@ -370,7 +368,7 @@ build xs st (move _ _ _ ys (cells _ g m n a₁ a₂ d) ms) h =
       leaves = ap (λ (l : List Item). LastCell a₁ a₂ ∷ l) b.leaves;
     })
 build xs st (move _ _ _ ys (opens _ g m n a₁ a₂ a₃ d l) ms) h =
-    in_body st g m n xs d h (channel_part g m n a₁ a₂ a₃ ys l (build ys (opened g (suc (key a₁ a₂ a₃)) (n + length (words_of (Channel a₁ a₂ a₃)))) ms tt))
+    in_body st g m n xs d h (channel_part g m n a₁ a₂ a₃ ys l (build ys (opened g (suc (header_bits a₁ a₂ a₃)) (n + 1)) ms tt))
 build xs st (move _ _ _ ys (ends _ g m n z d e) ms) h =
     let (es, o, l, u, f) = build ys out ms tt in
     in_body st g m n xs d h
@@ -408,10 +406,10 @@ build xs st (move _ _ _ ys (next g m n t v l) ms) h =
     }
 build xs st (move _ _ _ ys (later g m n t u l) ms) h = later_run g m n t u ys h l (build ys (timed g m (n + 1) u) ms tt)
 build xs st (move _ _ _ ys (heads a b c) ms) h =
-    let f = build ys (filling (suc (key a b c)) 0) ms tt in
+    let f = build ys (filling (suc (header_bits a b c)) 0) ms tt in
     (pedestal a b c f.bars ∷ f.pedestals, (omega arith, f.rising), (f.bins, f.all), ap (λ (l : List Item). Histogram a b c ∷ l) f.leaves)
 build xs st (move _ _ _ ys (heads_next m k a b c l) ms) h =
-    let f = build ys (filling (suc (key a b c)) 0) ms tt in
+    let f = build ys (filling (suc (header_bits a b c)) 0) ms tt in
     record {
       bars = [];
       pedestals = pedestal a b c f.bars ∷ f.pedestals;

@@ -11,7 +11,7 @@ use lib.ListN.{length, get_or, take, drop, length-drop, take-append-drop}
 use lib.Seq.{drop-cons, get_or-take, length-take-le}
 use borrow.Author.Tests.{leb-true, leb-false, eqb-true, eqb-false}
 use Rattle.format.specs.Words.{Bytes, words, word_at}
-use Rattle.format.specs.Book.{Class, channel, histogram, hit_count, sample, bin, last_cell, time_bin, data_frame, monitor_frame, command_frame, text, start_event, continue_event, end_event, frame_end, extended_channel, extended_histogram, unassigned, class_of, after, plain, assigned}
+use Rattle.format.specs.Book.{Class, channel, histogram, hit_count, sample, bin, last_cell, time_bin, data_frame, monitor_frame, command_frame, text, start_event, continue_event, end_event, frame_end, unassigned, class_of, after, assigned}
 use Rattle.format.specs.Items.{Item, class_for, words_of, fits, in_range, decode, Token, whole, broken, token_for, token_of, tokens}
 use Rattle.format.specs.Rules.{place, sized, value, order, bad, check}
 use Rattle.format.specs.Frames.{Allowed, is_start, length_fits, start_fits, last_of, head_fault, kind_in, card_in}
@@ -20,7 +20,6 @@ use Rattle.format.specs.Fields.{Read}
 use Rattle.format.proofs.book.PrefixLaws.{and_left, and_right}
 use Rattle.format.proofs.items.WordLaws.{length_words, word_at_lem, words_below, below_take, below_drop}
 use Rattle.format.proofs.items.PartLaws.{part_take}
-use Rattle.format.proofs.items.HeaderLaws.{plain_spelled}
 use Rattle.format.proofs.items.ItemLaws.{read_written, written_read}
 use Rattle.format.proofs.rules.LimitLaws.{range_fits}
 
@@ -137,8 +136,6 @@ none_of start_event e = absurd (true≢false e)
 none_of continue_event e = absurd (true≢false e)
 none_of end_event e = absurd (true≢false e)
 none_of frame_end e = absurd (true≢false e)
-none_of extended_channel e = absurd (true≢false e)
-none_of extended_histogram e = absurd (true≢false e)
 none_of unassigned e = refl
 
 whole_item : (x y : Item) → whole x ≡ whole y → x ≡ y
@@ -200,15 +197,12 @@ module _ (s : List ℕ) (bs : Bytes s) (end : ℕ) (enough : 2 * end ≤ length 
   read_item : (x : Item) → token_of (word_at s p) (left s end p) ≡ whole x → Read (word_at s p) (take (after_at s p) (left s end p)) x
   read_item x e = written_read (word_at s p) (left s end p) x (below_drop (suc p) (up_to s end) 65536 (up_to_below s end bs)) e
 
-  rule_class : (x : Item) → token_of (word_at s p) (left s end p) ≡ whole x → class_for x ≡ plain (class_of (word_at s p))
-  rule_class x e = sym (plain_spelled x) ∙ ap plain (read_item x e).class
-
   read_words : p + after_at s p < end → (x : Item) → token_of (word_at s p) (left s end p) ≡ whole x → words_at s p ≡ words_of x
   read_words r x e = sym (these r) ∙ (read_item x e).words
 
   -- where the tests below n hold, no rule below n is broken
   item_holds : (n : ℕ) → (6 < n → assigned (class_of (word_at s p)) ≡ true) → (7 < n → p + after_at s p < end)
-      → (8 < n → place (kind_in s) q (plain (class_of (word_at s p))) ≡ true)
+      → (8 < n → place (kind_in s) q (class_of (word_at s p)) ≡ true)
       → (9 < n → (x : Item) × (token_of (word_at s p) (left s end p) ≡ whole x) × (value (card_in s) q x ≡ true))
       → (10 < n → (x : Item) × (token_of (word_at s p) (left s end p) ≡ whole x) × (order q x ≡ true))
       → (m : ℕ) → m < n → ItemBroken s end q p m → ⊥
@@ -224,13 +218,13 @@ module _ (s : List ℕ) (bs : Bytes s) (end : ℕ) (enough : 2 * end ≤ length 
   room = length-drop (suc p) (up_to s end) ∙ ap (λ (n : ℕ). n - suc p) (up_to_length s end enough)
 
   -- an item that is whole and stands in its place
-  module _ (a : assigned (class_of (word_at s p)) ≡ true) (r : p + after_at s p < end) (pl : place (kind_in s) q (plain (class_of (word_at s p))) ≡ true) where
+  module _ (a : assigned (class_of (word_at s p)) ≡ true) (r : p + after_at s p < end) (pl : place (kind_in s) q (class_of (word_at s p)) ≡ true) where
     whole_judged : (x : Item) → token_of (word_at s p) (left s end p) ≡ whole x → ItemJudged s end q p
     unfolding check
     whole_judged x t = by_value (value (card_in s) q x) refl (order q x) refl
       where
         placed : place (kind_in s) q (class_for x) ≡ true
-        placed = ap (place (kind_in s) q) (rule_class x t) ∙ pl
+        placed = ap (place (kind_in s) q) (read_item x t).class ∙ pl
 
         by_value : (b : Bool) → value (card_in s) q x ≡ b → (d : Bool) → order q x ≡ d → ItemJudged s end q p
         by_value true v true o =
@@ -247,21 +241,21 @@ module _ (s : List ℕ) (bs : Bytes s) (end : ℕ) (enough : 2 * end ≤ length 
             })
 
     -- words in their place that are no item's
-    broken_judged : token_of (word_at s p) (left s end p) ≡ broken (plain (class_of (word_at s p))) → ItemJudged s end q p
+    broken_judged : token_of (word_at s p) (left s end p) ≡ broken (class_of (word_at s p)) → ItemJudged s end q p
     unfolding check
     broken_judged t =
         faulty 9 (rw (t, pl))
         (record {
-          broken = misvalued (λ y e g. no_whole (plain (class_of (word_at s p))) y (sym t ∙ the_token r y e g));
+          broken = misvalued (λ y e g. no_whole (class_of (word_at s p)) y (sym t ∙ the_token r y e g));
           earlier = item_holds 9 (λ l. a) (λ l. r) (λ l. pl) (no tt) (no tt);
         })
 
   -- words out of their place
-  misplaced_check : (o : Option Item) → token_of (word_at s p) (left s end p) ≡ token_for (class_of (word_at s p)) o → place (kind_in s) q (plain (class_of (word_at s p))) ≡ false
+  misplaced_check : (o : Option Item) → token_of (word_at s p) (left s end p) ≡ token_for (class_of (word_at s p)) o → place (kind_in s) q (class_of (word_at s p)) ≡ false
       → check (kind_in s) (card_in s) q (token_of (word_at s p) (left s end p)) ≡ bad 8
   unfolding check
   misplaced_check none t e = rw (t, e)
-  misplaced_check (some x) t e = rw (t, ap (place (kind_in s) q) (rule_class x t) ∙ e)
+  misplaced_check (some x) t e = rw (t, ap (place (kind_in s) q) (read_item x t).class ∙ e)
 
   -- the tests' answer is the first broken rule, or no rule is broken
   pub item_judged : ItemJudged s end q p
@@ -269,7 +263,7 @@ module _ (s : List ℕ) (bs : Bytes s) (end : ℕ) (enough : 2 * end ≤ length 
   item_judged = by_class (assigned (class_of (word_at s p))) refl (leb (after_at s p) (length (left s end p))) refl
     where
       by_place : (o : Option Item) → token_of (word_at s p) (left s end p) ≡ token_for (class_of (word_at s p)) o → assigned (class_of (word_at s p)) ≡ true
-          → p + after_at s p < end → (b : Bool) → place (kind_in s) q (plain (class_of (word_at s p))) ≡ b → ItemJudged s end q p
+          → p + after_at s p < end → (b : Bool) → place (kind_in s) q (class_of (word_at s p)) ≡ b → ItemJudged s end q p
       by_place none t a r true e = broken_judged a r e t
       by_place (some x) t a r true e = whole_judged a r e x t
       by_place o t a r false e =
@@ -287,4 +281,4 @@ module _ (s : List ℕ) (bs : Bytes s) (end : ℕ) (enough : 2 * end ≤ length 
       by_class true a true r =
           let h : after_at s p ≤ length (left s end p) = leb-true (after_at s p) (length (left s end p)) r in
           by_place (decode (class_of (word_at s p)) (word_at s p) (take (after_at s p) (left s end p))) (rw (a, r)) a (omega (arith, room))
-          (place (kind_in s) q (plain (class_of (word_at s p)))) refl
+          (place (kind_in s) q (class_of (word_at s p))) refl

@@ -10,7 +10,7 @@ use lib.ListN.{length, get_or, take, drop, length-append, length-take, length-dr
 use lib.Seq.{take-suc, take_all, get_or-take, length-take-le}
 use borrow.Author.Tests.{leb-true, eqb-true, le-leb, lt-leb, eq-eqb, ne_eqb}
 use Rattle.format.specs.Words.{pick, Bytes, words, word_at}
-use Rattle.format.specs.Book.{Class, channel, histogram, hit_count, sample, bin, last_cell, time_bin, data_frame, monitor_frame, command_frame, text, start_event, continue_event, end_event, frame_end, extended_channel, extended_histogram, unassigned, class_of}
+use Rattle.format.specs.Book.{Class, channel, histogram, hit_count, sample, bin, last_cell, time_bin, data_frame, monitor_frame, command_frame, text, start_event, continue_event, end_event, frame_end, unassigned, class_of}
 use Rattle.format.specs.Rules.{Kind, data_kind, monitor_kind, command_kind, same}
 use Rattle.format.specs.Frames.{start_word, is_start, kind_of, length_fits, start_fits, last_of, head_fault, front}
 use Rattle.format.proofs.book.PrefixLaws.{and_left, and_right, and_both}
@@ -85,8 +85,6 @@ start_of start_event w k t v = no_start t
 start_of continue_event w k t v = no_start t
 start_of end_event w k t v = no_start t
 start_of frame_end w k t v = no_start t
-start_of extended_channel w k t v = no_start t
-start_of extended_histogram w k t v = no_start t
 start_of unassigned w k t v = no_start t
 
 -- a word that may start a frame is the start word of its kind and card

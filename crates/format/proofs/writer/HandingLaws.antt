@@ -6,13 +6,12 @@ use mathlib.Core.Path.{◌≡◌, refl, sym, ap, ap₂, ◌∙◌}
 use mathlib.Core.List.{List, [], ◌∷◌, ◌++◌, map, append_assoc}
 use mathlib.Core.Logic.{◌↔◌, ◌⊎◌}
 use native.Mathlib.Omega.{arith}
-use mathlib.Core.Bool.{Bool, true, false}
 use lib.ListN.{length, take, drop, length-append, length-map}
 use lib.Seq.{take_at}
 use Rattle.format.specs.Words.{Bytes, bytes, words, long_words, time_words}
 use Rattle.format.specs.Answers.{Outcome, accepted, refused}
 use Rattle.format.specs.Book.{Class, text}
-use Rattle.format.specs.Items.{Item, Channel, Histogram, HitCount, Sample, Bin, LastCell, TimeBin, Text, StartEvent, ContinueEvent, EndEvent, is_plain, words_of, Token, whole, broken}
+use Rattle.format.specs.Items.{Item, Channel, Histogram, HitCount, Sample, Bin, LastCell, TimeBin, Text, StartEvent, ContinueEvent, EndEvent, words_of, Token, whole, broken}
 use Rattle.format.specs.Rules.{Kind}
 use Rattle.format.specs.Frames.{Frame, start_word, all_words, frame_words, encode, Legal, Sound, verdict}
 use Rattle.format.specs.Questions.{IndexedShown, shown, shown_at}
@@ -32,16 +31,8 @@ use Rattle.format.proofs.writer.Completeness.{written, too_short, writing_done, 
 -- THE LAW of the answers: by document 01's columns, they are the item's words
 pub told_words : (index : ℕ) (x : Item) (next : ℕ) → answer_words (item_answer_of index x next) ≡ words_of x
 unfolding words_of
-told_words index (Channel a b c) next = go (is_plain b) refl
-  where
-    go : (p : Bool) → is_plain b ≡ p → answer_words (item_answer_of index (Channel a b c) next) ≡ words_of (Channel a b c)
-    go true e = rw e (ap (λ (w : ℕ). w ∷ []) (omega arith))
-    go false e = rw e (ap (λ (v : ℕ). 0x000D ∷ v ∷ []) (omega arith))
-told_words index (Histogram a b c) next = go (is_plain b) refl
-  where
-    go : (p : Bool) → is_plain b ≡ p → answer_words (item_answer_of index (Histogram a b c) next) ≡ words_of (Histogram a b c)
-    go true e = rw e (ap (λ (w : ℕ). w ∷ []) (omega arith))
-    go false e = rw e (ap (λ (v : ℕ). 0x000E ∷ v ∷ []) (omega arith))
+told_words index (Channel a b c) next = ap (λ (w : ℕ). w ∷ []) (omega arith)
+told_words index (Histogram a b c) next = ap (λ (w : ℕ). w ∷ []) (omega arith)
 told_words index (HitCount a b c) next = ap (λ (w : ℕ). w ∷ []) (omega arith)
 told_words index (Sample v) next = ap (λ (w : ℕ). w ∷ []) (omega arith)
 told_words index (Bin b m) next = ap (λ (w : ℕ). w ∷ long_words m) (omega arith)

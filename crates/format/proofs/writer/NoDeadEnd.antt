@@ -46,9 +46,9 @@ total_nil = refl
 -- ---- the continuation
 
 -- the latest item was allowed
-stood : Kind → ℕ → List Item → Type 0
-stood kind card [] = Unit {0}
-stood kind card (x ∷ p) = Allowed kind card p x
+Stood : Kind → ℕ → List Item → Type 0
+Stood kind card [] = Unit {0}
+Stood kind card (x ∷ p) = Allowed kind card p x
 
 module _ (card : ℕ) where
   Continued : Kind → List Item → Type 0
@@ -89,8 +89,8 @@ module _ (card : ℕ) where
       let (d, e) = inside_place kind p time_bin refl refl refl refl h.placed in
       (d, stays_open p (TimeBin t ∷ []) e refl)
 
-  continued : (kind : Kind) (p : List Item) → stood kind card p → Continued kind p
-  unfolding stood
+  continued : (kind : Kind) (p : List Item) → Stood kind card p → Continued kind p
+  unfolding Stood
   continued kind [] h = as_it_stands kind [] refl
   continued kind (Channel a b c ∷ p) h =
       let (d, e) = channel_open kind a b c p h in
@@ -111,9 +111,9 @@ module _ (card : ℕ) where
 -- ---- T16
 
 ends : (kind : Kind) (card : ℕ) (xs : List Item) → Sound kind card [] xs → Ends kind card xs
-unfolding Continued stood
+unfolding Continued Stood
 ends kind card xs s =
-    let (ys, t, m) = continued card kind (earlier_then [] xs) (sound_keeps kind card (stood kind card) (λ p x h a. a) [] xs tt s) in
+    let (ys, t, m) = continued card kind (earlier_then [] xs) (sound_keeps kind card (Stood kind card) (λ p x h a. a) [] xs tt s) in
     record { more = ys; sound = sound_join kind card [] xs ys s t; ended = ap may_end (behind_append [] xs ys) ∙ m }
 
 pub no_dead_end : (kind : Kind) (card : ℕ) (xs : List Item) → Sound kind card [] xs ↔ Ends kind card xs

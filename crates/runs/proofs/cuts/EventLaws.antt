@@ -12,15 +12,17 @@ use lib.ListN.{length-append}
 use borrow.Author.Tests.{leb-true, le-leb, eqb-true, eq-eqb}
 use Rattle.format.specs.Words.{pick}
 use Rattle.format.specs.Book.{start_event, end_event}
-use Rattle.format.specs.Items.{Item, Channel, Histogram, HitCount, Sample, Bin, LastCell, TimeBin, Text, StartEvent, ContinueEvent, EndEvent, class_for, words_of, key}
+use Rattle.format.specs.Items.{Item, Channel, Histogram, HitCount, Sample, Bin, LastCell, TimeBin, Text, StartEvent, ContinueEvent, EndEvent, class_for, words_of, header_bits, key}
 use Rattle.format.specs.Rules.{same, since, count, total, gather, channel_key, begun}
 use Rattle.format.specs.Frames.{all_words}
 use Rattle.format.specs.Steps.{above_all}
 use Rattle.format.specs.Tree.{Rising}
 use Rattle.format.specs.Questions.{end_size, until}
+use Rattle.format.proofs.book.PrefixLaws.{and_left, and_right}
+use Rattle.format.proofs.rules.KeyLaws.{key_rises}
 use Rattle.format.proofs.rules.SoundLaws.{tally, Seen, opening, starts, continues, ends, other, seen}
 use Rattle.format.proofs.reader.StateLaws.{above_leb}
-use Rattle.runs.specs.Runs.{Each, events, bytes_of}
+use Rattle.runs.specs.Runs.{Each, events, bytes_of, content}
 use Rattle.runs.proofs.joins.Joined.{fits_run, Fits}
 use Rattle.runs.proofs.joins.PartLaws.{own_fit}
 use Rattle.runs.proofs.cuts.FormLaws.{Within, Turn, a_start, an_end, another, Formed, begun_start, begun_within, outside_next}
@@ -67,22 +69,33 @@ cut p (x ∷ xs) = go (same start_event (class_for x)) refl (cut (x ∷ p) xs)
 
 -- ---- one event
 
+-- keys are tested as the 14-bit contents are
+abbrev Alike : ℕ → ℕ → Type 0
+Alike m k = (a b c : ℕ) → b < 4 → c < 128 → (m ≤ key a b c) ↔ (k ≤ header_bits a b c)
+
+alike_next : (a b c : ℕ) → b < 4 → c < 128 → Alike (suc (key a b c)) (suc (header_bits a b c))
+alike_next a b c p q d e f r s = key_rises a b c d e f p q r s
+
 -- a Channel header, or an item that the rules over all parts do not look at
 data Headed (x : Item) : Type 0 where
-  header : (a b c : ℕ) → x ≡ Channel a b c → Headed x
-  unheaded : channel_key x ≡ [] → ((p : List Item) → fits_run p x ≡ true) → Headed x
+  header : (a b c : ℕ) → x ≡ Channel a b c → b < 4 → c < 128 → Headed x
+  unheaded : channel_key x ≡ [] → content x ≡ [] → ((p : List Item) → fits_run p x ≡ true) → Headed x
 
 headed : (x : Item) → Within x → Headed x
-headed (Channel a b c) h = header a b c refl
-headed (Histogram a b c) h = unheaded refl (λ p. refl)
-headed (HitCount a b c) h = unheaded refl (λ p. refl)
-headed (Sample v) h = unheaded refl (λ p. refl)
-headed (Bin b n) h = unheaded refl (λ p. refl)
-headed (LastCell a b) h = unheaded refl (λ p. refl)
-headed (TimeBin t) h = unheaded refl (λ p. refl)
-headed (Text s) h = unheaded refl (λ p. refl)
-headed (StartEvent t ts n) h = unheaded refl (λ p. refl)
-headed (ContinueEvent n) h = unheaded refl (λ p. refl)
+headed (Channel a b c) h =
+    let f = h.fitting in
+    let d = leb-true b 3 (and_right (leb a 31) (leb b 3) (and_left (leb a 31 && leb b 3) (leb c 127) f)) in
+    let e = leb-true c 127 (and_right (leb a 31 && leb b 3) (leb c 127) f) in
+    header a b c refl (omega arith) (omega arith)
+headed (Histogram a b c) h = unheaded refl refl (λ p. refl)
+headed (HitCount a b c) h = unheaded refl refl (λ p. refl)
+headed (Sample v) h = unheaded refl refl (λ p. refl)
+headed (Bin b n) h = unheaded refl refl (λ p. refl)
+headed (LastCell a b) h = unheaded refl refl (λ p. refl)
+headed (TimeBin t) h = unheaded refl refl (λ p. refl)
+headed (Text s) h = unheaded refl refl (λ p. refl)
+headed (StartEvent t ts n) h = unheaded refl refl (λ p. refl)
+headed (ContinueEvent n) h = unheaded refl refl (λ p. refl)
 headed (EndEvent n) h = absurd (true≢false h.no_end)
 
 -- every size that is given is n
@@ -113,9 +126,9 @@ coerce : {A B : Type 0} → A ≡ B → A → B
 coerce e a = subst (λ (T : Type 0). T) e a
 
 -- the rest of an open event behind its items q, latest first
-pub open_event : (q xs : List Item) (m : ℕ) → begun q ≡ true → Formed true xs → above_all (gather channel_key (since start_event q)) ≡ m
+pub open_event : (q xs : List Item) (m : ℕ) → begun q ≡ true → Formed true xs → Alike (above_all (gather channel_key (since start_event q))) m
     → Fits q (until start_event xs)
-    ↔ (Rising m (gather channel_key (until start_event xs)) × AllAre (2 * total (since start_event q) + bytes_of (until start_event xs)) (gather end_size (until start_event xs)))
+    ↔ (Rising m (gather content (until start_event xs)) × AllAre (2 * total (since start_event q) + bytes_of (until start_event xs)) (gather end_size (until start_event xs)))
 unfolding Formed Fits until gather Rising Each
 open_event q [] m o f k = (λ u. (tt, tt), λ u. tt)
 open_event q (x ∷ xs) m o f k = go f.0 (open_event (x ∷ q) xs)
@@ -127,11 +140,11 @@ open_event q (x ∷ xs) m o f k = go f.0 (open_event (x ∷ q) xs)
     Z = 2 * total (since start_event q)
 
     Goal : List Item → Type 0
-    Goal l = Fits q l ↔ (Rising m (gather channel_key l) × AllAre (Z + bytes_of l) (gather end_size l))
+    Goal l = Fits q l ↔ (Rising m (gather content l) × AllAre (Z + bytes_of l) (gather end_size l))
 
     More : Type 0
-    More = (m : ℕ) → begun (x ∷ q) ≡ true → Formed true xs → above_all (gather channel_key (since start_event (x ∷ q))) ≡ m
-        → Fits (x ∷ q) ys ↔ (Rising m (gather channel_key ys) × AllAre (2 * total (since start_event (x ∷ q)) + bytes_of ys) (gather end_size ys))
+    More = (m : ℕ) → begun (x ∷ q) ≡ true → Formed true xs → Alike (above_all (gather channel_key (since start_event (x ∷ q)))) m
+        → Fits (x ∷ q) ys ↔ (Rising m (gather content ys) × AllAre (2 * total (since start_event (x ∷ q)) + bytes_of ys) (gather end_size ys))
 
     -- what the rest is asked, the item counted
     given : {n m : ℕ} → n ≡ m → AllAre n (gather end_size ys) → AllAre m (gather end_size ys)
@@ -152,33 +165,33 @@ open_event q (x ∷ xs) m o f k = go f.0 (open_event (x ∷ q) xs)
         )
 
     plain : Within x → Formed true xs → Headed x → More → Goal (x ∷ ys)
-    plain h g (header a b c i) r =
+    plain h g (header a b c i d e) r =
         let t : fits_run q x ≡ leb (above_all (gather channel_key (since start_event q))) (key a b c) =
         ap (fits_run q) i ∙ above_leb (key a b c) (gather channel_key (since start_event q)) in
         let s : (above_all (gather channel_key (since start_event q)) ≤ key a b c) → above_all (gather channel_key (since start_event (x ∷ q))) ≡ suc (key a b c) =
         λ l. ap (λ (p : List Item). above_all (gather channel_key p)) (since_within x q h) ∙ ap (λ (y : Item). above_all (gather channel_key (y ∷ since start_event q))) i
         ∙ next_key a b c (since start_event q) l in
-        let v : (above_all (gather channel_key (since start_event q)) ≤ key a b c) → Fits (x ∷ q) ys ↔ (Rising (suc (key a b c)) (gather channel_key ys) × AllAre (2 * total (since start_event (x ∷ q)) + bytes_of ys) (gather end_size ys)) =
-        λ l. r (suc (key a b c)) (begun_within x q h ∙ o) g (s l) in
-        let j : channel_key x ≡ key a b c ∷ [] = ap (λ (y : Item). channel_key y) i in (
+        let v : (above_all (gather channel_key (since start_event q)) ≤ key a b c) → Fits (x ∷ q) ys ↔ (Rising (suc (header_bits a b c)) (gather content ys) × AllAre (2 * total (since start_event (x ∷ q)) + bytes_of ys) (gather end_size ys)) =
+        λ l. r (suc (header_bits a b c)) (begun_within x q h ∙ o) g (subst (λ (n : ℕ). Alike n (suc (header_bits a b c))) (sym (s l)) (alike_next a b c d e)) in
+        let j : content x ≡ header_bits a b c ∷ [] = ap content i in (
           λ u. let l = leb-true _ (key a b c) (sym t ∙ u.0) in
               let (y, z) = (v l).0 u.1 in (
-                subst (λ (c : List ℕ). Rising m (c ++ gather channel_key ys)) (sym j) (omega arith, y),
+                subst (λ (c : List ℕ). Rising m (c ++ gather content ys)) (sym j) ((k a b c d e).0 l, y),
                 coerce (sym (no_size h _)) (given (counted h) z),
               ),
-          λ u. let (f, y) = subst (λ (c : List ℕ). Rising m (c ++ gather channel_key ys)) j u.0 in
-              let l : above_all (gather channel_key (since start_event q)) ≤ key a b c = omega arith in
+          λ u. let (f, y) = subst (λ (c : List ℕ). Rising m (c ++ gather content ys)) j u.0 in
+              let l = (k a b c d e).1 f in
               (t ∙ le-leb _ (key a b c) l, (v l).1 (y, given (sym (counted h)) (coerce (no_size h _) u.1))),
         )
-    plain h g (unheaded i p) r =
+    plain h g (unheaded i j p) r =
         let s : above_all (gather channel_key (since start_event (x ∷ q))) ≡ above_all (gather channel_key (since start_event q)) =
         ap (λ (p : List Item). above_all (gather channel_key p)) (since_within x q h) ∙ ap (λ (l : List ℕ). above_all (l ++ gather channel_key (since start_event q))) i in
-        let v = r m (begun_within x q h ∙ o) g (s ∙ k) in (
+        let v = r m (begun_within x q h ∙ o) g (subst (λ (n : ℕ). Alike n m) (sym s) k) in (
           λ u. let (y, z) = v.0 u.1 in (
-            subst (λ (c : List ℕ). Rising m (c ++ gather channel_key ys)) (sym i) y,
+            subst (λ (c : List ℕ). Rising m (c ++ gather content ys)) (sym j) y,
             coerce (sym (no_size h _)) (given (counted h) z),
           ),
-          λ u. (p q, v.1 (subst (λ (c : List ℕ). Rising m (c ++ gather channel_key ys)) i u.0, given (sym (counted h)) (coerce (no_size h _) u.1))),
+          λ u. (p q, v.1 (subst (λ (c : List ℕ). Rising m (c ++ gather content ys)) j u.0, given (sym (counted h)) (coerce (no_size h _) u.1))),
         )
 
     go : Turn true x → More → Goal (pick (same start_event (class_for x)) [] (x ∷ ys))
@@ -196,7 +209,7 @@ open_event q (x ∷ xs) m o f k = go f.0 (open_event (x ∷ q) xs)
 
 -- what is left of `Lawful` where sizes are not bounded
 abbrev pub Ruled : List Item → Type 0
-Ruled e = Rising 0 (gather channel_key e) × AllAre (bytes_of e) (gather end_size e)
+Ruled e = Rising 0 (gather content e) × AllAre (bytes_of e) (gather end_size e)
 
 pub since_start : (t ts n : ℕ) (p : List Item) → since start_event (StartEvent t ts n ∷ p) ≡ StartEvent t ts n ∷ []
 unfolding since
@@ -218,7 +231,9 @@ one_event : (t ts n : ℕ) (xs : List Item) → Formed true xs → Fits [] (Star
 unfolding Fits gather
 one_event t ts n xs f =
     let s = StartEvent t ts n in
-    let r = open_event (s ∷ []) xs 0 (begun_start t ts n []) f (start_keys t ts n) in
+    let z : above_all (gather channel_key (since start_event (s ∷ []))) ≡ 0 = start_keys t ts n in
+    let k : Alike (above_all (gather channel_key (since start_event (s ∷ [])))) 0 = λ a b c p q. (λ u. omega arith, λ u. omega arith) in
+    let r = open_event (s ∷ []) xs 0 (begun_start t ts n []) f k in
     let e = start_bytes t ts n [] (until start_event xs) in (
       λ u. let (y, w) = r.0 u.1 in (y, subst (λ (n : ℕ). AllAre n (gather end_size (until start_event xs))) e w),
       λ u. (refl, r.1 (u.0, subst (λ (n : ℕ). AllAre n (gather end_size (until start_event xs))) (sym e) u.1)),

@@ -13,7 +13,7 @@ use lib.ListN.{length, length-append}
 use borrow.Author.Tests.{ne_eqb, eqb-false}
 use Rattle.format.specs.Words.{pick}
 use Rattle.format.specs.Book.{Class, channel, start_event, continue_event, end_event, row_of}
-use Rattle.format.specs.Items.{Item, Channel, Histogram, HitCount, Sample, Bin, LastCell, TimeBin, Text, StartEvent, ContinueEvent, EndEvent, class_for, words_of, in_range, key}
+use Rattle.format.specs.Items.{Item, Channel, Histogram, HitCount, Sample, Bin, LastCell, TimeBin, Text, StartEvent, ContinueEvent, EndEvent, class_for, words_of, in_range, key, header_bits}
 use Rattle.format.specs.Rules.{data_kind, same, since, count, latest, inside_after, between_events, allowed, among, place, total, gather, channel_key, above, in_event, begun, sized, order}
 use Rattle.format.specs.Frames.{Allowed, Sound, all_words}
 use Rattle.format.specs.Steps.{above_all}
@@ -130,13 +130,11 @@ part_plain k size x xs h e =
     omega (arith, length-append (words_of x) (all_words (until end_event xs))) in
     rw (h.no_end, h.no_size, e, l)
 
-part_channel : (k size a b c : ℕ) (xs : List Item) → part_fits k size (Channel a b c ∷ xs) ≡ leb k (key a b c) && part_fits k (size + 2 * length (words_of (Channel a b c))) xs
-unfolding gather until all_words from
+part_channel : (k size a b c : ℕ) (xs : List Item) → part_fits k size (Channel a b c ∷ xs) ≡ leb k (key a b c) && part_fits k (size + 2 * 1) xs
+unfolding gather until all_words from words_of
 part_channel k size a b c xs =
-    let n : ℕ = length (words_of (Channel a b c)) in
-    let l : size + 2 * length (words_of (Channel a b c) ++ all_words (until end_event xs)) ≡ size + 2 * n + 2 * length (all_words (until end_event xs)) =
-    omega (arith, length-append (words_of (Channel a b c)) (all_words (until end_event xs))) in
-    rw l (and_assoc (leb k (key a b c)) (from k (gather channel_key (until end_event xs))) (end_fits (size + 2 * n + part_bytes xs) (head_of (gather end_size xs))))
+    let l : size + 2 * length ((0xC000 + header_bits a b c) ∷ all_words (until end_event xs)) ≡ size + 2 * 1 + 2 * length (all_words (until end_event xs)) = omega arith in
+    rw l (and_assoc (leb k (key a b c)) (from k (gather channel_key (until end_event xs))) (end_fits (size + 2 * 1 + part_bytes xs) (head_of (gather end_size xs))))
   where
     and_assoc : (x y z : Bool) → x && y && z ≡ x && (y && z)
     and_assoc true y z = refl
@@ -149,6 +147,10 @@ part_end k size n xs = let l : size + 2 * 0 + 6 ≡ size + 6 = omega arith in ap
 part_nothing : (k size : ℕ) → part_fits k size [] ≡ true
 unfolding gather until from
 part_nothing k size = refl
+
+one_word : (a b c : ℕ) → length (words_of (Channel a b c)) ≡ 1
+unfolding words_of
+one_word a b c = refl
 
 pub not_empty : (x : Item) (q : List Item) {A : Type 0} → x ∷ q ≡ [] → A
 not_empty x q e = let z : ◌≡◌ {A = ℕ} 0 1 = cc in absurd (omega arith)
@@ -218,14 +220,13 @@ module _ (p : List Item) (o : begun p ≡ true) where
 
       plain : Plain x → Headed x → More → Goal
       plain g (header a b c j) r =
-          let k : ℕ = length (words_of (Channel a b c)) in
-          let l : length (words_of x) ≡ k = ap (λ (y : Item). length (words_of y)) j in
-          let n : size_now + 2 * (length (words_of x) + total q) ≡ S + 2 * k = omega arith in
-          let w : part_fits key_now S (x ∷ xs) ≡ leb key_now (key a b c) && part_fits key_now (S + 2 * k) xs =
+          let l : length (words_of x) ≡ 1 = ap (λ (y : Item). length (words_of y)) j ∙ one_word a b c in
+          let n : size_now + 2 * (length (words_of x) + total q) ≡ S + 2 * 1 = omega arith in
+          let w : part_fits key_now S (x ∷ xs) ≡ leb key_now (key a b c) && part_fits key_now (S + 2 * 1) xs =
           ap (λ (y : Item). part_fits key_now S (y ∷ xs)) j ∙ part_channel key_now S a b c xs in
           let t : fits_run (q ++ p) x ≡ leb key_now (key a b c) =
           ap (fits_run (q ++ p)) j ∙ channel_test q a b c s (ap (order q) (sym j) ∙ h.0.ordered) in
-          let f = both (leb key_now (key a b c)) (part_fits key_now (S + 2 * k) xs) Rest (subst (λ (m : ℕ). Rest ↔ (part_fits key_now m xs ≡ true)) n r) in
+          let f = both (leb key_now (key a b c)) (part_fits key_now (S + 2 * 1) xs) Rest (subst (λ (m : ℕ). Rest ↔ (part_fits key_now m xs ≡ true)) n r) in
           (λ u. w ∙ f.0 (sym t ∙ u.0, u.1), λ v. let (a, b) = f.1 (sym w ∙ v) in (t ∙ a, b))
       plain g (unheaded k _ f) r =
           let n : size_now + 2 * (length (words_of x) + total q) ≡ S + 2 * length (words_of x) = omega arith in

@@ -18,15 +18,9 @@ returns-3 : tie.Need-returns-3
 returns-3 c = sym (in_range _ 13 (lit< tt) (omega arith, omega arith))
 
 returns-4 : tie.Need-returns-4
-returns-4 c = sym (in_range _ 15 (lit< tt) (omega arith, omega arith))
-
-returns-5 : tie.Need-returns-5
-returns-5 c = sym (in_range _ 16 (lit< tt) (omega arith, omega arith))
-
-returns-6 : tie.Need-returns-6
-returns-6 c =
-    let below : c.before.before.before.before.before.args.low < 256 = c.before.before.before.before.before.requires in
-    no_entry _ ((λ e. omega arith), ((λ e. omega arith), ((λ e. omega arith), ((λ e. omega arith), ((λ e. omega arith), ((λ e. omega arith), ((λ e. omega arith), ((λ e. omega arith), ((λ e. omega arith), ((λ e. omega arith), ((λ e. omega arith), ((λ e. omega arith), ((λ e. omega arith), ((λ e. c.before.before.if3.false (omega arith)), ((λ e. omega arith), ((λ e. c.before.if4.false (omega arith)), ((λ e. c.if5.false (omega arith)), tt)))))))))))))))))
+returns-4 c =
+    let below : c.before.before.before.args.low < 256 = c.before.before.before.requires in
+    no_entry _ ((λ e. omega arith), ((λ e. omega arith), ((λ e. omega arith), ((λ e. omega arith), ((λ e. omega arith), ((λ e. omega arith), ((λ e. omega arith), ((λ e. omega arith), ((λ e. omega arith), ((λ e. omega arith), ((λ e. omega arith), ((λ e. omega arith), ((λ e. omega arith), ((λ e. c.if3.false (omega arith)), ((λ e. omega arith), tt)))))))))))))))
 
 pub by-low-byte-spec : {M : Type 1} → statement M
-by-low-byte-spec = tie.close (tie.spec returns returns-2 returns-3 returns-4 returns-5 returns-6)
+by-low-byte-spec = tie.close (tie.spec returns returns-2 returns-3 returns-4)

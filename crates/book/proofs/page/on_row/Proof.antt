@@ -58,13 +58,7 @@ returns-16 : tie.Need-returns-16
 returns-16 c = rw c.match.keys16
 
 returns-17 : tie.Need-returns-17
-returns-17 c = rw c.match.keys17
-
-returns-18 : tie.Need-returns-18
-returns-18 c = rw c.match.keys18
-
-returns-19 : tie.Need-returns-19
-returns-19 c = c.by-low-byte.ensures ∙ other_row _ _ c.before.match.rest
+returns-17 c = c.by-low-byte.ensures ∙ other_row _ _ c.before.match.rest
 
 pub on-row-spec : {M : Type 1} → statement M
-on-row-spec = tie.close (tie.spec by-low-byte-requires returns returns-2 returns-3 returns-4 returns-5 returns-6 returns-7 returns-8 returns-9 returns-10 returns-11 returns-12 returns-13 returns-14 returns-15 returns-16 returns-17 returns-18 returns-19)
+on-row-spec = tie.close (tie.spec by-low-byte-requires returns returns-2 returns-3 returns-4 returns-5 returns-6 returns-7 returns-8 returns-9 returns-10 returns-11 returns-12 returns-13 returns-14 returns-15 returns-16 returns-17)

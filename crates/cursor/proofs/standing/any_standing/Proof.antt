@@ -148,24 +148,6 @@ continue-standing-requires c κs =
     let p = k.before.before.requires in
     (p.0, p.1, p.2, p.3, class-is k _ c.enum-told16.given.1)
 
-enum-told-17 : tie.Need-enum-told-17
-enum-told-17 c = search rules
-
-extended-channel-standing-requires : tie.Need-extended-channel-standing-requires
-extended-channel-standing-requires c κs =
-    let k = c.before.before in
-    let p = k.before.before.requires in
-    (p.0, p.1, p.2, p.3, class-is k _ c.enum-told17.given.1)
-
-enum-told-18 : tie.Need-enum-told-18
-enum-told-18 c = search rules
-
-extended-histogram-standing-requires : tie.Need-extended-histogram-standing-requires
-extended-histogram-standing-requires c κs =
-    let k = c.before.before in
-    let p = k.before.before.requires in
-    (p.0, p.1, p.2, p.3, class-is k _ c.enum-told18.given.1)
-
 returns : tie.Need-returns
 returns c =
     let k = c.before.before.before.before in
@@ -247,12 +229,6 @@ returns-15 c =
 returns-16 : tie.Need-returns-16
 returns-16 c = search rules
 
-returns-17 : tie.Need-returns-17
-returns-17 c = search rules
-
-returns-18 : tie.Need-returns-18
-returns-18 c = search rules
-
 pub any-standing-spec : {M : Type 1} → statement M
 any-standing-spec =
     tie.close
@@ -297,10 +273,6 @@ any-standing-spec =
     enum-told-15
     enum-told-16
     continue-standing-requires
-    enum-told-17
-    extended-channel-standing-requires
-    enum-told-18
-    extended-histogram-standing-requires
     returns
     returns-2
     returns-3
@@ -316,6 +288,4 @@ any-standing-spec =
     returns-13
     returns-14
     returns-15
-    returns-16
-    returns-17
-    returns-18)
+    returns-16)

@@ -52,25 +52,11 @@ bin-standing-requires c κs = (omega arith, omega arith, refl, c.before.before.b
 returns-6 : tie.Need-returns-6
 returns-6 c = search rules
 
-extended-channel-standing-requires : tie.Need-extended-channel-standing-requires
-extended-channel-standing-requires c κs =
-    (omega arith, omega arith, refl, c.before.before.before.before.word.ensures, sym (in_range _ 15 (lit< tt) (omega arith, omega arith)))
-
-returns-7 : tie.Need-returns-7
-returns-7 c = search rules
-
-extended-histogram-standing-requires : tie.Need-extended-histogram-standing-requires
-extended-histogram-standing-requires c κs =
-    (omega arith, omega arith, refl, c.before.before.before.before.before.word.ensures, sym (in_range _ 16 (lit< tt) (omega arith, omega arith)))
-
-returns-8 : tie.Need-returns-8
-returns-8 c = search rules
-
 any-standing-requires-2 : tie.Need-any-standing-requires-2
 any-standing-requires-2 c κs = search rules
 
-returns-9 : tie.Need-returns-9
-returns-9 c = search rules
+returns-7 : tie.Need-returns-7
+returns-7 c = search rules
 
 pub item-at-spec : {M : Type 1} → statement M
 item-at-spec =
@@ -89,9 +75,5 @@ item-at-spec =
     returns-5
     bin-standing-requires
     returns-6
-    extended-channel-standing-requires
-    returns-7
-    extended-histogram-standing-requires
-    returns-8
     any-standing-requires-2
-    returns-9)
+    returns-7)

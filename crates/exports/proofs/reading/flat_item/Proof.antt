@@ -8,17 +8,11 @@ use Rattle.exports.proofs.reading.flat_item.Tie as tie
 enum-known-item : tie.Need-enum-known-item
 enum-known-item c = search rules
 
-channel-row-requires : tie.Need-channel-row-requires
-channel-row-requires c κs = search rules
-
 chip-item-requires : tie.Need-chip-item-requires
 chip-item-requires c κs = search rules
 
 enum-known-item-2 : tie.Need-enum-known-item-2
 enum-known-item-2 c = search rules
-
-histogram-row-requires : tie.Need-histogram-row-requires
-histogram-row-requires c κs = search rules
 
 chip-item-requires-2 : tie.Need-chip-item-requires-2
 chip-item-requires-2 c κs = search rules
@@ -79,11 +73,11 @@ event-item-requires-3 c κs = search rules
 
 returns : tie.Need-returns
 unfolding flat_item
-returns c = rw (c.chip-item.ensures, c.before.channel-row.ensures, c.before.before.before.item.given.1)
+returns c = rw (c.chip-item.ensures, c.before.before.item.given.1)
 
 returns-2 : tie.Need-returns-2
 unfolding flat_item
-returns-2 c = rw (c.chip-item2.ensures, c.before.histogram-row.ensures, c.before.before.before.item2.given.1)
+returns-2 c = rw (c.chip-item2.ensures, c.before.before.item2.given.1)
 
 returns-3 : tie.Need-returns-3
 unfolding flat_item
@@ -126,10 +120,8 @@ flat-item-spec =
     tie.close
     (tie.spec
     enum-known-item
-    channel-row-requires
     chip-item-requires
     enum-known-item-2
-    histogram-row-requires
     chip-item-requires-2
     enum-known-item-3
     chip-item-requires-3

@@ -67,15 +67,7 @@ returns-15 c = rw c.match.keys15
 
 returns-16 : tie.Need-returns-16
 unfolding token_of
-returns-16 c = rw c.match.keys16
-
-returns-17 : tie.Need-returns-17
-unfolding token_of
-returns-17 c = rw c.match.keys17
-
-returns-18 : tie.Need-returns-18
-unfolding token_of
-returns-18 c = unnamed c.before.args.x c.match.rest
+returns-16 c = unnamed c.before.args.x c.match.rest
 
 pub item-given-spec : {M : Type 1} → statement M
 item-given-spec =
@@ -96,6 +88,4 @@ item-given-spec =
     returns-13
     returns-14
     returns-15
-    returns-16
-    returns-17
-    returns-18)
+    returns-16)

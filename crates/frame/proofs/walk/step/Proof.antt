@@ -153,24 +153,6 @@ continue-at-requires c κs =
     let p = k.before.before.before.requires in
     (p.0, p.1, k.before.word.ensures, class-is k _ c.enum-told16.given.1)
 
-enum-told-17 : tie.Need-enum-told-17
-enum-told-17 c = search rules
-
-extended-channel-at-requires : tie.Need-extended-channel-at-requires
-extended-channel-at-requires c κs =
-    let k = c.before.before in
-    let p = k.before.before.before.requires in
-    (p.0, p.1, k.before.word.ensures, class-is k _ c.enum-told17.given.1)
-
-enum-told-18 : tie.Need-enum-told-18
-enum-told-18 c = search rules
-
-extended-histogram-at-requires : tie.Need-extended-histogram-at-requires
-extended-histogram-at-requires c κs =
-    let k = c.before.before in
-    let p = k.before.before.before.requires in
-    (p.0, p.1, k.before.word.ensures, class-is k _ c.enum-told18.given.1)
-
 returns : tie.Need-returns
 returns c =
     let k = c.before.before.before.before in
@@ -246,14 +228,6 @@ returns-16 : tie.Need-returns-16
 returns-16 c =
     c.continue-at.ensures _
 
-returns-17 : tie.Need-returns-17
-returns-17 c =
-    c.extended-channel-at.ensures
-
-returns-18 : tie.Need-returns-18
-returns-18 c =
-    c.extended-histogram-at.ensures
-
 pub step_spec : {M : Type 1} → statement M
 step_spec =
     tie.close
@@ -299,10 +273,6 @@ step_spec =
     enum-told-15
     enum-told-16
     continue-at-requires
-    enum-told-17
-    extended-channel-at-requires
-    enum-told-18
-    extended-histogram-at-requires
     returns
     returns-2
     returns-3
@@ -318,6 +288,4 @@ step_spec =
     returns-13
     returns-14
     returns-15
-    returns-16
-    returns-17
-    returns-18)
+    returns-16)

@@ -19,9 +19,6 @@ enum-told-3 c = search rules
 enum-told-4 : tie.Need-enum-told-4
 enum-told-4 c = search rules
 
-enum-told-5 : tie.Need-enum-told-5
-enum-told-5 c = search rules
-
 returns : tie.Need-returns
 unfolding bytes
 returns c = rw c.enum_told.given.1 (refl, omega arith)
@@ -37,11 +34,7 @@ returns-3 c = rw c.enum-told3.given.1 (refl, omega arith)
 returns-4 : tie.Need-returns-4
 returns-4 c = search rules
 
-returns-5 : tie.Need-returns-5
-unfolding bytes
-returns-5 c = rw c.enum-told5.given.1 (refl, omega arith)
-
 pub piece-size-spec : {M : Type 1} → statement M
 piece-size-spec =
     tie.close
-    (tie.spec enum_told enum-told-2 enum-told-3 enum-told-4 enum-told-5 returns returns-2 returns-3 returns-4 returns-5)
+    (tie.spec enum_told enum-told-2 enum-told-3 enum-told-4 returns returns-2 returns-3 returns-4)

@@ -39,16 +39,6 @@ put-six-requires c κs =
 enum_told : tie.Need-enum-told
 enum_told c = search rules
 
-enum-known-piece-4 : tie.Need-enum-known-piece-4
-enum-known-piece-4 c = search rules
-
-put-two-requires : tie.Need-put-two-requires
-unfolding bytes
-put-two-requires c κs =
-    let k = c.before.before in
-    let p = rw k.piece4.given.1 at k.before.before.before.requires in
-    omega (arith, p)
-
 same_length : tie.Need-same-length
 same_length c = search rules
 
@@ -76,14 +66,6 @@ returns-3 c =
 returns-4 : tie.Need-returns-4
 returns-4 c = search rules
 
-same-length-4 : tie.Need-same-length-4
-same-length-4 c = search rules
-
-returns-5 : tie.Need-returns-5
-returns-5 c =
-    let w = c.before.before in
-    rw w.before.before.before.piece4.given.1 w.put_two.ensures
-
 pub put-piece-spec : {M : Type 1} → statement M
 put-piece-spec =
     tie.close
@@ -95,14 +77,10 @@ put-piece-spec =
     enum-known-piece-3
     put-six-requires
     enum_told
-    enum-known-piece-4
-    put-two-requires
     same_length
     returns
     same-length-2
     returns-2
     same-length-3
     returns-3
-    returns-4
-    same-length-4
-    returns-5)
+    returns-4)

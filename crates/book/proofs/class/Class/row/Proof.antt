@@ -52,12 +52,6 @@ enum-told-15 c = search rules
 enum-told-16 : tie.Need-enum-told-16
 enum-told-16 c = search rules
 
-enum-told-17 : tie.Need-enum-told-17
-enum-told-17 c = search rules
-
-enum-told-18 : tie.Need-enum-told-18
-enum-told-18 c = search rules
-
 returns : tie.Need-returns
 returns c = rw c.enum_told.given.1
 
@@ -106,12 +100,6 @@ returns-15 c = rw c.enum-told15.given.1
 returns-16 : tie.Need-returns-16
 returns-16 c = rw c.enum-told16.given.1
 
-returns-17 : tie.Need-returns-17
-returns-17 c = rw c.enum-told17.given.1
-
-returns-18 : tie.Need-returns-18
-returns-18 c = rw c.enum-told18.given.1
-
 pub row-spec : {M : Type 1} → statement M
 row-spec =
     tie.close
@@ -132,8 +120,6 @@ row-spec =
     enum-told-14
     enum-told-15
     enum-told-16
-    enum-told-17
-    enum-told-18
     returns
     returns-2
     returns-3
@@ -149,6 +135,4 @@ row-spec =
     returns-13
     returns-14
     returns-15
-    returns-16
-    returns-17
-    returns-18)
+    returns-16)

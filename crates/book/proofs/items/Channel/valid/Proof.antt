@@ -8,7 +8,7 @@ use Rattle.book.proofs.items.Channel.valid.Tie as tie
 returns : tie.Need-returns
 returns c =
     let p = c.before.before.before.before.before.args in
-    header_valid p.card p.self.card p.self.chip p.self.channel 31 15 78 127 c.before.before.before.if1.true (omega arith)
+    header_valid p.card p.self.card p.self.chip p.self.channel 31 3 78 127 c.before.before.before.if1.true (omega arith)
 
 returns-2 : tie.Need-returns-2
 returns-2 c = rw (ne_eqb _ _ c.if1.false)
