@@ -46,7 +46,7 @@ pub extern "C" fn plane_record(buffer: &[u8]) -> PlaneRecord
 }
 
 // Whether an entry keeps a time, and which; the desk is 0 in every record that is accepted.
-#[derive(Drop)]
+#[derive(Clone, Copy)]
 struct Kept {
     timed: u8,
     time: u64,

@@ -60,7 +60,7 @@ pub extern "C" fn plane_begin(
 }
 
 // What a flat item says: an item, or the number that its class is refused by.
-#[derive(Drop)]
+#[derive(Clone, Copy)]
 enum Given {
     Item(Item),
     Flawed(u32),
