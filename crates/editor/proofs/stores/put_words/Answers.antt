@@ -1,0 +1,17 @@
+-- `editor::stores::put_words` meets its contract.
+-- Assumes nothing.
+use native.Mathlib.Omega.{arith}
+use Prim.Native.Nat.{◌-◌}
+use mathlib.Core.Path.{refl, ◌∙◌}
+use Rattle.format.proofs.items.StoringLaws.{words_start, words_next, words_end}
+use Rattle.editor.proofs.stores.put_words.Goals as goal
+
+pub loop-i-init : goal.loop-i-init
+loop-i-init c = (omega arith, refl, words_start _ _ _ _ (omega arith))
+
+pub loop-i-preserved : goal.loop-i-preserved
+loop-i-preserved c =
+    (omega arith, c.put_word.auto.0 ∙ c.loop-i.invariant.1, words_next _ _ _ _ _ c.loop-i.invariant.2 (omega arith) _ c.put_word.ensures)
+
+pub returns : goal.returns
+returns c = words_end _ _ _ _ _ c.loop-i.invariant.2 (omega arith)

@@ -1,0 +1,16 @@
+-- `frame::inside::word` meets its contract. Assumes nothing.
+use Prim.Native.Nat.{◌+◌, ◌*◌}
+use native.Mathlib.Omega.{arith}
+use Rattle.frame.proofs.inside.word.Goals as goal
+
+pub overflow_cast-low : goal.overflow_cast-low
+overflow_cast-low c = omega (arith, c.type_inv.s (2 * c.args.i))
+
+pub overflow_cast-high : goal.overflow_cast-high
+overflow_cast-high c = omega (arith, c.type_inv.s (2 * c.args.i + 1))
+
+pub overflow_mul-result : goal.overflow_mul-result
+overflow_mul-result c = omega (arith, c.type_inv.s (2 * c.args.i + 1))
+
+pub overflow_add-result : goal.overflow_add-result
+overflow_add-result c = omega (arith, c.type_inv.s (2 * c.args.i), c.type_inv.s (2 * c.args.i + 1))

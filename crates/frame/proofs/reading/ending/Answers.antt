@@ -1,0 +1,12 @@
+-- `frame::reading::ending` meets its contract.
+-- Assumes nothing.
+use Rattle.frame.specs.Views.{ending_of}
+use Rattle.frame.proofs.reading.ending.Goals as goal
+
+pub returns-then-may_end : goal.returns-then-may_end
+unfolding ending_of
+returns-then-may_end c = rw (← c.may_end.ensures, c.if-may_end.true, c.word.ensures)
+
+pub returns : goal.returns
+unfolding ending_of
+returns c = rw (← c.may_end.ensures, c.if-may_end.false)

@@ -1,0 +1,14 @@
+use Prim.Native.Nat.{ℕ, ◌+◌, ◌-◌, ◌*◌, ◌≤◌, ◌<◌}
+use lib.ListN.{length}
+use Rattle.format.specs.Rules.{after_sample}
+use Rattle.format.specs.Steps.{Marks}
+use Rattle.frame.specs.Repeats.{Turns}
+use Rattle.frame.proofs.repeats.past_pairs.Given as goal
+
+abbrev pub invariant-loop-i : goal.invariant-loop-i
+invariant-loop-i l =
+    (l.at ≤ l.i) × (l.i ≤ l.stop) × (2 * l.stop ≤ length l.s)
+    × ((card last key next : ℕ) (marks : Marks) → l.stop ≤ last → (l.at < l.stop → next + (l.stop - l.at) ≤ 512) → Turns card l.s last (l.i - l.at) after_sample key next marks l.at (next + (l.i - l.at)) l.i)
+
+abbrev pub decreases-loop-i : goal.decreases-loop-i
+decreases-loop-i l = l.stop - l.i

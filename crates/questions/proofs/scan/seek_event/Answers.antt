@@ -1,0 +1,51 @@
+-- `questions::scan::seek_event` meets its contract.
+-- Assumes nothing.
+use Prim.Native.Nat.{◌-◌}
+use mathlib.Core.Path.{refl, sym, ap, ◌∙◌}
+use native.Mathlib.Omega.{arith}
+use Rattle.cursor.specs.Views.{view_standing}
+use Rattle.questions.proofs.Turns.{amid_range, next_further, nothing_there}
+use Rattle.questions.proofs.EventScan.{seeking_start, seeking_one, seeking_next, seeking_further, seeking_found, seeking_none}
+use Rattle.questions.proofs.scan.seek_event.Goals as goal
+
+pub overflow_sub-last : goal.overflow_sub-last
+overflow_sub-last c = let r = amid_range _ _ _ c.requires in omega arith
+
+pub loop-at-init : goal.loop-at-init
+loop-at-init c = (refl, seeking_start _ _ c.requires)
+
+pub word_in-w-requires : goal.word_in-w-requires
+word_in-w-requires c = omega arith
+
+pub overflow_add-at : goal.overflow_add-at
+overflow_add-at c = omega arith
+
+pub loop-at-smaller-then-w-ge-TIME_BIN : goal.loop-at-smaller-then-w-ge-TIME_BIN
+loop-at-smaller-then-w-ge-TIME_BIN c = omega arith
+
+pub loop-at-preserved-then-w-ge-TIME_BIN : goal.loop-at-preserved-then-w-ge-TIME_BIN
+loop-at-preserved-then-w-ge-TIME_BIN c = let v = c.loop-at.invariant in (v.0, seeking_one _ _ _ _ v.1 (omega arith) _ c.word_in-w.ensures c.if-w-ge-TIME_BIN.true)
+
+pub returns-then-left-eq0 : goal.returns-then-left-eq0
+returns-then-left-eq0 c = let v = c.loop-at.invariant in seeking_found _ _ _ _ v.1 _ _ (sym (ap view_standing c.in-Item.is) ∙ c.item_at-standing.ensures) (sym c.is_opener.ensures ∙ c.if-is_opener.true) c.if-left-eq0.true
+
+pub overflow_sub-left : goal.overflow_sub-left
+overflow_sub-left c = omega arith
+
+pub loop-at-smaller-then-is_opener : goal.loop-at-smaller-then-is_opener
+loop-at-smaller-then-is_opener c = let v = c.loop-at.invariant in let f = next_further _ _ _ v.1.amid _ _ (sym (ap view_standing c.in-Item.is) ∙ c.item_at-standing.ensures) in omega arith
+
+pub loop-at-preserved-then-is_opener : goal.loop-at-preserved-then-is_opener
+loop-at-preserved-then-is_opener c = let v = c.loop-at.invariant in (v.0, seeking_further _ _ _ _ v.1 _ _ (sym (ap view_standing c.in-Item.is) ∙ c.item_at-standing.ensures) (sym c.is_opener.ensures ∙ c.if-is_opener.true) c.if-left-eq0.false)
+
+pub loop-at-smaller : goal.loop-at-smaller
+loop-at-smaller c = let v = c.loop-at.invariant in let f = next_further _ _ _ v.1.amid _ _ (sym (ap view_standing c.in-Item.is) ∙ c.item_at-standing.ensures) in omega arith
+
+pub loop-at-preserved : goal.loop-at-preserved
+loop-at-preserved c = let v = c.loop-at.invariant in (v.0, seeking_next _ _ _ _ v.1 _ _ (sym (ap view_standing c.in-Item.is) ∙ c.item_at-standing.ensures) (sym c.is_opener.ensures ∙ c.if-is_opener.false))
+
+pub returns-in-Nothing : goal.returns-in-Nothing
+returns-in-Nothing c = let v = c.loop-at.invariant in nothing_there _ _ _ v.1.amid (omega arith) (sym (ap view_standing c.in-Nothing.is) ∙ c.item_at-standing.ensures)
+
+pub returns : goal.returns
+returns c = let v = c.loop-at.invariant in seeking_none _ _ _ _ v.1 (omega arith)

@@ -1,0 +1,57 @@
+-- `questions::scan::seek_histogram` meets its contract.
+-- Assumes nothing.
+use Prim.Native.Nat.{◌-◌}
+use mathlib.Core.Path.{refl, sym, ap, ◌∙◌}
+use native.Mathlib.Omega.{arith}
+use Rattle.cursor.specs.Views.{view_standing}
+use Rattle.questions.proofs.Turns.{amid_range, next_further, nothing_there}
+use Rattle.questions.proofs.HistogramScan.{seeking_start, seeking_bin, seeking_header, seeking_hit, seeking_next, seeking_found, seeking_none}
+use Rattle.questions.proofs.scan.seek_histogram.Goals as goal
+
+pub overflow_sub-last : goal.overflow_sub-last
+overflow_sub-last c = let r = amid_range _ _ _ c.requires in omega arith
+
+pub loop-at-init : goal.loop-at-init
+loop-at-init c = (refl, seeking_start _ _ _ c.requires)
+
+pub word_in-w-requires : goal.word_in-w-requires
+word_in-w-requires c = omega arith
+
+pub overflow_add-at : goal.overflow_add-at
+overflow_add-at c = omega arith
+
+pub loop-at-smaller-then-w : goal.loop-at-smaller-then-w
+loop-at-smaller-then-w c = omega arith
+
+pub loop-at-preserved-then-w : goal.loop-at-preserved-then-w
+loop-at-preserved-then-w c = let v = c.loop-at.invariant in (v.0, seeking_bin _ _ _ _ v.1 (omega arith) _ c.word_in-w.ensures c.if-w.true)
+
+pub overflow_add-result : goal.overflow_add-result
+overflow_add-result c = omega arith
+
+pub returns-then-x-chip : goal.returns-then-x-chip
+returns-then-x-chip c = let v = c.loop-at.invariant in seeking_hit _ _ _ _ v.1 (omega arith) _ c.word_in-w.ensures c.if-w-ge-HISTOGRAM.true _ c.of_word-x.ensures c.if-x-chip.true
+
+pub overflow_add-at-then-w-ge-HISTOGRAM : goal.overflow_add-at-then-w-ge-HISTOGRAM
+overflow_add-at-then-w-ge-HISTOGRAM c = omega arith
+
+pub loop-at-smaller-then-w-ge-HISTOGRAM : goal.loop-at-smaller-then-w-ge-HISTOGRAM
+loop-at-smaller-then-w-ge-HISTOGRAM c = omega arith
+
+pub loop-at-preserved-then-w-ge-HISTOGRAM : goal.loop-at-preserved-then-w-ge-HISTOGRAM
+loop-at-preserved-then-w-ge-HISTOGRAM c = let v = c.loop-at.invariant in (v.0, seeking_header _ _ _ _ v.1 (omega arith) _ c.word_in-w.ensures c.if-w-ge-HISTOGRAM.true _ c.of_word-x.ensures c.if-x-chip.false)
+
+pub returns-then-is_header : goal.returns-then-is_header
+returns-then-is_header c = let v = c.loop-at.invariant in seeking_found _ _ _ _ v.1 _ _ (sym (ap view_standing c.in-Item.is) ∙ c.item_at-standing.ensures) (sym c.is_header.ensures ∙ c.if-is_header.true)
+
+pub loop-at-smaller : goal.loop-at-smaller
+loop-at-smaller c = let v = c.loop-at.invariant in let f = next_further _ _ _ v.1.amid _ _ (sym (ap view_standing c.in-Item.is) ∙ c.item_at-standing.ensures) in omega arith
+
+pub loop-at-preserved : goal.loop-at-preserved
+loop-at-preserved c = let v = c.loop-at.invariant in (v.0, seeking_next _ _ _ _ v.1 _ _ (sym (ap view_standing c.in-Item.is) ∙ c.item_at-standing.ensures) (sym c.is_header.ensures ∙ c.if-is_header.false))
+
+pub returns-in-Nothing : goal.returns-in-Nothing
+returns-in-Nothing c = let v = c.loop-at.invariant in nothing_there _ _ _ v.1.amid (omega arith) (sym (ap view_standing c.in-Nothing.is) ∙ c.item_at-standing.ensures)
+
+pub returns : goal.returns
+returns c = let v = c.loop-at.invariant in seeking_none _ _ _ _ v.1 (omega arith)
