@@ -1,6 +1,8 @@
 // An assembler over the data frames of one card (document 02, request 1): it takes them one by one, goes on with an event over several of them and
 // tells how many were lost before each. What each function answers is said by the definitions of the crate `runs`; each takes all bytes and all
 // arguments. A frame is read once: the step goes by what `read` tells of it and by a few of its words.
+#![tactic(auto)]
+
 ghost use Rattle.std.specs.Prelude.{◌≡◌};
 ghost use Rattle.follower.specs.Follow.{accepted, follow};
 ghost use Rattle.follower.specs.Paper.{state_of};

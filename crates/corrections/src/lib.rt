@@ -1,4 +1,6 @@
 // Many corrections in one call (document 02, request 2): a lent list of them, applied in order by the single edit, up to the first that is refused.
+#![tactic(auto)]
+
 ghost use Rattle.std.specs.Prelude.{◌≡◌, map};
 ghost use Rattle.editor.specs.Views.{asked};
 ghost use Rattle.corrections.specs.Views.{view_corrected};

@@ -1,5 +1,7 @@
 // The follower of frame sequence numbers (document 01, "Sequence numbers"): it is fed the sequence word of each frame that arrives, and tells how
 // many frames were lost before it.
+#![tactic(auto)]
+
 ghost use Rattle.std.specs.Prelude.{◌≡◌, ◌+◌, ◌%◌};
 ghost use Rattle.follower.specs.Follow.{idle, expecting, difference, numbered};
 ghost use Rattle.follower.specs.Paper.{view};
