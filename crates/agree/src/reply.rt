@@ -3,9 +3,10 @@
 ghost use Rattle.std.specs.Prelude.{◌≤◌, length};
 
 use crate::sums;
+use itoa::Buffer;
 
 // A line, or a stretch of one: a word, values, and the lent buffer as the call left it.
-#[derive(Drop)]
+#[derive(Clone, Copy)]
 pub(crate) struct Reply {
     // Whether the line begins here, and whether it ends here.
     pub opens: bool,
@@ -153,7 +154,7 @@ pub(crate) fn left(x: Reply, bytes: &[u8]) -> Reply {
 }
 
 // A piece of a line: a word of at most 8 letters, the first one lowest, or where it has no letters a number; or nothing.
-#[derive(Drop)]
+#[derive(Clone, Copy)]
 struct Piece {
     there: bool,
     // Whether a space stands before it.
@@ -297,10 +298,9 @@ fn append(out: &mut [u8], at: usize, bytes: &[u8]) -> usize
 fn put_number(out: &mut [u8], at: usize, n: u64) -> usize
     ensures { result ≤ length out.new }
 {
-    let mut digits = [0u8; 20];
-    let k = io::decimal(n, &mut digits);
+    let mut digits = Buffer::new();
     let next = append(out, at, b" ");
-    append(out, next, &digits[0..k])
+    append(out, next, digits.format(n).as_bytes())
 }
 
 // Adds a piece.
