@@ -1,7 +1,8 @@
 // A case's head: 72 bytes, numbers low byte first; and what each op allows in it.
-ghost use Rattle.std.specs.Prelude.{◌+◌, ◌*◌, ◌%◌, ◌≡◌};
+ghost use Rattle.std.specs.Prelude.{◌+◌, ◌*◌, ◌%◌, ◌≡◌, ◌≤◌, length};
 
 use book::class::Class;
+use std::io::Read;
 
 // The head, taken apart.
 #[derive(Clone, Copy)]
@@ -57,10 +58,32 @@ fn of_head(head: &[u8], got: usize) -> Case {
     }
 }
 
+// Reads once: 0 bytes at the end of the input, or where the read fails.
+fn read_some(stdin: &mut impl Read, buf: &mut [u8]) -> usize
+    ensures { result ≤ length buf.new }
+{
+    stdin.read(buf).unwrap_or(0)
+}
+
+// Reads until the slice is full or the input ends, and tells how many bytes came.
+pub(crate) fn read_full(stdin: &mut impl Read, buf: &mut [u8]) -> usize
+    ensures { result ≤ length buf.new }
+{
+    let mut done = 0;
+    while done < buf.len() {
+        let n = read_some(stdin, &mut buf[done..]);
+        if n == 0 {
+            break;
+        }
+        done += n;
+    }
+    done
+}
+
 // Reads a head from standard input, as far as it comes.
-pub(crate) fn read() -> Case {
+pub(crate) fn read(stdin: &mut impl Read) -> Case {
     let mut head = [0u8; 72];
-    let got = io::read_full(0, &mut head);
+    let got = read_full(stdin, &mut head);
     of_head(&head, got)
 }
 

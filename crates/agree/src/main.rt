@@ -24,6 +24,7 @@ ghost use Rattle.std.specs.Prelude.{◌≤◌, length};
 
 use cases::Case;
 use reply::Reply;
+use std::io::Read;
 
 // What a turn leaves: how many bytes of the output wait to be written, and whether a further case is to be read.
 #[derive(Clone, Copy)]
@@ -33,23 +34,23 @@ struct After {
 }
 
 // Reads a payload, and tells whether it came whole.
-fn fill(payload: &mut [u8]) -> bool {
+fn fill(stdin: &mut impl Read, payload: &mut [u8]) -> bool {
     if payload.len() == 0 {
         return true;
     }
-    io::read_full(0, payload) == payload.len()
+    cases::read_full(stdin, payload) == payload.len()
 }
 
 // Reads the payloads, which are lent at their own lengths, and answers the case.
-fn read_and_answer(case: Case, p: &mut [u8], q: &mut [u8]) -> Reply {
-    if fill(p) & fill(q) {
+fn read_and_answer(stdin: &mut impl Read, case: Case, p: &mut [u8], q: &mut [u8]) -> Reply {
+    if fill(stdin, p) & fill(stdin, q) {
         return ops::answer(case, p, q);
     }
     reply::no_case()
 }
 
 // Answers a case. p and q are as long as a payload may be.
-fn answered(case: Case, p: &mut [u8], q: &mut [u8]) -> Reply {
+fn answered(stdin: &mut impl Read, case: Case, p: &mut [u8], q: &mut [u8]) -> Reply {
     let n = case.n;
     let m = case.m;
     if p.len() < n {
@@ -58,7 +59,7 @@ fn answered(case: Case, p: &mut [u8], q: &mut [u8]) -> Reply {
     if q.len() < m {
         return reply::no_case();
     }
-    read_and_answer(case, &mut p[0..n], &mut q[0..m])
+    read_and_answer(stdin, case, &mut p[0..n], &mut q[0..m])
 }
 
 // Adds the line of a run, whose payload is in p.
@@ -74,18 +75,18 @@ fn run_line(out: &mut [u8], waiting: usize, case: Case, p: &[u8]) -> usize
 }
 
 // Reads one case and adds its line to what waits. Input that ends here is the end.
-fn turn(p: &mut [u8], q: &mut [u8], out: &mut [u8], waiting: usize) -> After
+fn turn(stdin: &mut impl Read, p: &mut [u8], q: &mut [u8], out: &mut [u8], waiting: usize) -> After
     requires { waiting ≤ length out.old }
     ensures { result.waiting ≤ length out.new }
 {
-    let case = cases::read();
+    let case = cases::read(stdin);
     if case.got == 0 {
         return After {
             waiting,
             more: false,
         };
     }
-    let answer = answered(case, p, q);
+    let answer = answered(stdin, case, p, q);
     if answer.word == Reply::RUN {
         return After {
             waiting: run_line(out, waiting, case, p),
@@ -99,42 +100,43 @@ fn turn(p: &mut [u8], q: &mut [u8], out: &mut [u8], waiting: usize) -> After
 }
 
 // Writes what waits.
-fn write(out: &[u8], waiting: usize) {
+fn write(rt: &impl Print, out: &[u8], waiting: usize) {
     if waiting <= out.len() {
-        io::write_all(1, &out[0..waiting]);
+        let _ = rt.write_all(&out[0..waiting]);
     }
 }
 
 // Writes what waits if a further line might find no room, and gives how much waits from here on.
-fn flushed(out: &[u8], waiting: usize) -> usize
+fn flushed(rt: &impl Print, out: &[u8], waiting: usize) -> usize
     ensures { result ≤ length out.now }
 {
     if waiting < out.len() / 2 {
         return waiting;
     }
-    write(out, waiting);
+    write(rt, out, waiting);
     0
 }
 
 // All cases, up to the end of the input or the first that is none. A proved loop has to end, and nothing says that the input does: so the
 // loop counts its turns down, from a number that no run uses up.
-fn run(p: &mut [u8], q: &mut [u8], out: &mut [u8]) {
+fn run(rt: &impl Print, stdin: &mut impl Read, p: &mut [u8], q: &mut [u8], out: &mut [u8]) {
     let mut turns = u64::MAX;
     let mut waiting = 0;
     let mut more = true;
     while turns > 0 && more {
-        let after = turn(p, q, out, flushed(out, waiting));
+        let after = turn(stdin, p, q, out, flushed(rt, out, waiting));
         waiting = after.waiting;
         more = after.more;
         turns -= 1;
     }
-    write(out, waiting);
+    write(rt, out, waiting);
 }
 
 // The arrays for the payloads are as long as a payload may be.
-fn main() {
+fn main(rt: HostRuntime) {
+    let mut stdin = rt.stdin();
     let mut p = [0u8; 24576];
     let mut q = [0u8; 24576];
     let mut out = [0u8; 32768];
-    run(&mut p, &mut q, &mut out);
+    run(&rt, &mut stdin, &mut p, &mut q, &mut out);
 }

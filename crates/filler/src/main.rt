@@ -8,6 +8,7 @@ ghost use Rattle.std.specs.Prelude.{◌<◌};
 use book::items::{Bin, Histogram, Item};
 use book::words::word;
 use rules::state::{Kind, State};
+use std::io::Read;
 use writer::answers::{Put, Written};
 use writer::calls::{begin, close};
 use writer::steps::put;
@@ -121,24 +122,22 @@ fn sum_of(s: &[u8]) -> u64 {
 }
 
 // Fills frames in a buffer of that length, and tells of the last.
-fn run(buf: &mut [u8], rounds: u16, each: bool) {
+fn run(rt: &impl Print, buf: &mut [u8], rounds: u16, each: bool) {
     let length = fill(buf, rounds, each);
     if length <= buf.len() {
-        io::print_decimal(1, length as u64);
-        io::write_all(1, b" ");
-        io::print_decimal(1, sum_of(&buf[0..length]));
-        io::write_all(1, b"\n");
+        let sum = sum_of(&buf[0..length]);
+        let _ = println!(rt; "{length} {sum}");
     }
 }
 
-fn main() {
+fn main(rt: HostRuntime) {
     let mut buf = [0u8; 8192];
     let mut head = [0u8; 6];
-    io::read_full(0, &mut head);
+    let _ = rt.stdin().read_exact(&mut head);
     let rounds = word(&head, 0);
     let each = word(&head, 2) == 1;
     let size = word(&head, 1) as usize;
     if size <= 8192 {
-        run(&mut buf[0..size], rounds, each);
+        run(&rt, &mut buf[0..size], rounds, each);
     }
 }
