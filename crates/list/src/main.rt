@@ -2,8 +2,6 @@
 // `listing::listing` leaves, written out once.
 #![tactic(auto)]
 
-use listing::answers::Listing;
-
 ghost use Rattle.std.specs.Prelude.{◌≤◌, length};
 
 use listing::answers::Listing;

@@ -1,0 +1,16 @@
+-- `listing::all_lines` meets its contract.
+-- Assumes nothing.
+use mathlib.Core.Path.{ap, sym, ◌∙◌}
+use native.Mathlib.Omega.{arith}
+use Rattle.records.specs.Views.{view_record}
+use Rattle.listing.proofs.Putting.{wider}
+use Rattle.listing.proofs.Listings.{told_known, refused_text, retold}
+use Rattle.listing.proofs.all_lines.Goals as goal
+
+pub record_lines-requires : goal.record_lines-requires
+record_lines-requires c =
+    (told_known _ _ (sym (ap view_record c.in-Record.is) ∙ r.«record».ensures), omega arith)
+
+pub returns-in-Refused : goal.returns-in-Refused
+returns-in-Refused c =
+    wider 92520 (omega arith) (retold (refused_text _ _ _ (sym (ap view_record c.in-Refused.is) ∙ r.«record».ensures)) c.refused_line.ensures)

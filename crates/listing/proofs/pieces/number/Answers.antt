@@ -1,0 +1,15 @@
+-- `listing::pieces::number` meets its contract.
+-- Assumes nothing.
+use Rattle.listing.proofs.Decimals.{twenty}
+use native.Mathlib.Omega.{arith}
+use Rattle.listing.proofs.Putting.{decimal_put}
+use Rattle.listing.proofs.pieces.number.Goals as goal
+
+pub text-requires : goal.text-requires
+text-requires c =
+    let t = twenty _ _ c.ranges.n.fits c.decimal.ensures.1.0 in
+    omega (arith, c.decimal.ensures.0.1)
+
+pub returns : goal.returns
+returns c =
+    decimal_put _ _ _ c.decimal.ensures.1.0 c.decimal.ensures.1.1 c.decimal.ensures.0.1 (twenty _ _ c.ranges.n.fits c.decimal.ensures.1.0) c.text.ensures

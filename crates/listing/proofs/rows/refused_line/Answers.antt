@@ -1,0 +1,10 @@
+-- `listing::rows::refused_line` meets its contract.
+-- Assumes nothing.
+use native.Mathlib.Omega.{arith}
+use Rattle.listing.proofs.Putting.{joined, wider}
+use Rattle.listing.specs.Listing.{refused_line}
+use Rattle.listing.proofs.rows.refused_line.Goals as goal
+
+pub returns : goal.returns
+unfolding refused_line
+returns c = wider 180 (omega arith) (joined (joined c.field-at_place.ensures c.field-at_end.ensures) c.text.ensures)
