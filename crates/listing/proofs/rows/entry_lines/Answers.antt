@@ -47,8 +47,5 @@ loop-j-preserved c =
     let u = up k in
     (omega arith, i.1, u.begins, i.3, i.4, i.5, c.entry_line-next.auto.0 ∙ i.6, more_put _ _ _ _ i.1 i.2 (omega (arith, u.inside)) i.7 c.entry_line-next.ensures)
 
-pub shape_of-line : goal.shape_of-line
-shape_of-line c = c.loop-j.invariant.6
-
 pub returns : goal.returns
 returns c = let i = c.loop-j.invariant in all_put _ _ _ (omega arith) i.7
