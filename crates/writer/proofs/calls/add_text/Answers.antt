@@ -10,4 +10,4 @@ returns-in-Refused c = partial_refused c.args.buf.now _ _ _ _ (ap view_partial (
 
 pub returns-in-Accepted : goal.returns-in-Accepted
 returns-in-Accepted c =
-    text_added c.args.buf.now _ (λ i. (c.type_inv.buf i).fits) _ (ap view_partial (sym c.in-Accepted.is) ∙ c.partial-judged.ensures) _ _ _ c.reached.ensures _ c.put_text.ensures
+    text_added c.args.buf.now _ (λ i. (c.slice_known-1.given i).fits) _ (ap view_partial (sym c.in-Accepted.is) ∙ c.partial-judged.ensures) _ _ _ c.reached.ensures _ c.put_text.ensures
