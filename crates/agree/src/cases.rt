@@ -4,7 +4,7 @@ ghost use Rattle.std.specs.Prelude.{◌+◌, ◌*◌, ◌%◌, ◌≡◌};
 use book::class::Class;
 
 // The head, taken apart.
-#[derive(Drop)]
+#[derive(Clone, Copy)]
 pub(crate) struct Case {
     // How many bytes of the head came: 0 at the end of the input.
     pub got: usize,

@@ -3,6 +3,8 @@
 //
 // The ops that are there: 0 classify, 1 read, 2 item, 3 text, 4 event, 5 samples, 6 counts, 7 begin, 8 add, 9 add text, 10 close, 11 follow, 12 record, 13 entry, 14 open, 15 edit,
 // 16 restore, 17 list, 18 sample word, 19 bin word, 20 a run, 21 one step of an assembler, 22 edit all. Any other is a bad case.
+#![tactic(auto)]
+
 mod cases;
 mod ops;
 mod ops_book;
@@ -24,7 +26,7 @@ use cases::Case;
 use reply::Reply;
 
 // What a turn leaves: how many bytes of the output wait to be written, and whether a further case is to be read.
-#[derive(Drop)]
+#[derive(Clone, Copy)]
 struct After {
     waiting: usize,
     more: bool,

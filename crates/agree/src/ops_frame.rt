@@ -31,7 +31,7 @@ pub(crate) fn read(p: &[u8]) -> Reply {
 }
 
 // The fields of an item in the book's order, and the styles of its line: class, fields, and the next index behind its word.
-#[derive(Drop)]
+#[derive(Clone, Copy)]
 struct Fields {
     styles: u32,
     a: u64,

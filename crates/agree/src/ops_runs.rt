@@ -60,7 +60,7 @@ pub(crate) fn run(p: &[u8]) -> Reply {
 }
 
 // A step's stretch of the line, and the assembler behind it.
-#[derive(Drop)]
+#[derive(Clone, Copy)]
 struct Stepped {
     told: Reply,
     next: PlaneAssembler,

@@ -5,7 +5,7 @@ ghost use Rattle.std.specs.Prelude.{◌≤◌, length};
 use crate::sums;
 
 // A line, or a stretch of one: a word, values, and the lent buffer as the call left it.
-#[derive(Drop)]
+#[derive(Clone, Copy)]
 pub(crate) struct Reply {
     // Whether the line begins here, and whether it ends here.
     pub opens: bool,
@@ -153,7 +153,7 @@ pub(crate) fn left(x: Reply, bytes: &[u8]) -> Reply {
 }
 
 // A piece of a line: a word of at most 8 letters, the first one lowest, or where it has no letters a number; or nothing.
-#[derive(Drop)]
+#[derive(Clone, Copy)]
 struct Piece {
     there: bool,
     // Whether a space stands before it.

@@ -1,6 +1,8 @@
 // An assembler over the data frames of one card (document 02, request 1): it takes them one by one, goes on with an event over several of them and
 // tells how many were lost before each. What each function answers is said by the definitions of the crate `runs`; each takes all bytes and all
 // arguments. A frame is read once: the step goes by what `read` tells of it and by a few of its words.
+#![tactic(auto)]
+
 ghost use Rattle.std.specs.Prelude.{◌≡◌};
 ghost use Rattle.follower.specs.Follow.{accepted, follow};
 ghost use Rattle.follower.specs.Paper.{state_of};
@@ -22,7 +24,7 @@ mod links;
 mod opens;
 
 // An event that is open. Any numbers are taken, and mean what `take` leaves in them.
-#[derive(Drop)]
+#[derive(Clone, Copy)]
 pub struct OpenEvent {
     pub number: u32,
     // Its bytes so far, of all parts, Continue items included.
@@ -40,14 +42,14 @@ impl OpenEvent {
 }
 
 // The event that is open, or none.
-#[derive(Drop)]
+#[derive(Clone, Copy)]
 pub enum Current {
     Nothing,
     Open(OpenEvent),
 }
 
 // It goes in and comes out by value, so on a refusal the caller's own copy stays as it was, its follower too. A card above 31 has no frame.
-#[derive(Drop)]
+#[derive(Clone, Copy)]
 pub struct Assembler {
     pub card: u16,
     pub follower: Follower,
@@ -55,7 +57,7 @@ pub struct Assembler {
 }
 
 // The answer to one frame.
-#[derive(Drop)]
+#[derive(Clone, Copy)]
 pub enum Taken {
     // How many frames were lost before this one, and the assembler from here on.
     Accepted { lost: u8, next: Assembler },

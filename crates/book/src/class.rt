@@ -7,7 +7,7 @@ ghost use Rattle.book.specs.Promises.{Classified, RowTold, TextLong, WordsAfter}
 use crate::page::{classify_on, page};
 
 // A class of document 01's word book, in its order, or none; behind them those of document 02.
-#[derive(Drop)]
+#[derive(Clone, Copy)]
 pub enum Class {
     Channel,
     Histogram,

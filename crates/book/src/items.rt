@@ -11,7 +11,7 @@ use crate::class::Class;
 pub const LAST_CARD: u16 = 31;
 
 // A channel of a chip of a card, whose samples follow.
-#[derive(Drop)]
+#[derive(Clone, Copy)]
 pub struct Channel {
     pub card: u16,
     pub chip: u16,
@@ -19,7 +19,7 @@ pub struct Channel {
 }
 
 // A channel whose histogram follows.
-#[derive(Drop)]
+#[derive(Clone, Copy)]
 pub struct Histogram {
     pub card: u16,
     pub chip: u16,
@@ -27,44 +27,44 @@ pub struct Histogram {
 }
 
 // How many channels of a chip were hit.
-#[derive(Drop)]
+#[derive(Clone, Copy)]
 pub struct HitCount {
     pub card: u16,
     pub chip: u16,
     pub count: u16,
 }
 
-#[derive(Drop)]
+#[derive(Clone, Copy)]
 pub struct Sample {
     pub value: u16,
 }
 
 // How often a value was met.
-#[derive(Drop)]
+#[derive(Clone, Copy)]
 pub struct Bin {
     pub bin: u16,
     pub count: u32,
 }
 
-#[derive(Drop)]
+#[derive(Clone, Copy)]
 pub struct LastCell {
     pub chip: u16,
     pub cell: u16,
 }
 
-#[derive(Drop)]
+#[derive(Clone, Copy)]
 pub struct TimeBin {
     pub time: u16,
 }
 
 // A text of n bytes, the final zero included; its bytes are fetched by a question of their own.
-#[derive(Drop)]
+#[derive(Clone, Copy)]
 pub struct Text {
     pub length: u16,
 }
 
 // An event begins: its type (`type` is a word of the language), timestamp and number.
-#[derive(Drop)]
+#[derive(Clone, Copy)]
 pub struct StartEvent {
     pub kind: u16,
     pub timestamp: u64,
@@ -72,18 +72,18 @@ pub struct StartEvent {
 }
 
 // The size of the event in bytes.
-#[derive(Drop)]
+#[derive(Clone, Copy)]
 pub struct EndEvent {
     pub size: u32,
 }
 
 // The number of an event that began in another frame and goes on in this one.
-#[derive(Drop)]
+#[derive(Clone, Copy)]
 pub struct ContinueEvent {
     pub number: u32,
 }
 
-#[derive(Drop)]
+#[derive(Clone, Copy)]
 pub enum Item {
     Channel(Channel),
     Histogram(Histogram),

@@ -1,7 +1,7 @@
 // A refusal: the number and the place that document 01 gives it.
 use follower::Followed;
 
-#[derive(Drop)]
+#[derive(Clone, Copy)]
 pub struct Refusal {
     pub number: u32,
     pub place: usize,

@@ -1,4 +1,6 @@
 // Many corrections in one call (document 02, request 2): a lent list of them, applied in order by the single edit, up to the first that is refused.
+#![tactic(auto)]
+
 ghost use Rattle.std.specs.Prelude.{◌≡◌, map};
 ghost use Rattle.editor.specs.Views.{asked};
 ghost use Rattle.corrections.specs.Views.{view_corrected};
@@ -9,7 +11,7 @@ use editor::answers::Done;
 use editor::editing::{Correction, edit};
 
 // Every correction was made; or the one at this position, from 0, was refused, and those before it stand.
-#[derive(Drop)]
+#[derive(Clone, Copy)]
 pub enum Corrected {
     Done,
     Stopped(usize, Refusal),

@@ -19,14 +19,14 @@ use book::items::{
 use book::words::{long, time, word};
 
 // An item, and the index of the word behind it: of the next item, or of the end word.
-#[derive(Drop)]
+#[derive(Clone, Copy)]
 pub struct FoundItem {
     pub item: Item,
     pub next: usize,
 }
 
 // What stands at a word: an item, whole, or none.
-#[derive(Drop)]
+#[derive(Clone, Copy)]
 pub enum Standing {
     Item(FoundItem),
     Nothing,

@@ -6,7 +6,7 @@ ghost use Rattle.editor.specs.Views.{view_done, also, refusing};
 use book::refusal::Refusal;
 
 // Accepted, or refused with a number and a place; accepted, the calls answer only that.
-#[derive(Drop)]
+#[derive(Clone, Copy)]
 pub enum Done {
     Accepted,
     Refused(Refusal),

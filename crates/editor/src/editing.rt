@@ -24,7 +24,7 @@ use records::values::{legal, put_value};
 // What an edit asks: the item by the index of its first word, its new value, who corrects it for what reason, and when, by the caller's clock. The
 // numbers are wide enough that every one out of range can be given, and is refused.
 #[repr(C)]
-#[derive(Drop)]
+#[derive(Clone, Copy)]
 pub struct Correction {
     pub word: usize,
     pub value: u32,

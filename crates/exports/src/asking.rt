@@ -12,14 +12,14 @@ use questions::samples::samples;
 use questions::words::{bin_word, sample_word};
 
 // What the Start event tells, and whether it is in the frame; likewise the End event.
-#[derive(Drop)]
+#[derive(Clone, Copy)]
 struct Opening {
     began: u8,
     kind: u16,
     timestamp: u64,
 }
 
-#[derive(Drop)]
+#[derive(Clone, Copy)]
 struct Closing {
     ended: u8,
     size: u32,

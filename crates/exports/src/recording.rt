@@ -45,7 +45,7 @@ pub fn plane_record(buffer: &[u8]) -> PlaneRecord
 }
 
 // Whether an entry keeps a time, and which; the desk is 0 in every record that is accepted.
-#[derive(Drop)]
+#[derive(Clone, Copy)]
 struct Kept {
     timed: u8,
     time: u64,

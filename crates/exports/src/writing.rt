@@ -54,7 +54,7 @@ pub fn plane_begin(buffer: &mut [u8], kind: u16, card: u16, sequence: u16) -> Pl
 }
 
 // What a flat item says: an item, or the number that its class is refused by.
-#[derive(Drop)]
+#[derive(Clone, Copy)]
 enum Given {
     Item(Item),
     Flawed(u32),

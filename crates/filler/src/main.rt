@@ -1,6 +1,8 @@
 // Fills monitor frames by the writer's step, for the measurements (bench/), whose fill.c does the same by its baseline. Six bytes on standard
 // input, words low byte first: how many frames, of how many bytes at most, and 1 where each is closed (else only the last is). Every frame has
 // other bins and counts. Prints the last frame's length and a sum of its bytes.
+#![tactic(auto)]
+
 ghost use Rattle.std.specs.Prelude.{◌<◌};
 
 use book::items::{Bin, Histogram, Item};

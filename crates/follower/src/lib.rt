@@ -1,12 +1,14 @@
 // The follower of frame sequence numbers (document 01, "Sequence numbers"): it is fed the sequence word of each frame that arrives, and tells how
 // many frames were lost before it.
+#![tactic(auto)]
+
 ghost use Rattle.std.specs.Prelude.{◌≡◌, ◌+◌, ◌%◌};
 ghost use Rattle.follower.specs.Follow.{idle, expecting, difference, numbered};
 ghost use Rattle.follower.specs.Paper.{view};
 ghost use Rattle.follower.specs.Promises.{Unstarted, FollowedBy};
 
 // What the follower knows. It goes in and comes out by value, so on a refusal the caller's own copy stays as it was.
-#[derive(Drop)]
+#[derive(Clone, Copy)]
 pub enum Follower {
     // No start was seen.
     Idle,
@@ -15,7 +17,7 @@ pub enum Follower {
 }
 
 // The answer to one sequence word.
-#[derive(Drop)]
+#[derive(Clone, Copy)]
 pub enum Followed {
     // How many frames were lost before this one, and the follower from here on.
     Accepted { lost: u8, next: Follower },

@@ -1,1 +1,2 @@
 // The meaning of document 01: its definitions are in specs/, and what follows from them in proofs/. It has no code.
+#![tactic(auto)]

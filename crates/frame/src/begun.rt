@@ -3,7 +3,7 @@ use book::refusal::Refusal;
 use rules::state::{Kind, State};
 
 // An accepted partial frame: what its first words say, and the state behind its items.
-#[derive(Drop)]
+#[derive(Clone, Copy)]
 pub struct PartialFrame {
     pub kind: Kind,
     pub card: u16,
@@ -11,7 +11,7 @@ pub struct PartialFrame {
     pub state: State,
 }
 
-#[derive(Drop)]
+#[derive(Clone, Copy)]
 pub enum Partial {
     Accepted(PartialFrame),
     Refused(Refusal),

@@ -10,14 +10,14 @@ use book::refusal::Refusal;
 use cursor::standing::{Standing, item_at};
 
 // An item, the index of its own first word, and that of the next item, or of the end word.
-#[derive(Drop)]
+#[derive(Clone, Copy)]
 pub struct IndexedItem {
     pub index: usize,
     pub item: Item,
     pub next: usize,
 }
 
-#[derive(Drop)]
+#[derive(Clone, Copy)]
 pub enum Found {
     Item(IndexedItem),
     Refused(Refusal),

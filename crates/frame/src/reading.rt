@@ -13,7 +13,7 @@ use book::words::word;
 use rules::state::{Kind, State, may_end};
 
 // An accepted frame: what its first words say, how many items it has, and the state behind them.
-#[derive(Drop)]
+#[derive(Clone, Copy)]
 pub struct Frame {
     pub kind: Kind,
     pub card: u16,
@@ -22,14 +22,14 @@ pub struct Frame {
     pub state: State,
 }
 
-#[derive(Drop)]
+#[derive(Clone, Copy)]
 pub enum Reading {
     Accepted(Frame),
     Refused(Refusal),
 }
 
 // An accepted frame, and the word index of the item asked for (0 where there is none).
-#[derive(Drop)]
+#[derive(Clone, Copy)]
 pub(crate) enum Indexed {
     Accepted(Frame, usize),
     Refused(Refusal),

@@ -23,7 +23,7 @@ const BIN_WORDS: usize = 3;
 const MANY: usize = MOST / 2;
 
 // Some repeats: the index behind them, how many they are, and the state's `next` behind them; nothing else of the state is changed by them.
-#[derive(Drop)]
+#[derive(Clone, Copy)]
 pub(crate) struct Repeats {
     pub at: usize,
     pub count: usize,
@@ -135,7 +135,7 @@ fn past_hits(s: &[u8], at: usize, stop: usize, card: u16) -> usize
 const BEFORE_BINS: u64 = Class::BIN as u64 - 1;
 
 // The index behind some Bins, and the word of the last.
-#[derive(Drop)]
+#[derive(Clone, Copy)]
 struct Binned {
     at: usize,
     word: u64,

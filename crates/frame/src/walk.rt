@@ -125,14 +125,14 @@ fn step(s: &[u8], rows: &[u8; 256], last: usize, at: usize, card: u16, st: State
 }
 
 // How many items there are, the word index of the item asked for, and the state behind them all.
-#[derive(Drop)]
+#[derive(Clone, Copy)]
 pub struct Summary {
     pub count: usize,
     pub index: usize,
     pub state: State,
 }
 
-#[derive(Drop)]
+#[derive(Clone, Copy)]
 pub enum Walked {
     Ended(Summary),
     Refused(Refusal),

@@ -1,5 +1,7 @@
 // Reads a record buffer from standard input and prints its listing (document 01, "Figures to agree with"). What is printed are the bytes that
 // `listing::listing` leaves, written out once.
+#![tactic(auto)]
+
 use listing::answers::Listing;
 
 // Says that the listing could not be written. A program of this language has no exit status of its own: bin/list makes one of these words.

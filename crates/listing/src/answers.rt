@@ -3,7 +3,7 @@ use book::refusal::Refusal;
 use records::answers::Record;
 
 // The length in bytes of a listing that was written, or a refusal.
-#[derive(Drop)]
+#[derive(Clone, Copy)]
 pub enum Listing {
     Length(usize),
     Refused(Refusal),

@@ -1,4 +1,6 @@
 // What the program `list` prints of a record, as bytes in lent memory.
+#![tactic(auto)]
+
 ghost use Rattle.std.specs.Prelude.{◌≡◌, ◌≤◌, length};
 ghost use Rattle.listing.specs.Listing as listings;
 ghost use Rattle.listing.specs.Writes.{Put, Known};

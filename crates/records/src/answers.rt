@@ -2,7 +2,7 @@
 use book::refusal::Refusal;
 
 // What a Channel or Histogram item says of the items that follow it; zeros before any.
-#[derive(Drop)]
+#[derive(Clone, Copy)]
 pub struct Header {
     pub card: u16,
     pub chip: u16,
@@ -10,7 +10,7 @@ pub struct Header {
 }
 
 // A Sample or Bin: its kind (1 sample, 2 bin), its value, and the header it stands under.
-#[derive(Drop)]
+#[derive(Clone, Copy)]
 pub struct Spot {
     pub kind: u16,
     pub value: u32,
@@ -25,14 +25,14 @@ impl Spot {
 }
 
 // What stands at a word of a frame: a Sample or Bin that begins there, or nothing that may be corrected.
-#[derive(Drop)]
+#[derive(Clone, Copy)]
 pub enum SpotFound {
     Spot(Spot),
     Nothing,
 }
 
 // An accepted record: its frame's length in bytes, how many entries it has, and its own length in bytes.
-#[derive(Drop)]
+#[derive(Clone, Copy)]
 pub struct Record {
     pub length: usize,
     pub count: usize,
@@ -73,28 +73,28 @@ impl Record {
     pub const LAST_WORD: usize = 7;
 }
 
-#[derive(Drop)]
+#[derive(Clone, Copy)]
 pub enum RecordFound {
     Record(Record),
     Refused(Refusal),
 }
 
 // An accepted record, and what stands at the word asked for.
-#[derive(Drop)]
+#[derive(Clone, Copy)]
 pub enum Judged {
     Accepted(Record, SpotFound),
     Refused(Refusal),
 }
 
 // What an entry keeps after the reason: nothing in version 1; in version 2 the time that was given with the correction, and a desk number, 0 for now.
-#[derive(Drop)]
+#[derive(Clone, Copy)]
 pub enum Stamp {
     Missing,
     Given(u64, u16),
 }
 
 // An entry of the history: the value at a word was changed from old to new.
-#[derive(Drop)]
+#[derive(Clone, Copy)]
 pub struct Entry {
     pub word: u16,
     pub kind: u16,
@@ -140,7 +140,7 @@ impl Entry {
     pub const DESK: u16 = 0;
 }
 
-#[derive(Drop)]
+#[derive(Clone, Copy)]
 pub enum EntryFound {
     Entry(Entry),
     Refused(Refusal),

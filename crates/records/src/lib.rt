@@ -1,4 +1,6 @@
 // The plane record, a frame with its edit history, is judged: record, entry, and what stands at a word of its frame.
+#![tactic(auto)]
+
 ghost use Rattle.std.specs.Prelude.{◌≡◌, ℕ, ◌≤◌, length, get_or};
 ghost use Rattle.ledger.specs.Versions.{format_for, format_in};
 ghost use Rattle.records.specs.Views.{view_record, view_judged, summary_of, framed_answer, history_judged};

@@ -1,7 +1,7 @@
 // What a reader has to remember of the items behind it; a state goes in by value and comes back.
 ghost use Rattle.rules.specs.Promises.{Started, MayEnd, MayStart, MayContinue, MayStandInside, MayTime, MaySample, MayHistogram, MayBin, MayText, PausedFrom};
 
-#[derive(Drop)]
+#[derive(Clone, Copy)]
 pub enum Kind {
     Data,
     Monitor,
@@ -10,7 +10,7 @@ pub enum Kind {
 
 // Where the next item would stand. The order is for speed alone: the places that most words of a data frame stand in come first, side by side,
 // so that a test for two of them is one comparison.
-#[derive(Drop)]
+#[derive(Clone, Copy)]
 pub enum Mode {
     AfterTime,
     AfterSample,
@@ -24,7 +24,7 @@ pub enum Mode {
 }
 
 // Where events begin and end. The leading part is that of an event that began in another frame: a Continue event opens it.
-#[derive(Drop)]
+#[derive(Clone, Copy)]
 pub struct Marks {
     // The word index of the latest Start event; 0 where the frame has none. Whether its event is open is the mode's to tell.
     pub opener: usize,
@@ -34,7 +34,7 @@ pub struct Marks {
     pub lead: usize,
 }
 
-#[derive(Drop)]
+#[derive(Clone, Copy)]
 pub struct State {
     pub mode: Mode,
     // A header's key is at least this.

@@ -15,7 +15,7 @@ use book::items::{
 use book::refusal::Refusal;
 
 // One turn: the state after the item and the index of the next, or a refusal's number.
-#[derive(Drop)]
+#[derive(Clone, Copy)]
 pub enum Step {
     Moved(State, usize),
     Stopped(u32),

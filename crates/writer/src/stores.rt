@@ -40,7 +40,7 @@ fn put_six(buf: &mut [u8], at: usize, w: u16, time: u64, n: u32)
 }
 
 // What an item is written as: a word, a word and a number of 32 bits, or a word and numbers of 48 and 32 bits; a text is put by its letters.
-#[derive(Drop)]
+#[derive(Clone, Copy)]
 pub(crate) enum Piece {
     Word(u16),
     Long(u16, u32),

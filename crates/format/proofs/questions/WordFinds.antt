@@ -106,7 +106,7 @@ sample_found t u at w (HitCount a b c ∷ xs) e = no_some w e
 sample_found t u at w (Sample n ∷ xs) e =
     either_way (eqb u t) _ _ w e
     (λ p i. here (eqb-true u t p) _ (some_is _ w i) (omega arith))
-    (λ p i. later _ _ (sample_found t _ _ w xs i) (omega arith) (omega arith))
+    (λ p i. later _ _ (sample_found t (suc u) (at + 1) w xs i) (omega arith) (omega arith))
   where
     here : u ≡ t → (k : ℕ) → k ≡ w → k ≡ at → SampleFound u at (Sample n ∷ xs) t w
     here q k i j = first n (record { run = []; after = xs; items = refl; samples = refl; at = omega arith }) (omega arith)
@@ -120,7 +120,7 @@ sample_found t u at w (Sample n ∷ xs) e =
         (omega (arith, i))
 sample_found t u at w (Bin b n ∷ xs) e = no_some w e
 sample_found t u at w (LastCell a b ∷ xs) e = no_some w e
-sample_found t u at w (TimeBin n ∷ xs) e = later _ _ (sample_found t _ _ w xs e) (omega arith) (omega arith)
+sample_found t u at w (TimeBin n ∷ xs) e = later _ _ (sample_found t n (at + 1) w xs e) (omega arith) (omega arith)
   where
     later : (v k : ℕ) → SampleFound v k xs t w → v ≡ n → k ≡ at + 1 → SampleFound u at (TimeBin n ∷ xs) t w
     later v k (first m h i) p q =
@@ -173,7 +173,7 @@ bin_found b at w (Sample v ∷ xs) e = no_some w e
 bin_found b at w (Bin d n ∷ xs) e =
     either_way (eqb d b) _ _ w e
     (λ p i. here (eqb-true d b p) _ (some_is _ w i) (omega arith))
-    (λ p i. later _ (bin_found b _ w xs i) (omega arith))
+    (λ p i. later _ (bin_found b (at + 3) w xs i) (omega arith))
   where
     here : d ≡ b → (k : ℕ) → k ≡ w → k ≡ at → BinFound at (Bin d n ∷ xs) b w
     here q k i j = record {

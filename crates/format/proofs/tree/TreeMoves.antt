@@ -113,6 +113,10 @@ events_moves (event t ts n ps z ∷ es) o l u =
 from_begin : (xs : List Item) → Moves out xs → Moves begin xs
 from_begin xs (done _ f) = done begin (at_outer begin at_first)
 from_begin xs (move _ st' x ys (starts _ t ts n o) ms) = move _ _ _ _ (starts begin t ts n at_first) ms
+from_begin _ (move _ _ _ ys (counts _ h m n a b c o) ms) = elim o [ ]
+from_begin _ (move _ _ _ ys (cells _ h m n a b o) ms) = elim o [ ]
+from_begin _ (move _ _ _ ys (opens _ h m n a b c o _) ms) = elim o [ ]
+from_begin _ (move _ _ _ ys (ends _ h m n z o _) ms) = elim o [ ]
 
 pub readout_moves : (r : Readout) → ReadoutOrdered r → Moves begin (of_readout r)
 readout_moves (events new es o) l = from_begin (of_events es (of_tail o)) (events_moves es o l.1 l.2)

@@ -64,7 +64,7 @@ unfolding first_of
 refused_first [] n p e = let z : accepted tt ≡ refused n p = e in let y : ◌≡◌ {A = ℕ} 0 1 = cc in absurd (omega arith)
 refused_first (accepted u ∷ os) n p e =
     let r = refused_first os n p e in
-    record { at = suc r.at; refuses = r.refuses; earlier = λ j. elim j [ zero ↦ λ h. refl | suc i ↦ λ h. r.earlier i (let k : suc i < suc r.at = h in omega arith) ] }
+    record { at = suc r.at; refuses = r.refuses; earlier = λ j. elim j as (λ k. k < suc r.at → get_or (accepted u ∷ os) k (accepted tt) ≡ accepted tt) [ zero ↦ λ h. refl | suc i ↦ λ h. r.earlier i (let k : suc i < suc r.at = h in omega arith) ] }
 refused_first (refused m q ∷ os) n p e = record { at = 0; refuses = e; earlier = λ j h. absurd (omega arith) }
 
 pub first_refused : (os : List Done) (n p i : ℕ) → get_or os i (accepted tt) ≡ refused n p → ((j : ℕ) → j < i → get_or os j (accepted tt) ≡ accepted tt)

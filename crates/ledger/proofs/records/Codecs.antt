@@ -154,7 +154,7 @@ pub entry_back : (F : Format) → LawfulFormat F → (s : List ℕ) → Bytes s 
 unfolding entry_bytes entry_of
 entry_back F L s y h g =
     let l : F.extra ≤ length (drop 16 s) = rw (length-drop 16 s) (omega arith) in
-    let w = L.Written-Read (drop 16 s) (bytes_drop s 16 y) l g in
+    let w = L.written_read (drop 16 s) (bytes_drop s 16 y) l g in
     let e : take 16 s ≡ bytes (eight s) = first_eight s y (omega arith) in
     let w₂ = word_below s y 2 in
     let w₄ = word_below s y 4 in

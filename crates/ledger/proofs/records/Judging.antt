@@ -128,7 +128,7 @@ module _ (B : FrameBook) (F : Format) where
     below = let l = u.below in omega arith;
     number = u.number;
     place = let l = u.place in omega arith;
-    newer = λ m. elim m [ zero ↦ λ l. q | suc i ↦ λ l. u.newer i (let k : suc i < suc u.at = l in omega arith) ];
+    newer = λ m. elim m as (λ k. k < suc u.at → fits B F (undone B f (take k (e ∷ es))) (get_or (e ∷ es) k d) ≡ true) [ zero ↦ λ l. q | suc i ↦ λ l. u.newer i (let k : suc i < suc u.at = l in omega arith) ];
     fails = u.fails;
   }
 

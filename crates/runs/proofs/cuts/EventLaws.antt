@@ -253,7 +253,7 @@ module _ (P : List Item → Type 0) where
   each_formed : ((t ts n : ℕ) (xs : List Item) → Formed true xs → P (StartEvent t ts n ∷ until start_event xs)) → (o : Bool) (xs : List Item) → Formed o xs → Each P (events xs)
   unfolding Formed Each events
   each_formed h o [] f = tt
-  each_formed h o (x ∷ xs) f = go f.0 (each_formed h _ xs f.1)
+  each_formed h o (x ∷ xs) f = go f.0 (each_formed h (not (same end_event (class_for x))) xs f.1)
     where
       go : Turn o x → Each P (events xs) → Each P (events (x ∷ xs))
       go (a_start t ts n i e) r =

@@ -83,7 +83,7 @@ module _ (card : ℕ) (st : follower.State) (earlier : List Item) where
           let d = is_data_lem f.kind (and_left K N (and_left (K && N) _ w)) in
           let c = eqb-true f.card card (and_right K N (and_left (K && N) _ w)) in
           let m = (links f.card lost p f.items (data_sound f l d) (few_words f l)).0 (and_right (K && N) _ w) in
-          let h : Part card st earlier f = record { legal = l; is_data_lem = d; same_card = c; lost = lost; next = next; followed = e; joins = m } in
+          let h : Part card st earlier f = record { legal = l; is_data = d; same_card = c; lost = lost; next = next; followed = e; joins = m } in
           record {
             frame = f;
             written = i;
