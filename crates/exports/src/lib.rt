@@ -1,10 +1,5 @@
-<<<<<<< HEAD
 // Every call of documents 01 and 02 under a plain name, with flat answers, laid out as C lays them out: the crate exports_c hands each of them to C and
 // Rust. Each call calls the one function that it is named for and lays its answer out flat; what it promises is that function's promise.
-=======
-// The static library for C and Rust on x86-64: every call of documents 01 and 02 under a plain name, with flat answers. include/plane_record.h says the
-// same to C. Each export calls the one function that it is named for and lays its answer out flat; what it promises is that function's promise.
->>>>>>> 6bc7be7479a38c2b4055cf5803b546dcddc5f777
 #![tactic(auto)]
 
 pub mod answers;
