@@ -9,9 +9,6 @@ use Rattle.agree.proofs.sums.bytes.Goals as goal
 pub loop-i-init : goal.loop-i-init
 loop-i-init c = start _
 
-pub overflow_cast-s : goal.overflow_cast-s
-overflow_cast-s c = omega (arith, c.type_inv.s c.loop-i.i)
-
 pub add-a-requires : goal.add-a-requires
 add-a-requires c = (omega arith, omega (arith, c.type_inv.s c.loop-i.i))
 
