@@ -8,8 +8,10 @@ use native.Mathlib.Nat.{pow-suc, one-le-pow, pow-le-pow_right}
 use native.Mathlib.Omega.{arith}
 use lib.Dec.{ltb, leb}
 use borrow.Author.Tests.{ltb-false, lt-ltb, le-ltb, leb-true, leb-false}
-use Rattle.io.specs.Digits.{hex_digit_ascii, last_digits, IsDigitCount}
+use Rattle.listing.proofs.Digits.{hex_digit_ascii, last_digits, IsDigitCount}
 use Rattle.format.specs.Words.{pick}
+use Rattle.std.specs.Fmt as fmt
+use Rattle.std.proofs.lemmas.Fmt.{AppendsLastDigit, decimal_from_appends, length-decimal-le_succ}
 use Rattle.listing.specs.Text.{digit, decimal_in, decimal}
 
 -- any count of steps that the number does not pass is enough
@@ -65,3 +67,16 @@ twenty n k h f = go (leb k 20) refl
         let p : 10 ^ 20 ≤ 10 ^ (k - 1) = pow-le-pow_right {n = 10} (omega arith) {i = 20} {j = k - 1} (omega arith) in
         let q : 10 ^ (k - 1) ≤ n = f.2 (omega arith) in
         absurd (omega arith)
+
+appends : AppendsLastDigit decimal_in
+unfolding decimal_in
+appends =
+    record {
+      one = λ k n h. rw (lt-ltb n 10 h);
+      more = λ k n h. rw (le-ltb n 10 h);
+    }
+
+-- the decimals that the library prints are these
+pub std_decimal : (n : ℕ) → n < 2 ^ 64 → fmt.decimal n ≡ decimal n
+unfolding decimal
+std_decimal n h = sym (decimal_from_appends decimal_in appends (n + 1) n h (length-decimal-le_succ n h)) ∙ enough (n + 1) n n (omega arith) (omega arith)

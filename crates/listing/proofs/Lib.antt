@@ -1,4 +1,5 @@
 pub mod front
+pub mod Digits
 pub mod Decimals
 pub mod TimedFigure
 pub mod Putting

@@ -1,6 +1,6 @@
 -- Texts that are put one behind the other are one text.
 -- Assumes nothing.
-use Prim.Native.Nat.{ℕ, ◌+◌, ◌-◌, ◌≤◌}
+use Prim.Native.Nat.{ℕ, ◌+◌, ◌-◌, ◌^◌, ◌≤◌, ◌<◌}
 use mathlib.Core.Path.{◌≡◌, refl, ap, ◌∙◌}
 use mathlib.Core.List.{List, ◌++◌}
 use native.Mathlib.Omega.{arith}
@@ -8,10 +8,12 @@ use lib.ListN.{length, take, drop, length-append}
 use lib.Seq.{sets}
 use borrow.Rule.Slice.PartMut.{put_mid}
 use Rattle.format.proofs.items.StoringLaws.{sets_append, part_stores}
-use Rattle.io.specs.Digits.{last_digits, IsDigitCount}
+use Rattle.listing.proofs.Digits.{last_digits, IsDigitCount}
 use Rattle.listing.specs.Text.{decimal}
 use Rattle.listing.specs.Writes.{Put}
-use Rattle.listing.proofs.Decimals.{spelt}
+use Rattle.std.specs.Fmt as fmt
+use Rattle.std.proofs.lemmas.Fmt.{length-decimal-le}
+use Rattle.listing.proofs.Decimals.{spelt, std_decimal}
 
 pub joined : {m n : ℕ} {l k o : List ℕ} {at i j : ℕ} {a b : List ℕ} → Put m l at a k i → Put n k i b o j → Put (m + n) l at (a ++ b) o j
 joined {m} {n} {l} {k} {o} {at} {i} {j} {a} {b} p q =
@@ -39,6 +41,17 @@ pub decimal_put : (n k : ℕ) (ds : List ℕ) → IsDigitCount 10 1 n k → take
     → {l left : List ℕ} {at next : ℕ} → Put (length (take k ds)) l at (take k ds) left next → Put 20 l at (decimal n) left next
 decimal_put n k ds f e c h {l} {left} {at} {next} p =
     let d : take k ds ≡ decimal n = e ∙ spelt k n f in
+    record {
+      stored = p.stored ∙ ap (λ (x : List ℕ). sets l at x) d;
+      behind = p.behind ∙ ap (λ (x : List ℕ). at + length x) d;
+      few = let g = p.few in omega arith;
+    }
+
+-- a number's decimals as the library prints them
+pub number_put : (n : ℕ) (s : List ℕ) → n < 2 ^ 64 → s ≡ fmt.decimal n → {l left : List ℕ} {at next : ℕ} → Put (length s) l at s left next → Put 20 l at (decimal n) left next
+number_put n s h e {l} {left} {at} {next} p =
+    let d : s ≡ decimal n = e ∙ std_decimal n h in
+    let k : length s ≤ 20 = rw e (length-decimal-le 20 n (omega arith) (omega arith) h) in
     record {
       stored = p.stored ∙ ap (λ (x : List ℕ). sets l at x) d;
       behind = p.behind ∙ ap (λ (x : List ℕ). at + length x) d;
