@@ -87,8 +87,7 @@ fn flat_event(found: EventFound) -> PlaneEvent
 }
 
 // Event e of a frame, from 0: `questions::event`.
-#[unsafe(no_mangle)]
-pub extern "C" fn plane_event(frame: &[u8], e: usize) -> PlaneEvent
+pub fn plane_event(frame: &[u8], e: usize) -> PlaneEvent
     ensures { EventTold frame.now e result }
 {
     flat_event(event(frame, e))
@@ -110,22 +109,14 @@ fn flat_filled(filled: Filled) -> PlaneDone
 }
 
 // The samples of event e, a chip and a channel into the first 512 words of `out`: `questions::samples`.
-#[unsafe(no_mangle)]
-pub extern "C" fn plane_samples(
-    frame: &[u8],
-    e: usize,
-    chip: u16,
-    channel: u16,
-    out: &mut [u16],
-) -> PlaneDone
+pub fn plane_samples(frame: &[u8], e: usize, chip: u16, channel: u16, out: &mut [u16]) -> PlaneDone
     ensures { Sampled frame.now e chip channel out.old result out.new }
 {
     flat_filled(samples(frame, e, chip, channel, out))
 }
 
 // The counts of a chip's and a channel's histogram into the first 4,096 words of `out`: `questions::counts`.
-#[unsafe(no_mangle)]
-pub extern "C" fn plane_counts(frame: &[u8], chip: u16, channel: u16, out: &mut [u32]) -> PlaneDone
+pub fn plane_counts(frame: &[u8], chip: u16, channel: u16, out: &mut [u32]) -> PlaneDone
     ensures { Counted frame.now chip channel out.old result out.new }
 {
     flat_filled(counts(frame, chip, channel, out))
@@ -149,22 +140,14 @@ fn flat_word(found: WordFound) -> PlaneWord
 }
 
 // The word of the sample at a time, of event e, a chip and a channel: `questions::sample_word`.
-#[unsafe(no_mangle)]
-pub extern "C" fn plane_sample_word(
-    frame: &[u8],
-    e: usize,
-    chip: u16,
-    channel: u16,
-    time: u16,
-) -> PlaneWord
+pub fn plane_sample_word(frame: &[u8], e: usize, chip: u16, channel: u16, time: u16) -> PlaneWord
     ensures { SampleWordTold frame.now e chip channel time result }
 {
     flat_word(sample_word(frame, e, chip, channel, time))
 }
 
 // The word of the bin of a number, of a chip's and a channel's histogram: `questions::bin_word`.
-#[unsafe(no_mangle)]
-pub extern "C" fn plane_bin_word(frame: &[u8], chip: u16, channel: u16, bin: u16) -> PlaneWord
+pub fn plane_bin_word(frame: &[u8], chip: u16, channel: u16, bin: u16) -> PlaneWord
     ensures { BinWordTold frame.now chip channel bin result }
 {
     flat_word(bin_word(frame, chip, channel, bin))

@@ -85,16 +85,14 @@ fn flat_taken(given: PlaneAssembler, taken: Taken) -> PlaneTaken
 }
 
 // An assembler of a card that has taken nothing: `Assembler::new`.
-#[unsafe(no_mangle)]
-pub extern "C" fn plane_new_assembler(card: u16) -> PlaneAssembler
+pub fn plane_new_assembler(card: u16) -> PlaneAssembler
     ensures { AssemblerMade card result }
 {
     flat_assembler(Assembler::new(card))
 }
 
 // The next frame of the run: `Assembler::take`.
-#[unsafe(no_mangle)]
-pub extern "C" fn plane_take(assembler: PlaneAssembler, frame: &[u8]) -> PlaneTaken
+pub fn plane_take(assembler: PlaneAssembler, frame: &[u8]) -> PlaneTaken
     ensures { TakeTold assembler frame.now result }
 {
     let state = assembler_of(assembler);
@@ -102,8 +100,7 @@ pub extern "C" fn plane_take(assembler: PlaneAssembler, frame: &[u8]) -> PlaneTa
 }
 
 // The open event is given up: `Assembler::give_up`.
-#[unsafe(no_mangle)]
-pub extern "C" fn plane_give_up(assembler: PlaneAssembler) -> PlaneAssembler
+pub fn plane_give_up(assembler: PlaneAssembler) -> PlaneAssembler
     ensures { GivenUpTold assembler result }
 {
     let state = assembler_of(assembler);

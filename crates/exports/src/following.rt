@@ -56,8 +56,7 @@ fn flat_followed(given: PlaneFollower, followed: Followed) -> PlaneFollowed
 }
 
 // Feeds the follower the sequence word of a frame: `Follower::follow`.
-#[unsafe(no_mangle)]
-pub extern "C" fn plane_follow(follower: PlaneFollower, word: u16) -> PlaneFollowed
+pub fn plane_follow(follower: PlaneFollower, word: u16) -> PlaneFollowed
     ensures { FollowTold follower word result }
 {
     let state = follower_of(follower);

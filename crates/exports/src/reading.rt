@@ -14,8 +14,7 @@ use frame::reading::{Reading, read};
 use rules::state::Kind;
 
 // The row of a word's class in document 01's word book, from 1 on; 0 where it has none.
-#[unsafe(no_mangle)]
-pub extern "C" fn plane_classify(word: u16) -> u32
+pub fn plane_classify(word: u16) -> u32
     ensures { ClassNumbered word result }
 {
     classify(word).row()
@@ -58,8 +57,7 @@ fn flat_frame(reading: Reading) -> PlaneFrame
 }
 
 // Whether the bytes are a frame, and of what kind, card, sequence word and number of items: `frame::read`.
-#[unsafe(no_mangle)]
-pub extern "C" fn plane_read(frame: &[u8]) -> PlaneFrame
+pub fn plane_read(frame: &[u8]) -> PlaneFrame
     ensures { FrameTold frame.now result }
 {
     flat_frame(read(frame))
@@ -176,8 +174,7 @@ fn flat_found(found: Found) -> PlaneFound
 }
 
 // Item n of a frame, from 0: `frame::item`.
-#[unsafe(no_mangle)]
-pub extern "C" fn plane_item(frame: &[u8], n: usize) -> PlaneFound
+pub fn plane_item(frame: &[u8], n: usize) -> PlaneFound
     ensures { ItemTold frame.now n result }
 {
     flat_found(item(frame, n))
@@ -185,8 +182,7 @@ pub extern "C" fn plane_item(frame: &[u8], n: usize) -> PlaneFound
 
 // Where the bytes of the text that is item n lie, without the final zero, in the frame itself: right after the text's word. An export cannot answer
 // with the part that `frame::text` gives, so its place is worked out from the item question, as that function does.
-#[unsafe(no_mangle)]
-pub extern "C" fn plane_text(frame: &[u8], n: usize) -> PlaneText
+pub fn plane_text(frame: &[u8], n: usize) -> PlaneText
     ensures { TextPart frame.now n result }
 {
     let found = flat_found(item(frame, n));

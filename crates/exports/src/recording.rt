@@ -38,8 +38,7 @@ fn flat_record(found: RecordFound) -> PlaneRecord
 }
 
 // Whether a buffer begins with a record, and of what lengths and entry count: `records::record`.
-#[unsafe(no_mangle)]
-pub extern "C" fn plane_record(buffer: &[u8]) -> PlaneRecord
+pub fn plane_record(buffer: &[u8]) -> PlaneRecord
     ensures { RecordTold buffer.now result }
 {
     flat_record(record(buffer))
@@ -97,8 +96,7 @@ fn flat_entry(found: EntryFound) -> PlaneEntry
 }
 
 // Entry n of a record, 1 the oldest: `records::entry`.
-#[unsafe(no_mangle)]
-pub extern "C" fn plane_entry(buffer: &[u8], n: usize) -> PlaneEntry
+pub fn plane_entry(buffer: &[u8], n: usize) -> PlaneEntry
     ensures { EntryTold buffer.now n result }
 {
     flat_entry(entry(buffer, n))
@@ -120,16 +118,14 @@ fn flat_done(done: Done) -> PlaneDone
 }
 
 // Opens a record of the frame at the start of the buffer: `editor::open`.
-#[unsafe(no_mangle)]
-pub extern "C" fn plane_open(buffer: &mut [u8], frame: &[u8]) -> PlaneDone
+pub fn plane_open(buffer: &mut [u8], frame: &[u8]) -> PlaneDone
     ensures { Opened frame.now buffer.old result buffer.new }
 {
     flat_done(open(buffer, frame))
 }
 
 // Edits the record in the buffer: `editor::edit`.
-#[unsafe(no_mangle)]
-pub extern "C" fn plane_edit(buffer: &mut [u8], correction: Correction) -> PlaneDone
+pub fn plane_edit(buffer: &mut [u8], correction: Correction) -> PlaneDone
     ensures { Edited buffer.old (asked correction) result buffer.new }
 {
     flat_done(edit(buffer, correction))
@@ -153,16 +149,14 @@ fn flat_stopped(answer: Corrected) -> PlaneStopped
 }
 
 // Makes a list of corrections in the record in the buffer, up to the first that is refused: `corrections::edit_all`.
-#[unsafe(no_mangle)]
-pub extern "C" fn plane_edit_all(buffer: &mut [u8], corrections: &[Correction]) -> PlaneStopped
+pub fn plane_edit_all(buffer: &mut [u8], corrections: &[Correction]) -> PlaneStopped
     ensures { EditedAll buffer.old (map asked corrections.now) result buffer.new }
 {
     flat_stopped(edit_all(buffer, corrections))
 }
 
 // Restores the frame of a record as it stood after its first k edits, to the start of `out`: `editor::restore`.
-#[unsafe(no_mangle)]
-pub extern "C" fn plane_restore(buffer: &[u8], k: usize, out: &mut [u8]) -> PlaneDone
+pub fn plane_restore(buffer: &[u8], k: usize, out: &mut [u8]) -> PlaneDone
     ensures { Restored buffer.now k out.old result out.new }
 {
     flat_done(restore(buffer, k, out))

@@ -38,13 +38,7 @@ fn flat_written(written: Written) -> PlaneWritten
 }
 
 // Begins a partial frame: `writer::begin`. A kind that is not 1, 2 or 3 is refused first, by 2.
-#[unsafe(no_mangle)]
-pub extern "C" fn plane_begin(
-    buffer: &mut [u8],
-    kind: u16,
-    card: u16,
-    sequence: u16,
-) -> PlaneWritten
+pub fn plane_begin(buffer: &mut [u8], kind: u16, card: u16, sequence: u16) -> PlaneWritten
     ensures { Begun buffer.old kind card sequence result buffer.new }
 {
     match kind {
@@ -135,8 +129,7 @@ fn refuse_item(buffer: &[u8], length: usize, number: u32) -> PlaneWritten
 }
 
 // Adds an item to the partial frame in the first `length` bytes: `writer::add`.
-#[unsafe(no_mangle)]
-pub extern "C" fn plane_add(buffer: &mut [u8], length: usize, item: PlaneItem) -> PlaneWritten
+pub fn plane_add(buffer: &mut [u8], length: usize, item: PlaneItem) -> PlaneWritten
     ensures { Added buffer.old length item result buffer.new }
 {
     let said = item_given(item);
@@ -147,16 +140,14 @@ pub extern "C" fn plane_add(buffer: &mut [u8], length: usize, item: PlaneItem) -
 }
 
 // Adds a text, which comes without its final zero: `writer::add_text`.
-#[unsafe(no_mangle)]
-pub extern "C" fn plane_add_text(buffer: &mut [u8], length: usize, text: &[u8]) -> PlaneWritten
+pub fn plane_add_text(buffer: &mut [u8], length: usize, text: &[u8]) -> PlaneWritten
     ensures { AddedText buffer.old length text.now result buffer.new }
 {
     flat_written(add_text(buffer, length, text))
 }
 
 // Closes the partial frame in the first `length` bytes: `writer::close`.
-#[unsafe(no_mangle)]
-pub extern "C" fn plane_close(buffer: &mut [u8], length: usize) -> PlaneWritten
+pub fn plane_close(buffer: &mut [u8], length: usize) -> PlaneWritten
     ensures { Closed buffer.old length result buffer.new }
 {
     flat_written(close(buffer, length))
