@@ -1,4 +1,4 @@
-//! For a cargo project of your own: this file beside its Cargo.toml links the archive that `rt staticlib exports` has written. PLANE_RECORD_FOLDER
+//! For a cargo project of your own: this file beside its Cargo.toml links the archive that `tools/archive` has written. PLANE_RECORD_FOLDER
 //! names the folder that libexports.a is in; without it, it is the project's own.
 fn main() {
     println!("cargo::rerun-if-env-changed=PLANE_RECORD_FOLDER");

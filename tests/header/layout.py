@@ -35,7 +35,7 @@ def source(*path):
 def structs():
     """The structs, by their tag without `plane_`: the ctypes of each."""
     types, found = dict(NUMBERS), {}
-    for name, body in re.findall(r"#\[repr\(C\)\]\npub struct (\w+) \{\n(.*?)\n\}", "".join(source(*path) for path in FILES), re.S):
+    for name, body in re.findall(r"#\[repr\(C\)\]\n(?:#\[[^\n]*\]\n)*pub struct (\w+) \{\n(.*?)\n\}", "".join(source(*path) for path in FILES), re.S):
         fields = [(FIELDS.get(field, field), types[kind]) for field, kind in re.findall(r"^ +pub (\w+): (\w+),$", body, re.M)]
         types[name] = type(name, (ctypes.Structure,), {"_fields_": fields})
         found[TAGS.get(name, name[len("Plane"):].lower())] = types[name]
@@ -98,7 +98,7 @@ def rust():
 
 
 def calls():
-    for path in sorted(glob.glob(os.path.join(ROOT, "crates", "exports", "src", "*.rt"))):
+    for path in sorted(glob.glob(os.path.join(ROOT, "crates", "exports_c", "src", "*.rt"))):
         yield from re.findall(r'pub extern "C" fn (\w+)', source(path))
 
 

@@ -3,7 +3,6 @@
 ghost use Rattle.std.specs.Prelude.{◌≤◌, length};
 
 use crate::sums;
-use itoa::Buffer;
 
 // A line, or a stretch of one: a word, values, and the lent buffer as the call left it.
 #[derive(Clone, Copy)]
@@ -298,9 +297,10 @@ fn append(out: &mut [u8], at: usize, bytes: &[u8]) -> usize
 fn put_number(out: &mut [u8], at: usize, n: u64) -> usize
     ensures { result ≤ length out.new }
 {
-    let mut digits = Buffer::new();
+    let mut digits = [0u8; 20];
+    let k = io::decimal(n, &mut digits);
     let next = append(out, at, b" ");
-    append(out, next, digits.format(n).as_bytes())
+    append(out, next, &digits[0..k])
 }
 
 // Adds a piece.

@@ -1,11 +1,11 @@
 -- Frames: what one is, what it is written as, and the verdict on some bytes (document 01, "Shape of a frame", "Numbered refusals").
 -- Assumes nothing.
-use Rattle.std.specs.Prelude.{ℕ, zero, suc, ◌+◌, ◌-◌, ◌*◌, ◌/◌, ◌%◌, ◌≤◌, ◌≡◌, List, [], ◌∷◌, ◌++◌, Bool, true, ◌&&◌, ◌||◌, length, take, drop, leb, eqb}
+use Rattle.std.specs.Prelude.{ℕ, ◌+◌, ◌-◌, ◌*◌, ◌/◌, ◌%◌, ◌≤◌, ◌≡◌, List, [], ◌∷◌, ◌++◌, Bool, true, ◌&&◌, ◌||◌, length, take, drop, leb, eqb}
 use Rattle.format.specs.Words.{pick, words, bytes, word_at}
 use Rattle.format.specs.Answers.{Outcome, accepted, refused, and_then}
-use Rattle.format.specs.Book.{Class, channel, histogram, hit_count, sample, bin, last_cell, time_bin, data_frame, monitor_frame, command_frame, text, start_event, continue_event, end_event, frame_end, unassigned, class_of}
+use Rattle.format.specs.Book.{Class, data_frame, monitor_frame, command_frame, class_of}
 use Rattle.format.specs.Items.{Item, class_for, words_of, Token, whole, broken, flawed, tokens}
-use Rattle.format.specs.Rules.{Kind, data_kind, monitor_kind, command_kind, same, place, value, order, may_end, Checked, good, bad, check}
+use Rattle.format.specs.Rules.{Kind, data_kind, monitor_kind, command_kind, same, place, value, order, may_end, good, bad, check}
 
 pub record Frame : Type 0 where
   pub kind : Kind

@@ -1,13 +1,13 @@
 -- The questions on what was read (document 01, "Reading and writing items").
 -- Assumes nothing.
-use Rattle.std.specs.Prelude.{ℕ, zero, suc, ◌+◌, ◌≡◌, List, [], ◌∷◌, ◌++◌, Bool, true, false, ◌&&◌, length, set, leb, eqb}
+use Rattle.std.specs.Prelude.{ℕ, zero, suc, ◌+◌, ◌≡◌, List, [], ◌∷◌, ◌++◌, Bool, false, ◌&&◌, length, set, leb, eqb}
 use Rattle.std.proofs.Math.Option.{Option, none, some}
 use Rattle.format.specs.Words.{pick}
 use Rattle.format.specs.Answers.{Outcome, accepted, refused, and_then, Done}
 use Rattle.format.specs.Book.{Class, end_event}
 use Rattle.format.specs.Items.{ItemOf, Item, Channel, Histogram, HitCount, Sample, Bin, LastCell, TimeBin, Text, StartEvent, ContinueEvent, EndEvent, class_for, words_of}
 use Rattle.format.specs.Rules.{same, gather}
-use Rattle.format.specs.Frames.{Frame, verdict}
+use Rattle.format.specs.Frames.{verdict}
 
 -- ---- the item at an ordinal
 

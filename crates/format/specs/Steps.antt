@@ -1,6 +1,6 @@
 -- What a reader has to remember of the earlier items, as a function of that list, and one turn of the rules at a word of some bytes.
 -- Assumes nothing.
-use Rattle.std.specs.Prelude.{ℕ, zero, suc, ◌+◌, ◌-◌, ◌*◌, max, List, [], ◌∷◌, Bool, true, false, not, ◌&&◌, ◌||◌, length, take, drop, leb, ltb, eqb}
+use Rattle.std.specs.Prelude.{ℕ, suc, ◌+◌, ◌-◌, ◌*◌, max, List, [], ◌∷◌, Bool, true, false, not, ◌&&◌, ◌||◌, length, take, drop, leb, ltb, eqb}
 use Rattle.format.specs.Words.{pick, words, word_at}
 use Rattle.format.specs.Answers.{Outcome, accepted, and_then}
 use Rattle.format.specs.Book.{Class, channel, histogram, start_event, end_event, class_of, after}

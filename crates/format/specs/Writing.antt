@@ -1,13 +1,13 @@
 -- Partial frames, and the writer's calls as functions of the lent buffer and the arguments (document 01, "Reading and writing items").
 -- Assumes nothing.
-use Rattle.std.specs.Prelude.{ℕ, ◌+◌, ◌*◌, ◌/◌, ◌%◌, ◌≡◌, List, [], ◌∷◌, ◌++◌, Bool, ◌&&◌, length, take, drop, leb, eqb}
+use Rattle.std.specs.Prelude.{ℕ, ◌+◌, ◌/◌, ◌%◌, ◌≡◌, List, [], ◌∷◌, Bool, ◌&&◌, length, take, drop, leb, eqb}
 use Rattle.std.proofs.lemmas.List.Edits.{sets}
 use Rattle.format.specs.Words.{pick, words, bytes, word_at}
 use Rattle.format.specs.Answers.{Outcome, accepted, refused, and_then, leaves}
 use Rattle.format.specs.Book.{text}
 use Rattle.format.specs.Items.{ItemOf, Item, Channel, Histogram, HitCount, Sample, Bin, LastCell, TimeBin, Text, StartEvent, ContinueEvent, EndEvent, words_of, Token, whole, broken, flawed, tokens}
 use Rattle.format.specs.Rules.{Kind, may_end, Checked, good, bad, check}
-use Rattle.format.specs.Frames.{start_word, all_words, start_fits, kind_in, card_in, walk, width}
+use Rattle.format.specs.Frames.{start_word, all_words, start_fits, kind_in, card_in, walk}
 
 -- ---- partial frames: "size word 0, no end word, 6 to 8,190 bytes"
 

@@ -5,7 +5,6 @@ ghost use Rattle.listing.specs.Text.{decimal, hex_digit};
 ghost use Rattle.listing.specs.Writes.{Put};
 
 use book::words::copy;
-use itoa::Buffer;
 
 // Puts a text at byte `at`, and answers the byte behind it.
 pub(crate) fn text(line: &mut [u8], at: usize, s: &[u8]) -> usize
@@ -21,8 +20,9 @@ fn number(line: &mut [u8], at: usize, n: u64) -> usize
     requires { at + 20 ≤ length line.old }
     ensures { Put 20 line.old at (decimal n) line.new result }
 {
-    let mut digits = Buffer::new();
-    text(line, at, digits.format(n).as_bytes())
+    let mut digits = [0u8; 20];
+    let k = io::decimal(n, &mut digits);
+    text(line, at, &digits[..k])
 }
 
 // Puts a text and a number.

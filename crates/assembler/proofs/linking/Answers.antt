@@ -1,19 +1,13 @@
 -- `assembler::linking` meets its contract.
 -- Assumes nothing.
-use mathlib.Core.Bool.{Bool, ◌&&◌}
+use mathlib.Core.Bool.{◌&&◌}
 use lib.Dec.{eqb}
 use borrow.Author.Rules.{rules}
 use Rattle.assembler.proofs.StepLaws.{sized_link, link_accepted, link_refused}
 use Rattle.assembler.proofs.linking.Goals as goal
 
--- the first two tests
-abbrev firsts : tie.Then1 → Bool
-firsts c =
-    c.before.before.is_data.result
-    && eqb c.before.before.before.before.before.before.args.f.card c.before.before.before.before.before.before.args.a.card
-
 pub open_after-open-requires : goal.open_after-open-requires
-open_after-open-requires c = (search rules, sized_link _ _ _ _ (firsts c) _ c.linked.ensures c.if-is_data-told.true)
+open_after-open-requires c = (search rules, sized_link _ _ _ _ (c.is_data.result && eqb c.args.f.card c.args.a.card) _ c.linked.ensures c.if-is_data-told.true)
 
 pub returns-then-is_data-told : goal.returns-then-is_data-told
 returns-then-is_data-told c =

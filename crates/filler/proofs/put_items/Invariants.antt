@@ -1,6 +1,5 @@
-use Prim.Native.Nat.{◌-◌, ◌<◌}
-use mathlib.Core.Path.{◌≡◌}
-use lib.ListN.{length}
+-- The measure is the number of items that are left; the buffer keeps its length.
+use Rattle.std.proofs.Common.{length, ◌-◌, ◌<◌, ◌≡◌}
 use Rattle.filler.proofs.put_items.Given as goal
 
 abbrev pub invariant-loop-i : goal.invariant-loop-i

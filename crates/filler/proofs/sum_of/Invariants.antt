@@ -1,5 +1,5 @@
-use Prim.Native.Nat.{◌-◌, ◌≤◌}
-use lib.ListN.{length}
+-- The measure is the number of bytes that are left.
+use Rattle.std.proofs.Common.{length, ◌-◌, ◌≤◌}
 use Rattle.filler.proofs.sum_of.Given as goal
 
 abbrev pub invariant-loop-i : goal.invariant-loop-i

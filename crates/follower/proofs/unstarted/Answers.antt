@@ -1,4 +1,3 @@
-use native.Mathlib.Omega.{arith}
 use mathlib.Core.Path.{ap, ◌∙◌}
 use Rattle.follower.specs.Paper.{view}
 use Rattle.follower.proofs.LineLaws.{unused, early}

@@ -2,7 +2,7 @@
 -- the answer beside it.
 -- Assumes nothing.
 use mathlib.Core.Path.{◌≡◌, refl}
-use mathlib.Core.List.{[], map}
+use mathlib.Core.List.{map}
 use Rattle.follower.specs.Follow.{numbered, follow}
 use Rattle.follower.specs.Sender.{answers}
 use Rattle.format.specs.Words.{words, bytes, non_zero, all_zero}

@@ -11,7 +11,7 @@ use Rattle.format.specs.Words.{Bytes, bytes}
 use Rattle.format.specs.Answers.{Outcome, accepted, refused}
 use Rattle.format.specs.Items.{ItemOf, Item, words_of, Token, whole}
 use Rattle.format.specs.Rules.{Kind}
-use Rattle.format.specs.Frames.{Frame, earlier_then, Sound, all_words, encode, Legal, verdict}
+use Rattle.format.specs.Frames.{Frame, earlier_then, Sound, encode, Legal, verdict}
 use Rattle.format.specs.Writing.{Partial, partial_words, partial_verdict, begin_answer, begin_left, given, add_answer, add_left, close_answer, close_left}
 use Rattle.format.specs.WriterCases.{PartialAnswer, content, with_item, framed, Ends, one_of, PartialRefused, Begin, handed, Add, Short, Close, Holds, WritingDone}
 use Rattle.format.specs.WriterCalls.{calls_done, write_all}

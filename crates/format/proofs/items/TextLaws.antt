@@ -1,19 +1,19 @@
 -- A text's bytes in words: the bytes, the final zero, and a padding zero where that makes them even; written and read back.
 -- Assumes nothing.
 use Prim.Native.Nat.{ℕ, zero, suc, ◌+◌, ◌-◌, ◌*◌, ◌/◌, ◌%◌, ◌<◌, ◌≤◌}
-use mathlib.Core.Path.{◌≡◌, refl, sym, ap, ap₂, subst, ◌∙◌}
+use mathlib.Core.Path.{◌≡◌, refl, sym, ap, ap₂, ◌∙◌}
 use mathlib.Core.List.{List, [], ◌∷◌, ◌++◌}
-use mathlib.Core.Bool.{Bool, true, false, ◌&&◌, true≢false}
+use mathlib.Core.Bool.{true, ◌&&◌}
 use native.Mathlib.Omega.{arith}
 use lib.Dec.{leb, ltb, eqb}
 use lib.Pow.{are_bytes}
-use lib.ListN.{length, get_or, take, drop, length-append, length-take, length-drop, take-append-drop}
+use lib.ListN.{length, take, drop, length-append, length-drop, take-append-drop}
 use lib.Seq.{take_at, drop_at, length-take-le}
-use borrow.Author.Tests.{leb-true, ltb-true, eqb-true, le-leb, lt-ltb, eq-eqb}
+use borrow.Author.Tests.{leb-true, ltb-true, eqb-true, le-leb, lt-ltb}
 use Rattle.format.specs.Words.{Bytes, words, bytes, non_zero, all_zero}
 use Rattle.format.specs.Items.{closed}
 use Rattle.format.proofs.book.PrefixLaws.{and_left, and_right, and_both}
-use Rattle.format.proofs.items.WordLaws.{words_bytes, length_bytes, bytes_below}
+use Rattle.format.proofs.items.WordLaws.{words_bytes, length_bytes}
 
 -- the final zero, and a second one where the text's length is even
 abbrev zeros : List ℕ → List ℕ

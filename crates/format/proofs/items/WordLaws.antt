@@ -1,17 +1,13 @@
 -- Laws of bytes and words.
 -- Assumes nothing.
-use Prim.Native.Nat.{ℕ, zero, suc, ◌+◌, ◌-◌, ◌*◌, ◌/◌, ◌%◌, ◌<◌, ◌≤◌}
+use Prim.Native.Nat.{ℕ, zero, suc, ◌+◌, ◌*◌, ◌/◌, ◌%◌, ◌<◌, ◌≤◌}
 use mathlib.Core.Path.{◌≡◌, refl, sym, ap, ap₂, ◌∙◌}
 use mathlib.Core.List.{List, [], ◌∷◌, ◌++◌}
-use mathlib.Core.Bool.{Bool, true, false, ◌&&◌}
-use native.Mathlib.Nat.{add-zero}
+use mathlib.Core.Bool.{Bool, true, false}
 use native.Mathlib.Omega.{arith}
-use lib.Dec.{leb, eqb}
-use borrow.Author.Tests.{leb-true, eqb-true, le-leb, eq-eqb}
 use lib.ListN.{length, get_or, take, drop, get_or-eq_default}
 use lib.Seq.{get_or-drop, drop-nil}
-use Rattle.format.specs.Words.{pick, Bytes, words, bytes, word_at, long_at, time_at, long_of, time_of, long_words, time_words, non_zero, all_zero}
-use Rattle.format.proofs.book.PrefixLaws.{and_left, and_right, and_both}
+use Rattle.format.specs.Words.{pick, Bytes, words, bytes, word_at, long_at, time_at, long_of, time_of, long_words, time_words}
 
 -- what holds of both branches where each is taken holds of the pick
 pub pick_elim : {A : Type 0} (P : A → Type 0) (b : Bool) {x y : A} → (b ≡ true → P x) → (b ≡ false → P y) → P (pick b x y)

@@ -1,7 +1,7 @@
 -- T12. The e-th event of an accepted frame is the e-th item that opens one, a Start or a leading Continue event, and the first End event behind it.
 -- Assumes nothing.
 use Prim.Native.Nat.{ℕ, zero, suc, ◌+◌, ◌*◌, ◌<◌, ◌≤◌}
-use mathlib.Core.Path.{◌≡◌, refl, sym, ap, ap₂, subst, ◌∙◌}
+use mathlib.Core.Path.{◌≡◌, refl, sym, ap, subst, ◌∙◌}
 use mathlib.Core.List.{List, [], ◌∷◌, ◌++◌, append-nil}
 use mathlib.Core.Logic.{◌↔◌}
 use mathlib.Core.Bool.{Bool, true, false}
@@ -10,9 +10,9 @@ use native.Mathlib.Omega.{arith}
 use lib.Dec.{leb}
 use lib.ListN.{length, length-append}
 use borrow.Author.Tests.{leb-true, leb-false, le-leb, eqb-true}
-use Rattle.format.specs.Words.{pick, Bytes}
+use Rattle.format.specs.Words.{Bytes}
 use Rattle.format.specs.Answers.{Outcome, accepted, refused, and_then}
-use Rattle.format.specs.Book.{Class, start_event, continue_event, end_event}
+use Rattle.format.specs.Book.{start_event, continue_event, end_event}
 use Rattle.format.specs.Items.{Item, Channel, Histogram, HitCount, Sample, Bin, LastCell, TimeBin, Text, StartEvent, ContinueEvent, EndEvent, class_for, words_of, in_range}
 use Rattle.format.specs.Rules.{Kind, data_kind, same, since, count, total, gather, openers, in_event, begun as began, event_size, sized}
 use Rattle.format.specs.Frames.{Frame, Sound, earlier_then, all_words, verdict}
@@ -20,7 +20,7 @@ use Rattle.format.specs.Questions.{Began, Event, Opened, opens, end_size, head_o
 use Rattle.format.specs.Stands.{Opener, Closing, ends_with, goes_on, EventIn}
 use Rattle.format.proofs.book.PrefixLaws.{and_right}
 use Rattle.format.proofs.verdict.Acceptance.{exactly}
-use Rattle.format.proofs.rules.SoundLaws.{tally, tally_zero, behind_append, sound_left, sound_right, sound_head, sound_tail, Opening, starts, continues, Seen, opening, ends, other, seen, opening_one, opening_no_end, open_nil, open_opening, balance, no_openers, none_opened, total_since}
+use Rattle.format.proofs.rules.SoundLaws.{tally, tally_zero, sound_left, sound_right, sound_head, sound_tail, Opening, starts, continues, Seen, opening, ends, other, seen, opening_one, opening_no_end, open_nil, open_opening, balance, no_openers, none_opened, total_since}
 use Rattle.format.proofs.questions.ItemQuestions.{no_some, some_is, picked, unpicked, all_words_lem}
 
 index_nil : (at : ℕ) → at ≡ at + length (all_words [])

@@ -14,8 +14,8 @@ use Rattle.format.specs.Words.{pick}
 use Rattle.format.specs.Answers.{Outcome, accepted, refused, and_then}
 use Rattle.format.specs.Book.{Class, channel, histogram, bin, sample, time_bin, end_event}
 use Rattle.format.specs.Items.{Item, Channel, Histogram, HitCount, Sample, Bin, LastCell, TimeBin, Text, StartEvent, ContinueEvent, EndEvent, class_for, words_of}
-use Rattle.format.specs.Rules.{Kind, same, in_event, count, among}
-use Rattle.format.specs.Frames.{Sound, earlier_then, all_words}
+use Rattle.format.specs.Rules.{same, count, among}
+use Rattle.format.specs.Frames.{all_words}
 use Rattle.format.specs.Questions.{Behind, Opened, events, pick_nth, present, until, past, past_at, is_channel, is_histogram, channel_in, channel_at, sample_word, bin_word}
 use Rattle.format.proofs.questions.ItemQuestions.{no_some, some_is, all_words_lem}
 use Rattle.format.proofs.questions.EventQuestions.{picked_inside, picked_event, event_picked}

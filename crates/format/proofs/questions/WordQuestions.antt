@@ -10,12 +10,10 @@ use native.Mathlib.Omega.{arith}
 use lib.ListN.{length, get_or}
 use Rattle.format.specs.Words.{Bytes}
 use Rattle.format.specs.Answers.{Outcome, accepted, refused, and_then}
-use Rattle.format.specs.Book.{channel, histogram, bin, sample}
-use Rattle.format.specs.Items.{Item, Channel, Histogram, Sample, Bin, TimeBin, StartEvent, EndEvent, words_of}
-use Rattle.format.specs.Rules.{Kind, same}
+use Rattle.format.specs.Items.{Item, Channel, Histogram, Sample, Bin, TimeBin, words_of}
+use Rattle.format.specs.Rules.{Kind}
 use Rattle.format.specs.Frames.{Frame, Sound, all_words, verdict}
-use Rattle.format.specs.Questions.{Behind, Opened, present, past_at, is_histogram, channel_at, sample_word, bin_word, sample_word_at, bin_word_at, samples_at, samples_left, counts_at, counts_left}
-use Rattle.format.proofs.questions.ItemQuestions.{some_is}
+use Rattle.format.specs.Questions.{Behind, present, past_at, is_histogram, channel_at, sample_word, bin_word, sample_word_at, bin_word_at, samples_at, samples_left, counts_at, counts_left}
 use Rattle.format.proofs.questions.EventQuestions.{sounds, event_picked, picked_inside}
 use Rattle.format.proofs.questions.FindLaws.{as_histogram, present_is, channel_there, channel_sound, histogram_there}
 use Rattle.format.proofs.questions.FillQuestions.{sample_rise, bin_rise, sample_time, bin_number, samples_lent, counts_lent, one_channel_header, one_histogram_header}

@@ -11,7 +11,7 @@ use lib.Dec.{leb, ltb, eqb}
 use lib.ListN.{length, take, drop, length-append}
 use lib.Seq.{take_at, drop_at}
 use borrow.Author.Tests.{le-leb, lt-leb, lt-ltb, le-ltb, leb-true, ltb-true, eqb-true, eqb-false}
-use Rattle.format.specs.Words.{pick, Bytes, words, bytes, word_at, long_at, time_at}
+use Rattle.format.specs.Words.{pick, Bytes, words, word_at, long_at, time_at}
 use Rattle.format.specs.Answers.{accepted}
 use Rattle.format.specs.Book.{Class, channel, histogram, hit_count, sample, bin, last_cell, time_bin, text, start_event, continue_event, end_event, class_of, after, assigned}
 use Rattle.format.specs.Items.{ItemOf, Item, Channel, Histogram, HitCount, Sample, Bin, LastCell, TimeBin, Text, StartEvent, ContinueEvent, EndEvent, class_for, words_of, decode, Token, whole, broken, flawed, token_for, tokens}

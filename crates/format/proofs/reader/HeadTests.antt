@@ -1,21 +1,18 @@
 -- The first five rules for a reader that tests them in order, and the start word by its high bits.
 -- Assumes nothing.
-use Prim.Native.Nat.{ℕ, zero, suc, ◌+◌, ◌-◌, ◌*◌, ◌/◌, ◌%◌, ◌<◌, ◌≤◌}
-use mathlib.Core.Path.{◌≡◌, refl, sym, ap, subst, ◌∙◌}
-use mathlib.Core.List.{List, []}
-use mathlib.Core.Bool.{Bool, true, false, not, ◌&&◌, ◌||◌, true≢false}
+use Prim.Native.Nat.{ℕ, ◌+◌, ◌/◌, ◌%◌, ◌<◌, ◌≤◌}
+use mathlib.Core.Path.{◌≡◌, refl, sym, subst, ◌∙◌}
+use mathlib.Core.List.{List}
+use mathlib.Core.Bool.{Bool, true, false, ◌||◌, true≢false}
 use native.Mathlib.Omega.{arith}
 use lib.Dec.{leb, eqb}
-use lib.ListN.{length, take, drop}
-use borrow.Author.Tests.{eqb-true, eqb-false, le-leb, lt-leb, eq-eqb, ne_eqb, not-true}
-use Rattle.format.specs.Words.{pick, words, word_at}
-use Rattle.format.specs.Answers.{Outcome, accepted, refused, and_then}
+use lib.ListN.{length}
+use borrow.Author.Tests.{eqb-true, le-leb, lt-leb, eq-eqb, ne_eqb}
+use Rattle.format.specs.Words.{pick, word_at}
 use Rattle.format.specs.Book.{class_of}
-use Rattle.format.specs.Items.{Item}
-use Rattle.format.specs.Rules.{Kind, data_kind, monitor_kind, command_kind, may_end}
-use Rattle.format.specs.Frames.{Frame, earlier_then, start_word, kind_of, length_fits, start_fits, last_of, head_fault, kind_in, card_in, front, body, walk, ending, judged, verdict}
-use Rattle.format.specs.Steps.{ReaderState, state_of, index_in, Summary, summary, summed, rest, Overview, overview, read_of, Indexed, index_of}
-use Rattle.format.proofs.verdict.HeadLaws.{Head, head_of, start_word_lem, Starts, starts}
+use Rattle.format.specs.Rules.{Kind, data_kind, monitor_kind, command_kind}
+use Rattle.format.specs.Frames.{start_word, kind_of, start_fits, last_of, head_fault}
+use Rattle.format.proofs.verdict.HeadLaws.{head_of, start_word_lem, starts}
 
 -- ---- the start word: its kind and version are its high eleven bits
 

@@ -1,22 +1,22 @@
 -- From the walk to the verdict: what a reader answers where the head is wrong, where the walk stops, and where it ends.
 -- Assumes nothing.
-use Prim.Native.Nat.{ℕ, zero, suc, ◌+◌, ◌-◌, ◌*◌, ◌/◌, ◌%◌, ◌<◌, ◌≤◌}
-use mathlib.Core.Path.{◌≡◌, refl, sym, ap, ap₂, subst, ◌∙◌}
-use mathlib.Core.List.{List, [], ◌∷◌, ◌++◌, append-nil}
-use mathlib.Core.Bool.{Bool, true, false}
+use Prim.Native.Nat.{ℕ, ◌+◌}
+use mathlib.Core.Path.{◌≡◌, refl, sym, ap, subst, ◌∙◌}
+use mathlib.Core.List.{List, [], ◌∷◌}
+use mathlib.Core.Bool.{true, false}
 use native.Mathlib.Omega.{arith}
-use lib.ListN.{length, take, drop, length-append}
+use lib.ListN.{length}
 use borrow.Author.Tests.{eq-eqb, ne_eqb}
-use Rattle.format.specs.Words.{pick, words, word_at}
+use Rattle.format.specs.Words.{word_at}
 use Rattle.format.specs.Answers.{Outcome, accepted, refused, and_then}
 use Rattle.format.specs.Items.{Item, Channel, Histogram, HitCount, Sample, Bin, LastCell, TimeBin, Text, StartEvent, ContinueEvent, EndEvent, words_of, Token}
 use Rattle.format.specs.Rules.{Kind, data_kind, monitor_kind, command_kind, since, count, total, mode_after, may_end}
 use Rattle.format.specs.Frames.{Frame, earlier_then, Allowed, last_of, head_fault, kind_in, card_in, front, body, walk, ending, judged, verdict}
-use Rattle.format.specs.Steps.{ReaderState, state_of, state_after, ended_by, index_in, Summary, summary, summed, rest, Overview, overview, read_of, Indexed, index_of}
+use Rattle.format.specs.Steps.{ReaderState, state_of, state_after, ended_by, index_in, Summary, summary, summed, rest, overview, read_of, Indexed, index_of}
 use Rattle.format.proofs.rules.SoundLaws.{Own, own_nil, own_further}
 use Rattle.format.proofs.reader.StateLaws.{turn_of}
-use Rattle.format.proofs.verdict.WalkLaws.{Stepped, walk_step}
-use Rattle.format.proofs.verdict.Acceptance.{in_order, behind_behind, length_behind}
+use Rattle.format.proofs.verdict.WalkLaws.{walk_step}
+use Rattle.format.proofs.verdict.Acceptance.{in_order, length_behind}
 
 -- ---- the items may end: not after Channel or Time bin
 

@@ -14,7 +14,7 @@ use Rattle.format.specs.Answers.{Outcome, accepted, refused, and_then}
 use Rattle.format.specs.Items.{Item, words_of, Token, whole}
 use Rattle.format.specs.Rules.{Kind, total}
 use Rattle.format.specs.Frames.{Frame, earlier_then, all_words, last_of, kind_in, card_in, front, body, walk, verdict}
-use Rattle.format.specs.Questions.{Found, Shown, IndexedItem, IndexedShown, shown, showing, nth, item_at, shown_at, present}
+use Rattle.format.specs.Questions.{Found, Shown, IndexedItem, IndexedShown, showing, nth, item_at, shown_at}
 use Rattle.format.specs.Cursor.{standing_at, shown_by}
 use Rattle.format.specs.Steps.{token_at, next_at, rest, index_in, overview, Indexed, index_of}
 use Rattle.format.proofs.verdict.WalkLaws.{walk_step}

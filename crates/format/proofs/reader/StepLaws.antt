@@ -1,6 +1,6 @@
 -- One turn at a word of some bytes, and the invariant of a loop that takes such turns.
 -- Assumes nothing.
-use Prim.Native.Nat.{ℕ, zero, suc, ◌+◌, ◌-◌, ◌*◌, ◌/◌, ◌%◌, ◌<◌, ◌≤◌}
+use Prim.Native.Nat.{ℕ, ◌+◌, ◌-◌, ◌*◌, ◌/◌, ◌%◌, ◌<◌, ◌≤◌}
 use mathlib.Core.Path.{◌≡◌, refl, sym, ap, ap₂, subst, ◌∙◌}
 use mathlib.Core.List.{List, [], ◌∷◌, ◌++◌}
 use mathlib.Core.Bool.{Bool, true, false}
@@ -8,18 +8,18 @@ use mathlib.Core.Option.{Option, none, some}
 use native.Mathlib.Numerals.{add-one}
 use native.Mathlib.Omega.{arith}
 use lib.Dec.{eqb}
-use lib.ListN.{length, get_or, take, drop, length-append, length-drop, drop_of_length-le}
+use lib.ListN.{length, take, drop, length-append, length-drop, drop_of_length-le}
 use lib.Seq.{drop-cons, drop-drop, get_or-take, length-take-le}
 use Rattle.format.specs.Words.{pick, words, bytes, word_at, long_of}
-use Rattle.format.specs.Answers.{Outcome, accepted, refused, and_then}
+use Rattle.format.specs.Answers.{accepted, refused}
 use Rattle.format.specs.Book.{Class, channel, histogram, hit_count, sample, bin, last_cell, time_bin, data_frame, monitor_frame, command_frame, text, start_event, continue_event, end_event, frame_end, unassigned, class_of, after}
-use Rattle.format.specs.Items.{Item, Text, ContinueEvent, EndEvent, words_of, closed, decode, Token, whole, broken, flawed, token_of, tokens}
+use Rattle.format.specs.Items.{Item, Text, ContinueEvent, EndEvent, words_of, closed, decode, Token, whole, tokens}
 use Rattle.format.specs.Rules.{Kind, total, Checked, good, bad, check}
 use Rattle.format.specs.Frames.{width, walk}
-use Rattle.format.specs.Steps.{ReaderState, state_of, start, check_by, token_at, next_at, rest, Stepped, moved, stopped, marked, step_of, index_in, Summary, summary, summed}
+use Rattle.format.specs.Steps.{ReaderState, state_of, start, check_by, token_at, next_at, rest, moved, stopped, marked, step_of, index_in, summed}
 use Rattle.format.proofs.items.WordLaws.{length_words, word_at_lem}
-use Rattle.format.proofs.items.TextLaws.{TextRead, text_back}
-use Rattle.format.proofs.items.ItemLaws.{tokens_skip, Passed, token_passed}
+use Rattle.format.proofs.items.TextLaws.{text_back}
+use Rattle.format.proofs.items.ItemLaws.{tokens_skip, token_passed}
 use Rattle.format.proofs.verdict.WalkLaws.{not_whole, passed, walk_good, walk_bad}
 use Rattle.format.proofs.rules.SoundLaws.{Own, own_nil, own_further}
 use Rattle.format.proofs.reader.StateLaws.{states, turn, start_state}

@@ -1,21 +1,19 @@
 -- What stands at a word, by its class, for a reader that makes the tests in order.
 -- Assumes nothing.
-use Prim.Native.Nat.{ℕ, zero, suc, ◌+◌, ◌-◌, ◌*◌, ◌/◌, ◌%◌, ◌<◌, ◌≤◌}
-use mathlib.Core.Path.{◌≡◌, refl, sym, ap, ap₂, subst, ◌∙◌}
-use mathlib.Core.List.{List, [], ◌∷◌}
-use mathlib.Core.Bool.{Bool, true, false}
-use mathlib.Core.Option.{Option, none, some}
+use Prim.Native.Nat.{ℕ, ◌+◌, ◌-◌, ◌*◌, ◌%◌, ◌<◌, ◌≤◌}
+use mathlib.Core.Path.{◌≡◌, refl, sym, ap, ap₂, ◌∙◌}
+use mathlib.Core.List.{List, []}
+use mathlib.Core.Bool.{true, false}
 use native.Mathlib.Nat.{add-zero, add_assoc}
 use native.Mathlib.Omega.{arith}
-use lib.Dec.{leb, eqb}
 use lib.ListN.{length, get_or, take, drop}
 use lib.Seq.{get_or-drop, get_or-take}
 use borrow.Author.Tests.{le-leb, lt-leb, eq-eqb, ne_eqb}
-use Rattle.format.specs.Words.{pick, words, bytes, word_at, long_at, time_at, long_of, time_of}
-use Rattle.format.specs.Book.{Class, channel, histogram, hit_count, sample, bin, last_cell, time_bin, data_frame, monitor_frame, command_frame, text, start_event, continue_event, end_event, frame_end, unassigned, class_of, after, assigned, text_words}
-use Rattle.format.specs.Items.{Item, Channel, Histogram, HitCount, Sample, Bin, LastCell, TimeBin, Text, StartEvent, ContinueEvent, EndEvent, closed, decode, Token, whole, broken, flawed, token_for, token_of}
-use Rattle.format.specs.Rules.{Checked, good, bad}
-use Rattle.format.specs.Steps.{ReaderState, check_by, token_at, next_at, Stepped, moved, stopped, marked, step_of}
+use Rattle.format.specs.Words.{words, bytes, word_at, long_at, time_at, long_of, time_of}
+use Rattle.format.specs.Book.{Class, bin, text, start_event, continue_event, end_event, unassigned, class_of, after, assigned, text_words}
+use Rattle.format.specs.Items.{Bin, Text, StartEvent, ContinueEvent, EndEvent, closed, decode, Token, whole, broken, flawed, token_for, token_of}
+use Rattle.format.specs.Rules.{bad}
+use Rattle.format.specs.Steps.{ReaderState, check_by, token_at, next_at, stopped, marked, step_of}
 use Rattle.format.proofs.items.WordLaws.{word_at_lem}
 use Rattle.format.proofs.reader.StepLaws.{left_after}
 

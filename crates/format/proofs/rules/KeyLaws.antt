@@ -1,6 +1,6 @@
 -- The order key of a header: for the chips of a plain header word, below 4, it rises exactly where the word's 14-bit content does.
 -- Assumes nothing.
-use Prim.Native.Nat.{ℕ, ◌+◌, ◌*◌, ◌<◌}
+use Prim.Native.Nat.{ℕ, ◌<◌}
 use mathlib.Core.Logic.{◌↔◌}
 use native.Mathlib.Omega.{arith}
 use Rattle.format.specs.Items.{header_bits, key}

@@ -10,7 +10,7 @@ use borrow.Author.Tests.{le-leb}
 use Rattle.format.specs.Words.{pick}
 use Rattle.format.specs.Book.{Class, channel, histogram, hit_count, sample, bin, last_cell, time_bin, data_frame, monitor_frame, command_frame, text, start_event, continue_event, end_event, frame_end, unassigned}
 use Rattle.format.specs.Items.{Item, Channel, Histogram, HitCount, Sample, Bin, LastCell, TimeBin, Text, StartEvent, ContinueEvent, EndEvent, class_for, words_of}
-use Rattle.format.specs.Rules.{Kind, data_kind, monitor_kind, command_kind, same, since, count, has, latest, total, in_event, openers, begun, between_events, inside_after, outside, headed, unheaded, allowed, among, place}
+use Rattle.format.specs.Rules.{Kind, data_kind, monitor_kind, command_kind, same, since, count, has, latest, total, in_event, openers, begun, between_events, inside_after, headed, unheaded, allowed, among, place}
 use Rattle.format.specs.Frames.{Allowed, Sound, earlier_then, all_words}
 use Rattle.format.specs.Questions.{opens, end_size}
 

@@ -6,7 +6,6 @@ use mathlib.Core.List.{List, [], ◌∷◌}
 use mathlib.Core.Bool.{Bool, true, false, true≢false}
 use mathlib.Core.Logic.{inl, inr}
 use native.Mathlib.Omega.{arith}
-use lib.Dec.{eqb}
 use borrow.Author.Tests.{leb-true}
 use Rattle.format.specs.Book.{Class, channel, hit_count, sample, last_cell, time_bin, end_event}
 use Rattle.format.specs.Items.{Item, Channel, Histogram, EndEvent, class_for, header_bits, in_range}

@@ -1,12 +1,11 @@
 -- T5. Some bytes are accepted as a frame exactly where it is legal and the bytes are what it is written as.
 -- Assumes nothing.
-use Prim.Native.Nat.{ℕ, zero, suc, ◌+◌, ◌-◌, ◌*◌, ◌/◌, ◌%◌, ◌<◌, ◌≤◌}
+use Prim.Native.Nat.{ℕ, ◌+◌, ◌-◌, ◌*◌, ◌/◌, ◌%◌, ◌<◌, ◌≤◌}
 use mathlib.Core.Path.{◌≡◌, refl, sym, ap, ap₂, subst, ◌∙◌}
 use mathlib.Core.List.{List, [], ◌∷◌, ◌++◌, append-nil}
 use mathlib.Core.Logic.{◌↔◌}
 use mathlib.Core.Bool.{Bool, true, false}
 use native.Mathlib.Omega.{arith}
-use lib.Dec.{eqb}
 use lib.ListN.{length, get_or, take, drop, length-append, length-drop}
 use lib.Seq.{take_at, get_or_at}
 use borrow.Author.Tests.{eqb-true}
@@ -14,9 +13,9 @@ use Rattle.format.specs.Words.{pick, Bytes, words, bytes, word_at}
 use Rattle.format.specs.Answers.{Outcome, accepted, refused, and_then}
 use Rattle.format.specs.Items.{Item, tokens}
 use Rattle.format.specs.Rules.{Kind, may_end}
-use Rattle.format.specs.Frames.{Frame, earlier_then, Sound, start_word, all_words, frame_words, encode, Legal, last_of, head_fault, kind_in, card_in, front, body, walk, ending, judged, verdict}
-use Rattle.format.proofs.items.WordLaws.{words_bytes, bytes_words, length_words, length_bytes, word_at_lem, below_drop}
-use Rattle.format.proofs.verdict.WalkLaws.{Walked, walk_sound, walk_complete}
+use Rattle.format.specs.Frames.{Frame, earlier_then, start_word, all_words, frame_words, encode, Legal, last_of, kind_in, card_in, front, body, walk, ending, judged, verdict}
+use Rattle.format.proofs.items.WordLaws.{words_bytes, bytes_words, length_bytes, word_at_lem, below_drop}
+use Rattle.format.proofs.verdict.WalkLaws.{walk_sound, walk_complete}
 use Rattle.format.proofs.verdict.HeadLaws.{Head, head_of, head_zero, start_word_lem, Starts, starts, front_word, length_front, front_last, front_below, three_first}
 
 -- the items, in their order again

@@ -1,19 +1,19 @@
 -- A frame's first five rules, and its words: the start word, the front, the last word.
 -- Assumes nothing.
-use Prim.Native.Nat.{ℕ, zero, suc, ◌+◌, ◌-◌, ◌*◌, ◌/◌, ◌%◌, ◌<◌, ◌≤◌}
-use mathlib.Core.Path.{◌≡◌, refl, sym, ap, ap₂, subst, ◌∙◌}
+use Prim.Native.Nat.{ℕ, suc, ◌+◌, ◌/◌, ◌%◌, ◌<◌, ◌≤◌}
+use mathlib.Core.Path.{◌≡◌, refl, sym, ap, ◌∙◌}
 use mathlib.Core.List.{List, [], ◌∷◌, ◌++◌}
-use mathlib.Core.Bool.{Bool, true, false, ◌&&◌, ◌||◌}
+use mathlib.Core.Bool.{Bool, true, false, ◌&&◌}
 use native.Mathlib.Omega.{arith}
 use lib.Dec.{leb, eqb, lit<}
-use lib.ListN.{length, get_or, take, drop, length-append, length-take, length-drop}
+use lib.ListN.{length, get_or, take, drop}
 use lib.Seq.{take-suc, take_all, get_or-take, length-take-le}
-use borrow.Author.Tests.{leb-true, eqb-true, le-leb, lt-leb, eq-eqb, ne_eqb}
+use borrow.Author.Tests.{leb-true, eqb-true, le-leb, eq-eqb}
 use Rattle.format.specs.Words.{pick, Bytes, words, word_at}
 use Rattle.format.specs.Book.{Class, channel, histogram, hit_count, sample, bin, last_cell, time_bin, data_frame, monitor_frame, command_frame, text, start_event, continue_event, end_event, frame_end, unassigned, class_of}
-use Rattle.format.specs.Rules.{Kind, data_kind, monitor_kind, command_kind, same}
-use Rattle.format.specs.Frames.{start_word, is_start, kind_of, length_fits, start_fits, last_of, head_fault, front}
-use Rattle.format.proofs.book.PrefixLaws.{and_left, and_right, and_both}
+use Rattle.format.specs.Rules.{Kind, data_kind, monitor_kind, command_kind}
+use Rattle.format.specs.Frames.{start_word, is_start, kind_of, start_fits, last_of, head_fault, front}
+use Rattle.format.proofs.book.PrefixLaws.{and_left, and_right}
 use Rattle.format.proofs.book.BookLaws.{ranged, in_range}
 use Rattle.format.proofs.items.WordLaws.{length_words, word_at_lem, words_below, below_take}
 

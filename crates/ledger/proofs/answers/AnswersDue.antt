@@ -17,7 +17,6 @@ use Rattle.format.specs.Faults.{Refused}
 use Rattle.format.specs.Frames.{Frame, verdict}
 use Rattle.format.specs.Questions.{done}
 use Rattle.format.specs.Spots.{Spot, spot, legal_value}
-use Rattle.format.specs.Spots as spots
 use Rattle.format.proofs.questions.ItemQuestions.{no_some, some_is}
 use Rattle.format.proofs.book.PrefixLaws.{and_left, and_right}
 use Rattle.format.proofs.front.Refusals as frames

@@ -3,15 +3,14 @@
 use Prim.Native.Nat.{ℕ, suc, ◌+◌, ◌*◌, ◌≤◌}
 use mathlib.Core.Path.{◌≡◌, refl, sym, ◌∙◌}
 use mathlib.Core.Logic.{◌↔◌}
-use mathlib.Core.Bool.{true, not, ◌&&◌, true≢false}
+use mathlib.Core.Bool.{true, ◌&&◌}
 use mathlib.Core.List.{List, ◌∷◌, ◌++◌, append_assoc}
-use mathlib.Core.Option.{some, some-injective}
+use mathlib.Core.Option.{some-injective}
 use native.Mathlib.Nat.{mul-suc}
 use native.Mathlib.Numerals.{add-one}
 use native.Mathlib.Omega.{arith}
 use lib.ListN.{length, take, drop, length-append, take-append-drop}
 use lib.Seq.{sets, length-take-le}
-use lib.Dec.{leb, eqb}
 use borrow.Author.Tests.{leb-true, eqb-false, le-leb, ne_eqb, not-true}
 use Rattle.format.specs.Words.{bytes}
 use Rattle.format.specs.Answers.{accepted, refused, first_of}
@@ -20,7 +19,7 @@ use Rattle.format.proofs.book.PrefixLaws.{and_left, and_right}
 use Rattle.ledger.specs.Tests.{FirstRefusal}
 use Rattle.ledger.specs.Frames.{FrameBook}
 use Rattle.ledger.specs.Formats.{Correction, Format, Lawful, size}
-use Rattle.ledger.specs.Records.{header, total_in, frame_in, entry_bytes, entries_in, signed, at_spot, record_verdict}
+use Rattle.ledger.specs.Records.{header, frame_in, entry_bytes, signed, record_verdict}
 use Rattle.ledger.specs.Calls.{entry_for, new_value, set_word, edit_tests, edit_answer, edit_written, edit_exit}
 use Rattle.ledger.specs.Chains.{Allowed}
 use Rattle.ledger.proofs.answers.Answering.{need_holds, first_at, refused_first, first_refused}

@@ -13,9 +13,9 @@ use Rattle.ledger.specs.Frames.{FrameBook}
 use Rattle.ledger.specs.Formats.{Correction, Format, Lawful, size}
 use Rattle.ledger.specs.Records.{header, length_in, count_in, total_in, frame_in, entry_bytes, record_verdict}
 use Rattle.ledger.specs.Calls.{entry_for, set_word, open_answer, open_exit, edit_answer, edit_written, edit_exit, restored, restore_answer, restore_exit}
-use Rattle.ledger.specs.Chains.{Header, Allowed}
+use Rattle.ledger.specs.Chains.{Header}
 use Rattle.format.proofs.items.StoringLaws.{sets_outside, sets_inside}
-use Rattle.ledger.proofs.records.Codecs.{bytes_part, entry_length, header_length}
+use Rattle.ledger.proofs.records.Codecs.{entry_length, header_length}
 use Rattle.ledger.proofs.records.Headers.{header_words, frame_length}
 use Rattle.ledger.proofs.records.Judging.{verdict_parts}
 use Rattle.ledger.proofs.calls.Opening.{open_whole}

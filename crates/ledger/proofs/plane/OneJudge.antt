@@ -1,7 +1,7 @@
 -- One judge over two versions: the format that the version word says, and what is refused before anything else is looked at.
 -- Assumes nothing.
 use Prim.Native.Nat.{ℕ}
-use mathlib.Core.Path.{◌≡◌, refl, sym, ap, subst, ◌∙◌}
+use mathlib.Core.Path.{◌≡◌, sym, ap, ◌∙◌}
 use mathlib.Core.Logic.{◌↔◌, ◌⊎◌, inl, inr, ⊎_elim}
 use mathlib.Core.List.{List, ◌∷◌}
 use native.Mathlib.Omega.{arith}
@@ -10,14 +10,10 @@ use Rattle.format.specs.Answers.{Done, accepted, refused, first_of}
 use Rattle.ledger.specs.Formats.{Format, Correction}
 use Rattle.ledger.specs.Records.{record_verdict}
 use Rattle.ledger.specs.Calls.{edit_tests, edit_answer, edit_exit}
-use Rattle.ledger.specs.Chains.{Header}
 use Rattle.ledger.specs.Histories.{Sequence}
-use Rattle.ledger.specs.VersionOne.{version_one}
-use Rattle.ledger.specs.VersionTwo.{version_two}
 use Rattle.ledger.specs.Versions.{Version, v1, v2, format_of, format_in}
 use Rattle.ledger.specs.PlaneFrames.{plane_frames}
 use Rattle.ledger.specs.Layout.{number_of}
-use Rattle.ledger.proofs.answers.Answering.{not_both}
 use Rattle.ledger.proofs.records.Judging.{record_chain, header_refused}
 use Rattle.ledger.proofs.calls.Writes.{edit_found}
 use Rattle.ledger.proofs.histories.Backward as backward

@@ -11,7 +11,7 @@ use lib.ListN.{length}
 use Rattle.format.specs.Answers.{Outcome, accepted, refused}
 use Rattle.format.specs.Frames.{Frame, encode, verdict}
 use Rattle.format.specs.Questions.{done}
-use Rattle.format.specs.Spots.{Spot, spot, put, legal_value, revalued}
+use Rattle.format.specs.Spots.{Spot, spot, legal_value, revalued}
 use Rattle.format.proofs.verdict.Acceptance.{sound}
 use Rattle.format.proofs.spots.PutLaws.{stands}
 use Rattle.format.proofs.front.Stability as stability

@@ -1,6 +1,6 @@
 -- The formats of both versions have the laws that demand 3's theorems ask of a format; and what each says, in the documents' words.
 -- Assumes nothing.
-use Prim.Native.Nat.{ℕ, suc, ◌≤◌, ◌<◌}
+use Prim.Native.Nat.{ℕ, ◌≤◌, ◌<◌}
 use mathlib.Core.Path.{◌≡◌, refl, sym, ap, subst, ◌∙◌}
 use mathlib.Core.Logic.{◌↔◌, ◌⊎◌, inl, inr}
 use mathlib.Core.Bool.{Bool, true, false, true≢false}
@@ -9,10 +9,10 @@ use native.Mathlib.Omega.{arith}
 use lib.Dec.{leb, eqb}
 use lib.ListN.{length}
 use borrow.Author.Tests.{leb-true, le-leb, eq-eqb, ne_eqb, eqb-true, eqb-false, lt-ltb}
-use Rattle.format.specs.Words.{pick, word_at}
+use Rattle.format.specs.Words.{pick}
 use Rattle.format.specs.Answers.{accepted}
 use Rattle.format.specs.Spots.{Spot}
-use Rattle.ledger.specs.Formats.{Entry, Format, LawfulFormat, size}
+use Rattle.ledger.specs.Formats.{Entry, LawfulFormat, size}
 use Rattle.ledger.specs.Records.{count_in, entries_in, length_entries}
 use Rattle.ledger.specs.VersionOne.{version_one, no_extra}
 use Rattle.ledger.specs.VersionTwo.{time_in, stamp_fits, no_desk, few_entries, version_two}

@@ -9,7 +9,7 @@ use native.Mathlib.Omega.{arith}
 use Rattle.format.specs.Words.{pick}
 use Rattle.format.specs.Book.{start_event, end_event}
 use Rattle.format.specs.Items.{Item, StartEvent, EndEvent, class_for}
-use Rattle.format.specs.Rules.{same, since, count, total, gather, begun, sized}
+use Rattle.format.specs.Rules.{same, since, count, total, gather, begun}
 use Rattle.format.specs.Frames.{earlier_then, all_words}
 use Rattle.format.specs.Questions.{end_size, until}
 use Rattle.format.proofs.rules.SoundLaws.{tally, Seen, opening, starts, continues, ends, other, seen}

@@ -1,4 +1,5 @@
-use Prim.Native.Nat.{◌-◌, ◌≤◌}
+-- The measure is the number of corrections that are left.
+use Rattle.std.proofs.Common.{◌-◌, ◌≤◌}
 use Rattle.agree.proofs.ops_corrections.corrections_of.Given as goal
 
 abbrev pub invariant-loop-i : goal.invariant-loop-i

@@ -1,5 +1,5 @@
-use Prim.Native.Nat.{◌-◌, ◌≤◌}
-use lib.ListN.{length}
+-- The measure is the number of bytes that are left.
+use Rattle.std.proofs.Common.{length, ◌-◌, ◌≤◌}
 use Rattle.agree.proofs.ops_runs.is_run.Given as goal
 
 abbrev pub invariant-loop-at : goal.invariant-loop-at

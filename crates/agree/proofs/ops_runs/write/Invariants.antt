@@ -1,6 +1,5 @@
-use mathlib.Core.Path.{◌≡◌}
-use Prim.Native.Nat.{◌-◌, ◌≤◌}
-use lib.ListN.{length}
+-- The measure is the number of bytes that are left.
+use Rattle.std.proofs.Common.{length, ◌-◌, ◌≤◌, ◌≡◌}
 use Rattle.agree.proofs.ops_runs.write.Given as goal
 
 abbrev pub invariant-loop-i : goal.invariant-loop-i

@@ -1,19 +1,7 @@
--- `agree::sums::bytes` meets its contract. What is left to sum, from a and b on, gives the whole check sum; the measure is what is left.
--- Assumes nothing.
-use Prim.Native.Nat.{◌-◌}
 use mathlib.Core.Path.{refl}
 use native.Mathlib.Omega.{arith}
-use Rattle.agree.proofs.Laws.{start, summed_one, summed_all}
+use Rattle.agree.proofs.Laws.{summed_one, summed_all}
 use Rattle.agree.proofs.sums.bytes.Goals as goal
-
-pub loop-i-init : goal.loop-i-init
-loop-i-init c = start _
-
-pub overflow_cast-s : goal.overflow_cast-s
-overflow_cast-s c = omega (arith, c.type_inv.s c.loop-i.i)
-
-pub add-a-requires : goal.add-a-requires
-add-a-requires c = (omega arith, omega (arith, c.type_inv.s c.loop-i.i))
 
 pub loop-i-preserved : goal.loop-i-preserved
 loop-i-preserved c = summed_one c.loop-i.invariant (omega arith) refl c.add-a.ensures c.add-b.ensures

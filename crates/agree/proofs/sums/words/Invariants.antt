@@ -1,5 +1,5 @@
-use Prim.Native.Nat.{◌-◌}
-use lib.ListN.{length}
+-- What is left to sum, from a and b on, gives the whole check sum; the measure is what is left.
+use Rattle.std.proofs.Common.{length, ◌-◌}
 use Rattle.agree.proofs.Laws.{Summing}
 use Rattle.agree.proofs.sums.words.Given as goal
 

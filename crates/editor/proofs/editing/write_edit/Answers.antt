@@ -20,7 +20,7 @@ overflow_add-total c =
 pub overflow_cast-total : goal.overflow_cast-total
 overflow_cast-total c =
     let k = c.requires.known in
-    omega (arith, sum_two _ _ k, few_two _ _ k, short _ _ _ k (λ i. (c.type_inv.buf i).fits))
+    omega (arith, sum_two _ _ k, few_two _ _ k, short _ _ _ k (λ i. (c.slice_known-1.given i).fits))
 
 pub put_words-requires : goal.put_words-requires
 put_words-requires c =
@@ -28,7 +28,7 @@ put_words-requires c =
 
 pub overflow_cast-entry : goal.overflow_cast-entry
 overflow_cast-entry c =
-    omega (arith, word_fits _ _ _ _ _ c.requires (λ i. (c.type_inv.buf i).fits))
+    omega (arith, word_fits _ _ _ _ _ c.requires (λ i. (c.slice_known-1.given i).fits))
 
 pub overflow_cast-entry-2 : goal.overflow_cast-entry-2
 overflow_cast-entry-2 c =
@@ -40,4 +40,4 @@ overflow_cast-entry-3 c =
 
 pub returns : goal.returns
 returns c =
-    written _ _ _ _ _ c.requires (λ i. (c.type_inv.buf i).fits) _ c.put_value.ensures _ _ c.put_words.ensures c.put_entry.ensures
+    written _ _ _ _ _ c.requires (λ i. (c.slice_known-1.given i).fits) _ c.put_value.ensures _ _ c.put_words.ensures c.put_entry.ensures

@@ -11,7 +11,7 @@ loop-i-init c = (omega arith, refl, words_start _ _ _ _ (omega arith))
 
 pub loop-i-preserved : goal.loop-i-preserved
 loop-i-preserved c =
-    (omega arith, c.put_word.auto.0 ∙ c.loop-i.invariant.1, words_next _ _ _ _ _ c.loop-i.invariant.2 (omega arith) _ c.put_word.ensures)
+    (omega arith, c.put_word.auto.buf ∙ c.loop-i.invariant.1, words_next _ _ _ _ _ c.loop-i.invariant.2 (omega arith) _ c.put_word.ensures)
 
 pub returns : goal.returns
 returns c = words_end _ _ _ _ _ c.loop-i.invariant.2 (omega arith)

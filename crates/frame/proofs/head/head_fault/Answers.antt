@@ -1,16 +1,10 @@
 -- `frame::head::head_fault` meets its contract: each test is a rule, in their order.
 -- Assumes nothing.
-use mathlib.Core.Path.{◌≡◌, ap, sym, ◌∙◌}
-use mathlib.Core.Bool.{true}
+use mathlib.Core.Path.{ap, sym, ◌∙◌}
 use native.Mathlib.Omega.{arith}
-use Rattle.format.specs.Words.{word_at}
 use Rattle.format.specs.Frames.{start_fits}
 use Rattle.format.proofs.reader.HeadTests.{odd, low, high, start_wrong, size_wrong, sequence_wrong, end_wrong, head_right}
 use Rattle.frame.proofs.head.head_fault.Goals as goal
-
--- the start word is one
-begun : (c : tie.Then4) → start_fits (word_at c.before.before.before.before.before.before.before.args.s.now 0) ≡ true
-begun c = ap start_fits (sym c.before.before.word.ensures) ∙ sym c.before.is-start.ensures ∙ c.if4.true
 
 pub returns-then-n-ne0 : goal.returns-then-n-ne0
 returns-then-n-ne0 c =
@@ -26,19 +20,19 @@ returns-then-n-gt-MOST c =
 
 pub returns-then-word-n : goal.returns-then-word-n
 returns-then-word-n c =
-    size_wrong c.args.s.now c.if-n-ne0.false c.if-n-lt-LEAST.false c.if-n-gt-MOST.false (begun k) (λ z. c.if-word-n.true (c.word-then-is_start.ensures ∙ z))
+    size_wrong c.args.s.now c.if-n-ne0.false c.if-n-lt-LEAST.false c.if-n-gt-MOST.false (ap start_fits (sym c.word.ensures) ∙ sym c.is_start.ensures ∙ c.if-is_start.true) (λ z. c.if-word-n.true (c.word-then-is_start.ensures ∙ z))
 
 pub returns-then-word-gt-LAST_SEQUENCE : goal.returns-then-word-gt-LAST_SEQUENCE
 returns-then-word-gt-LAST_SEQUENCE c =
-    sequence_wrong c.args.s.now c.if-n-ne0.false c.if-n-lt-LEAST.false c.if-n-gt-MOST.false (begun k) (sym c.word-then-is_start.ensures ∙ c.if-word-n.false) (omega (arith, c.word-then-is_start-2.ensures))
+    sequence_wrong c.args.s.now c.if-n-ne0.false c.if-n-lt-LEAST.false c.if-n-gt-MOST.false (ap start_fits (sym c.word.ensures) ∙ sym c.is_start.ensures ∙ c.if-is_start.true) (sym c.word-then-is_start.ensures ∙ c.if-word-n.false) (omega (arith, c.word-then-is_start-2.ensures))
 
 pub returns-then-word-ne-END : goal.returns-then-word-ne-END
 returns-then-word-ne-END c =
-    end_wrong c.args.s.now c.if-n-ne0.false c.if-n-lt-LEAST.false c.if-n-gt-MOST.false (begun k) (sym c.word-then-is_start.ensures ∙ c.if-word-n.false) (omega (arith, c.word-then-is_start-2.ensures)) (λ z. c.if-word-ne-END.true (c.word-then-is_start-3.ensures ∙ z))
+    end_wrong c.args.s.now c.if-n-ne0.false c.if-n-lt-LEAST.false c.if-n-gt-MOST.false (ap start_fits (sym c.word.ensures) ∙ sym c.is_start.ensures ∙ c.if-is_start.true) (sym c.word-then-is_start.ensures ∙ c.if-word-n.false) (omega (arith, c.word-then-is_start-2.ensures)) (λ z. c.if-word-ne-END.true (c.word-then-is_start-3.ensures ∙ z))
 
 pub returns-then-is_start : goal.returns-then-is_start
 returns-then-is_start c =
-    head_right c.args.s.now c.if-n-ne0.false c.if-n-lt-LEAST.false c.if-n-gt-MOST.false (begun k) (sym c.word-then-is_start.ensures ∙ c.if-word-n.false) (omega (arith, c.word-then-is_start-2.ensures)) (sym c.word-then-is_start-3.ensures ∙ c.if-word-ne-END.false)
+    head_right c.args.s.now c.if-n-ne0.false c.if-n-lt-LEAST.false c.if-n-gt-MOST.false (ap start_fits (sym c.word.ensures) ∙ sym c.is_start.ensures ∙ c.if-is_start.true) (sym c.word-then-is_start.ensures ∙ c.if-word-n.false) (omega (arith, c.word-then-is_start-2.ensures)) (sym c.word-then-is_start-3.ensures ∙ c.if-word-ne-END.false)
 
 pub returns : goal.returns
 returns c =

@@ -3,14 +3,8 @@
 use Prim.Native.Nat.{◌-◌}
 use mathlib.Core.Path.{refl, ◌∙◌}
 use native.Mathlib.Omega.{arith}
-use Rattle.ledger.specs.Versions.{format_for}
-use Rattle.listing.proofs.Listings.{Upper, upper, none_put, more_put, all_put}
+use Rattle.listing.proofs.Listings.{upper, none_put, more_put, all_put}
 use Rattle.listing.proofs.rows.entry_lines.Goals as goal
-
--- where the turn's entry ends
-up : (c : tie.In-loop invariant-loop decreases-loop)
-    → Upper (format_for c.before.before.before.before.before.args.version) c.before.before.before.before.before.args.buf.now c.before.loop.j c.before.before.entry-size.result c.before.loop.from
-up c = let i = c.before.loop.invariant in upper _ _ _ _ _ _ (omega arith) i.2 i.3 i.4
 
 pub loop-j-init : goal.loop-j-init
 loop-j-init c =
@@ -21,19 +15,19 @@ pub overflow_add-j : goal.overflow_add-j
 overflow_add-j c = omega arith
 
 pub slice_bounds-entry_line-count : goal.slice_bounds-entry_line-count
-slice_bounds-entry_line-count c = omega (arith, (up c).inside)
+slice_bounds-entry_line-count c = let i = c.loop-j.invariant in omega (arith, (upper _ _ _ _ _ _ c.loop-j-test.true i.2 i.3 i.4).inside)
 
 pub slice_bounds-entry_line-start : goal.slice_bounds-entry_line-start
-slice_bounds-entry_line-start c = omega (arith, (up c).inside)
+slice_bounds-entry_line-start c = let i = c.loop-j.invariant in omega (arith, (upper _ _ _ _ _ _ c.loop-j-test.true i.2 i.3 i.4).inside)
 
 pub slice_bounds-entry_line-end : goal.slice_bounds-entry_line-end
-slice_bounds-entry_line-end c = omega (arith, (up c).inside)
+slice_bounds-entry_line-end c = let i = c.loop-j.invariant in omega (arith, (upper _ _ _ _ _ _ c.loop-j-test.true i.2 i.3 i.4).inside)
 
 pub entry_line-next-requires : goal.entry_line-next-requires
 entry_line-next-requires c = omega arith
 
 pub overflow_add-from : goal.overflow_add-from
-overflow_add-from c = omega (arith, (up c).inside)
+overflow_add-from c = let i = c.loop-j.invariant in omega (arith, (upper _ _ _ _ _ _ c.loop-j-test.true i.2 i.3 i.4).inside)
 
 pub overflow_add-j-in-loop-j : goal.overflow_add-j-in-loop-j
 overflow_add-j-in-loop-j c = omega arith
@@ -44,11 +38,8 @@ loop-j-smaller c = omega arith
 pub loop-j-preserved : goal.loop-j-preserved
 loop-j-preserved c =
     let i = c.loop-j.invariant in
-    let u = up k in
+    let u = upper _ _ _ _ _ _ c.loop-j-test.true i.2 i.3 i.4 in
     (omega arith, i.1, u.begins, i.3, i.4, i.5, c.entry_line-next.auto.0 ∙ i.6, more_put _ _ _ _ i.1 i.2 (omega (arith, u.inside)) i.7 c.entry_line-next.ensures)
-
-pub shape_of-line : goal.shape_of-line
-shape_of-line c = c.loop-j.invariant.6
 
 pub returns : goal.returns
 returns c = let i = c.loop-j.invariant in all_put _ _ _ (omega arith) i.7

@@ -6,17 +6,11 @@ use Rattle.questions.specs.Sought.{HistogramAt, HistogramSought}
 use Rattle.questions.proofs.CountsAnswers.{counts_missing, counts_put}
 use Rattle.questions.proofs.counts.counts_in.Goals as goal
 
--- the header was found
-hit : (c : tie.After-known-told) → let a = c.before.before.before.before.before.before.args in HistogramAt a.s.now a.chip a.channel c.before.place.given.0.0
-hit c =
-    let a = c.before.before.before.before.before.before.args in
-    subst (HistogramSought a.s.now a.chip a.channel) c.before.place.given.1 c.before.before.before.find-histogram.ensures
-
 pub fill_counts-requires : goal.fill_counts-requires
-fill_counts-requires c = ((hit c).on, omega (arith, c.requires.1, c.clear_counts.auto.0))
+fill_counts-requires c = ((subst (HistogramSought c.args.s.now c.args.chip c.args.channel) c.in-At.is c.find_histogram-place.ensures).on, omega (arith, c.requires.1, c.clear_counts.auto.out))
 
 pub returns-in-At : goal.returns-in-At
-returns-in-At c = counts_put _ _ _ _ _ _ _ (hit c) c.clear_counts.ensures c.fill_counts.ensures
+returns-in-At c = counts_put _ _ _ _ _ _ _ (subst (HistogramSought c.args.s.now c.args.chip c.args.channel) c.in-At.is c.find_histogram-place.ensures) c.clear_counts.ensures c.fill_counts.ensures
 
 pub returns-in-Nothing : goal.returns-in-Nothing
 returns-in-Nothing c = let a = c.args in counts_missing _ _ _ _ (subst (HistogramSought a.s.now a.chip a.channel) c.in-Nothing.is c.find_histogram-place.ensures)

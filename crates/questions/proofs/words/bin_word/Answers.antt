@@ -1,24 +1,16 @@
 -- `questions::words::bin_word` meets its contract.
 -- Assumes nothing.
 use mathlib.Core.Path.{ap, sym, ◌∙◌}
-use Rattle.frame.specs.Views.{view_reading, view_frame}
-use Rattle.format.specs.Words.{Bytes}
-use Rattle.questions.proofs.Reading.{Accepted, read_accepted, read_refused, amid_first}
+use Rattle.frame.specs.Views.{view_reading}
+use Rattle.questions.proofs.Reading.{read_accepted, read_refused, amid_first}
 use Rattle.questions.proofs.WordAnswers.{bin_stopped, bin_answered}
 use Rattle.questions.proofs.words.bin_word.Goals as goal
 
--- the frame was accepted
-read-in : (c : tie.After-known-told2) → let f = view_frame c.before.reading2.given.0.0 in Accepted c.before.before.before.before.before.args.s.now f.kind
-read-in c = read_accepted _ _ (sym (ap view_reading c.before.reading2.given.1) ∙ c.before.before.before.read.ensures)
-
-bytes-in : (c : tie.After-known-told2) → Bytes c.before.before.before.before.before.args.s.now
-bytes-in c = λ i. (c.before.before.before.before.shared-slice-known.given i).fits
-
 pub find_bin-place-requires : goal.find_bin-place-requires
-find_bin-place-requires c = amid_first _ (bytes-in c) _ (read-in c)
+find_bin-place-requires c = amid_first _ (λ i. (c.type_inv.s i).fits) _ (read_accepted _ _ (sym (ap view_reading c.in-Accepted.is) ∙ c.read-reading.ensures))
 
 pub returns-in-Refused : goal.returns-in-Refused
 returns-in-Refused c = bin_stopped _ _ _ _ _ _ (read_refused _ _ _ (sym (ap view_reading c.in-Refused.is) ∙ c.read-reading.ensures))
 
 pub returns-in-Accepted : goal.returns-in-Accepted
-returns-in-Accepted c = bin_answered _ (bytes-in c) _ (read-in c) _ _ _ _ (c.word_at.ensures ∙ c.find_bin-place.ensures)
+returns-in-Accepted c = bin_answered _ (λ i. (c.type_inv.s i).fits) _ (read_accepted _ _ (sym (ap view_reading c.in-Accepted.is) ∙ c.read-reading.ensures)) _ _ _ _ (c.word_at.ensures ∙ c.find_bin-place.ensures)

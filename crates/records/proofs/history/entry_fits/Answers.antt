@@ -9,12 +9,12 @@ use Rattle.cursor.specs.Views.{view_standing}
 use Rattle.records.specs.Views.{as_entry}
 use Rattle.records.proofs.Scanning.{other_spot}
 use Rattle.records.proofs.UndoLaws.{noted_item, unsound_fits, left_fits, unnoted_fits, nothing_fits, other_fits, item_fits}
-use borrow.Author.Tests.{not-true, not-false}
+use borrow.Enum.Refused.{opened}
 use Rattle.records.proofs.history.entry_fits.Goals as goal
 
 pub returns-then-not-is_sound : goal.returns-then-not-is_sound
 returns-then-not-is_sound c =
-    unsound_fits _ c.args.f.now (as_entry c.args.e) (λ p. sym (not-true _ c.if-not-is_sound.true) ∙ c.is_sound.ensures p)
+    unsound_fits _ c.args.f.now (as_entry c.args.e) (λ p. sym c.if-not-is_sound.true ∙ c.is_sound.ensures p)
 
 pub returns-then-head_at-eq-NONE : goal.returns-then-head_at-eq-NONE
 returns-then-head_at-eq-NONE c =
@@ -31,14 +31,14 @@ returns-in_default c =
 pub returns-in-Sample : goal.returns-in-Sample
 returns-in-Sample c =
     item_fits c.args.map.now c.args.f.now c.requires _ _ (as_entry c.args.e) refl (omega (arith, c.head_at.ensures)) _ _ (sym (ap view_standing c.in-Item.is) ∙ c.item_noted-standing.ensures) _ _ _
-    (λ k. ap (λ (z : Item). spot_of k (view_item z)) (sym c.in-Sample.is)) (left_fits _ (as_entry c.args.e) _ _ _ _ c.is_sound.ensures (not-false _ c.if-not-is_sound.false) c.fits_item.ensures)
+    (λ k. ap (λ (z : Item). spot_of k (view_item z)) (sym c.in-Sample.is)) (left_fits _ (as_entry c.args.e) _ _ _ _ c.is_sound.ensures c.if-not-is_sound.false c.fits_item.ensures)
 
 pub returns-in-Bin : goal.returns-in-Bin
 returns-in-Bin c =
     item_fits c.args.map.now c.args.f.now c.requires _ _ (as_entry c.args.e) refl (omega (arith, c.head_at.ensures)) _ _ (sym (ap view_standing c.in-Item.is) ∙ c.item_noted-standing.ensures) _ _ _
-    (λ k. ap (λ (z : Item). spot_of k (view_item z)) (sym c.in-Bin.is)) (left_fits _ (as_entry c.args.e) _ _ _ _ c.is_sound.ensures (not-false _ c.if-not-is_sound.false) c.fits_item-in-Bin.ensures)
+    (λ k. ap (λ (z : Item). spot_of k (view_item z)) (sym c.in-Bin.is)) (left_fits _ (as_entry c.args.e) _ _ _ _ c.is_sound.ensures c.if-not-is_sound.false c.fits_item-in-Bin.ensures)
 
 pub returns-in_default-item : goal.returns-in_default-item
 returns-in_default-item c =
     other_fits c.args.map.now c.args.f.now c.requires _ _ (as_entry c.args.e) refl (omega (arith, c.head_at.ensures)) _ _ (sym (ap view_standing c.in-Item.is) ∙ c.item_noted-standing.ensures)
-    (other_spot c.in-Item.found.item c.in_default-item.in_default-item-own.keys3)
+    (other_spot c.in-Item.found.item (opened c.in_default-item.in_default-item-own.keys3))

@@ -15,4 +15,4 @@ returns-in_default c =
 
 pub returns : goal.returns
 returns c =
-    spot_told c.args.map.now c.args.f.now c.requires _ (omega (arith, c.head_at-head.ensures)) _ _ (sym (ap view_standing c.in-Item.is) ∙ c.item_at-standing.ensures) _ c.head_at-head.ensures _ c.header_at-header.ensures _ c.spot_of_lem.ensures
+    spot_told c.args.map.now c.args.f.now c.requires _ (omega (arith, c.head_at-head.ensures)) _ _ (sym (ap view_standing c.in-Item.is) ∙ c.item_at-standing.ensures) _ c.head_at-head.ensures _ c.header_at-header.ensures _ c.spot_of.ensures

@@ -32,5 +32,5 @@ pub returns : goal.returns
 returns c =
     let f = c.walk_back-bad.ensures in (
       same_history _ c.args.f.now _ c.requires.0.room c.copy.ensures _ _ _ (walked_all _ _ _ _ _ _ _ _ refl c.walk_back.ensures ∙ f.goes_on c.if-bad-ne0.false),
-      λ z h. kept_frame _ _ c.args.f.now _ c.args.kept.now _ _ _ _ _ _ c.requires.0.room c.copy.ensures c.requires.1 c.copy-2.ensures c.walk_back-bad.auto.0 (f.undoes c.if-bad-ne0.false) (c.least-stop.ensures.2 h),
+      λ z h. kept_frame _ _ c.args.f.now _ c.args.kept.now _ _ _ _ _ _ c.requires.0.room c.copy.ensures c.requires.1 c.copy-2.ensures c.walk_back-bad.auto.f (f.undoes c.if-bad-ne0.false) (c.least-stop.ensures.2 h),
     )

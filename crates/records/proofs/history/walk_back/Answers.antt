@@ -4,31 +4,26 @@ use Prim.Native.Nat.{◌-◌}
 use mathlib.Core.Path.{refl, sym, ◌∙◌}
 use native.Mathlib.Omega.{arith}
 use Rattle.ledger.specs.Versions.{format_for}
-use Rattle.records.proofs.UndoLaws.{part_long, undo_inside, undo_legal, stored_before, undoing_next, Lies, lies, turn_back, turn_stop, turn_undone, walked_stop, walked_done}
+use Rattle.records.proofs.UndoLaws.{part_long, undo_inside, undo_legal, stored_before, undoing_next, lies, turn_back, turn_stop, turn_undone, walked_stop, walked_done}
 use Rattle.records.proofs.history.walk_back.Goals as goal
-
--- where the turn's entry begins
-low : (c : tie.In-loop invariant-loop decreases-loop)
-    → Lies (format_for c.before.before.before.before.before.before.args.version) c.before.before.before.before.before.before.args.b.now c.before.before.before.before.before.before.args.h (c.before.loop.m - 1) c.before.before.entry-size.result
-low c = let i = c.before.loop.invariant in lies _ _ _ _ _ _ i.3 i.4 i.5 (omega arith)
 
 pub loop-m-init : goal.loop-m-init
 loop-m-init c = (c.requires.0, omega arith, refl, c.requires.1, c.requires.2, c.entry_size-size.ensures, refl, c.requires.3, refl)
 
 pub overflow_mul-at : goal.overflow_mul-at
-overflow_mul-at c = omega (arith, (low c).whole)
+overflow_mul-at c = omega (arith, (lies (format_for c.args.version) c.args.b.now c.args.h c.args.n (c.loop-m.m - 1) c.entry_size-size.result c.loop-m.invariant.3 c.loop-m.invariant.4 c.loop-m.invariant.5 (omega arith)).whole)
 
 pub overflow_add-at : goal.overflow_add-at
-overflow_add-at c = omega (arith, (low c).whole)
+overflow_add-at c = omega (arith, (lies (format_for c.args.version) c.args.b.now c.args.h c.args.n (c.loop-m.m - 1) c.entry_size-size.result c.loop-m.invariant.3 c.loop-m.invariant.4 c.loop-m.invariant.5 (omega arith)).whole)
 
 pub slice_bounds-entry_in-count : goal.slice_bounds-entry_in-count
-slice_bounds-entry_in-count c = omega (arith, (low c).whole)
+slice_bounds-entry_in-count c = omega (arith, (lies (format_for c.args.version) c.args.b.now c.args.h c.args.n (c.loop-m.m - 1) c.entry_size-size.result c.loop-m.invariant.3 c.loop-m.invariant.4 c.loop-m.invariant.5 (omega arith)).whole)
 
 pub slice_bounds-entry_in-start : goal.slice_bounds-entry_in-start
-slice_bounds-entry_in-start c = omega (arith, (low c).whole)
+slice_bounds-entry_in-start c = omega (arith, (lies (format_for c.args.version) c.args.b.now c.args.h c.args.n (c.loop-m.m - 1) c.entry_size-size.result c.loop-m.invariant.3 c.loop-m.invariant.4 c.loop-m.invariant.5 (omega arith)).whole)
 
 pub entry_in-e-requires : goal.entry_in-e-requires
-entry_in-e-requires c = rw part_long (omega (arith, (low c).whole))
+entry_in-e-requires c = rw part_long (omega (arith, (lies (format_for c.args.version) c.args.b.now c.args.h c.args.n (c.loop-m.m - 1) c.entry_size-size.result c.loop-m.invariant.3 c.loop-m.invariant.4 c.loop-m.invariant.5 (omega arith)).whole))
 
 pub entry_fits-requires : goal.entry_fits-requires
 entry_fits-requires c = c.loop-m.invariant.0
@@ -43,12 +38,12 @@ pub loop-m-preserved : goal.loop-m-preserved
 loop-m-preserved c =
     let l = c.loop-m in
     let i = l.invariant in
-    let w = low k in
+    let w = lies (format_for c.args.version) c.args.b.now c.args.h c.args.n (c.loop-m.m - 1) c.entry_size-size.result i.3 i.4 i.5 (omega arith) in
     let t = sym c.entry_fits.ensures ∙ c.if-entry_fits.true in
     let g = c.put_in.ensures ∙ stored_before _ _ i.0.frame _ t in (
       undoing_next _ _ i.0.frame _ t _ _ i.0 g,
       omega arith,
-      c.put_in.auto.0 ∙ i.2,
+      c.put_in.auto.f ∙ i.2,
       i.3,
       i.4,
       i.5,
@@ -64,7 +59,7 @@ pub returns-else-entry_fits : goal.returns-else-entry_fits
 returns-else-entry_fits c =
     let l = c.loop-m in
     let i = l.invariant in
-    let w = low k in
+    let w = lies (format_for c.args.version) c.args.b.now c.args.h c.args.n (c.loop-m.m - 1) c.entry_size-size.result i.3 i.4 i.5 (omega arith) in
     walked_stop _ _ _ _ _ _ _ _ (omega arith) (turn_stop _ _ _ _ l.m _ (omega arith) c.entry_in-e.ensures (omega (arith, w.whole)) w.begins (sym c.entry_fits.ensures ∙ c.if-entry_fits.false) ∙ i.6)
 
 pub shape_of-f : goal.shape_of-f

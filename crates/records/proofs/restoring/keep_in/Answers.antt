@@ -17,11 +17,11 @@ unwind_to-bad-requires c = let p = c.requires in (record { framed = p.0; room = 
 
 pub slice_bounds-copy-end-then-bad-k : goal.slice_bounds-copy-end-then-bad-k
 slice_bounds-copy-end-then-bad-k c =
-    sym (length-take-le _ _ (part_kept c.unwind_to-bad.new.1.1.0 (drop (length c.args.frame.now) c.args.kept.now) _ (c.unwind_to-bad.auto.1.1.0 ∙ length-take-le _ _ c.requires.2)))
+    sym (length-take-le _ _ (part_kept c.unwind_to-bad.new.kept (drop (length c.args.frame.now) c.args.kept.now) _ (c.unwind_to-bad.auto.kept ∙ length-take-le _ _ c.requires.2)))
 
 pub returns-then-bad-k : goal.returns-then-bad-k
 returns-then-bad-k c =
-    kept_written _ _ _ _ _ _ _ c.unwind_to-bad.ensures.0 _ _ _ c.if-bad-k.true (c.unwind_to-bad.auto.1.1.0 ∙ length-take-le _ _ c.requires.2) c.unwind_to-bad.ensures.1 c.copy.ensures
+    kept_written _ _ _ _ _ _ _ c.unwind_to-bad.ensures.0 _ _ _ c.if-bad-k.true (c.unwind_to-bad.auto.kept ∙ length-take-le _ _ c.requires.2) c.unwind_to-bad.ensures.1 c.copy.ensures
 
 pub returns-else-bad-k : goal.returns-else-bad-k
 returns-else-bad-k c =

@@ -4,26 +4,22 @@ use mathlib.Core.Path.{ap, sym, ◌∙◌}
 use native.Mathlib.Omega.{arith}
 use Rattle.ledger.specs.Versions.{format_in}
 use Rattle.records.specs.Views.{summary_of, view_record}
-use Rattle.records.proofs.RecordLaws.{FramedKnown, framed_known, framed_part, part_inside, framed_verdict, record_refused, restore_refused, kept_record, kept_refused, kept_left}
+use Rattle.records.proofs.RecordLaws.{framed_known, framed_part, part_inside, framed_verdict, record_refused, restore_refused, kept_record, kept_refused, kept_left}
 use Rattle.records.proofs.restoring.restored_to.Goals as goal
 
--- what the header and the frame told
-known : (c : tie.After-found2) → FramedKnown (format_in c.before.before.before.before.before.args.buf.now) c.before.before.before.before.before.args.buf.now (summary_of c.found2.given.0.0)
-known c = framed_known _ _ _ (sym (ap view_record c.found2.given.1) ∙ c.before.before.framed.ensures)
-
 pub overflow_add-end : goal.overflow_add-end
-overflow_add-end c = omega (arith, part_inside _ _ _ (known c))
+overflow_add-end c = omega (arith, part_inside _ _ _ (framed_known (format_in c.args.buf.now) c.args.buf.now (summary_of c.in-Record.x) (sym (ap view_record c.in-Record.is) ∙ c.framed-found.ensures)))
 
 pub slice_bounds-keep-end : goal.slice_bounds-keep-end
-slice_bounds-keep-end c = omega (arith, part_inside _ _ _ (known c))
+slice_bounds-keep-end c = omega (arith, part_inside _ _ _ (framed_known (format_in c.args.buf.now) c.args.buf.now (summary_of c.in-Record.x) (sym (ap view_record c.in-Record.is) ∙ c.framed-found.ensures)))
 
 pub keep-bad-requires : goal.keep-bad-requires
 keep-bad-requires c =
-    rw c.word-version.ensures (framed_part _ _ _ (known f) (λ i. (c.type_inv.buf i).fits))
+    rw c.word-version.ensures (framed_part _ _ _ (framed_known (format_in c.args.buf.now) c.args.buf.now (summary_of c.in-Record.x) (sym (ap view_record c.in-Record.is) ∙ c.framed-found.ensures)) (λ i. (c.type_inv.buf i).fits))
 
 pub returns-then-bad-eq0 : goal.returns-then-bad-eq0
 returns-then-bad-eq0 c =
-    let f = known c in
+    let f = framed_known (format_in c.args.buf.now) c.args.buf.now (summary_of c.in-Record.x) (sym (ap view_record c.in-Record.is) ∙ c.framed-found.ensures) in
     record { answered = kept_record _ _ f _ _ _ _ _ c.word-version.ensures c.keep-bad.ensures c.if-bad-eq0.true; left = kept_left _ _ f _ _ _ _ _ c.word-version.ensures c.keep-bad.ensures }
 
 pub returns-in-Refused : goal.returns-in-Refused
@@ -33,5 +29,5 @@ returns-in-Refused c =
 
 pub returns-else-bad-eq0 : goal.returns-else-bad-eq0
 returns-else-bad-eq0 c =
-    let f = known c in
+    let f = framed_known (format_in c.args.buf.now) c.args.buf.now (summary_of c.in-Record.x) (sym (ap view_record c.in-Record.is) ∙ c.framed-found.ensures) in
     record { answered = kept_refused _ _ f _ _ _ _ _ c.word-version.ensures c.keep-bad.ensures c.if-bad-eq0.false; left = kept_left _ _ f _ _ _ _ _ c.word-version.ensures c.keep-bad.ensures }

@@ -4,6 +4,7 @@ use mathlib.Core.Path.{sym, ap, ◌∙◌}
 use Rattle.format.specs.Spots.{no_header, under}
 use Rattle.book.specs.Views.{view_item}
 use Rattle.book.specs.declared.items.Item.{Item}
+use borrow.Enum.Refused.{opened}
 use Rattle.records.proofs.Scanning.{other_header}
 use Rattle.records.proofs.scan.header_of.Goals as goal
 
@@ -14,4 +15,4 @@ pub returns-in-Histogram : goal.returns-in-Histogram
 returns-in-Histogram c = c.header-in-Histogram.ensures ∙ ap (λ (z : Item). under no_header (view_item z)) (sym c.in-Histogram.is)
 
 pub returns-in_default : goal.returns-in_default
-returns-in_default c = c.header-in_default.ensures ∙ other_header c.args.item c.in_default.in_default-own.keys3
+returns-in_default c = c.header-in_default.ensures ∙ other_header c.args.item (opened c.in_default.in_default-own.keys3)

@@ -16,7 +16,7 @@ returns-in_default c =
 
 pub returns-then-at-w : goal.returns-then-at-w
 returns-then-at-w c =
-    seek_found _ _ _ _ c.loop-at.invariant _ _ (sym (ap view_standing c.in-Item.is) ∙ c.item_at-standing.ensures) c.if-at-w.true _ _ c.header_at.ensures c.spot_of_lem.ensures
+    seek_found _ _ _ _ c.loop-at.invariant _ _ (sym (ap view_standing c.in-Item.is) ∙ c.item_at-standing.ensures) c.if-at-w.true _ _ c.header_at.ensures c.spot_of.ensures
 
 pub overflow_cast-at : goal.overflow_cast-at
 overflow_cast-at c =

@@ -33,7 +33,7 @@ pub overflow_add-w-2 : goal.overflow_add-w-2
 overflow_add-w-2 c = omega (arith, c.requires.0.bin (λ e. omega arith))
 
 pub word_put-requires-3 : goal.word_put-requires-3
-word_put-requires-3 c = omega (arith, c.word_put-2.auto.0, c.requires.0.bin (λ e. omega arith))
+word_put-requires-3 c = omega (arith, c.word_put-2.auto.buf, c.requires.0.bin (λ e. omega arith))
 
 pub returns : goal.returns
 returns c =

@@ -1,6 +1,7 @@
 -- `writer::calls::add_text` meets its contract.
 -- Assumes nothing.
 use mathlib.Core.Path.{sym, ap, ◌∙◌}
+use borrow.Author.Rules.{rules}
 use Rattle.frame.specs.PartialViews.{view_partial}
 use Rattle.writer.proofs.AddLaws.{partial_refused, text_added}
 use Rattle.writer.proofs.calls.add_text.Goals as goal
@@ -10,4 +11,4 @@ returns-in-Refused c = partial_refused c.args.buf.now _ _ _ _ (ap view_partial (
 
 pub returns-in-Accepted : goal.returns-in-Accepted
 returns-in-Accepted c =
-    text_added c.args.buf.now _ (λ i. (c.type_inv.buf i).fits) _ (ap view_partial (sym c.in-Accepted.is) ∙ c.partial-judged.ensures) _ _ _ c.reached.ensures _ c.put_text.ensures
+    text_added c.args.buf.now _ (λ i. search rules) _ (ap view_partial (sym c.in-Accepted.is) ∙ c.partial-judged.ensures) _ _ _ c.reached.ensures _ c.put_text.ensures

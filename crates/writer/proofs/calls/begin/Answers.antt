@@ -2,24 +2,18 @@
 -- Assumes nothing.
 use mathlib.Core.Path.{sym, ap, ◌∙◌}
 use native.Mathlib.Omega.{arith}
-use Prim.Native.Nat.{◌≤◌}
-use lib.ListN.{length}
 use Rattle.writer.specs.Views.{view_written}
 use Rattle.writer.proofs.CallLaws.{begin_room, begin_refused, begin_wrote}
 use Rattle.writer.proofs.calls.begin.Goals as goal
 
--- an accepted begin has room
-room : (k : tie.After-answer2) → 8 ≤ length k.before.before.before.before.before.args.buf.now
-room k = begin_room k.before.before.before.before.before.args.buf.now _ _ _ (ap view_written (sym k.answer2.given.1) ∙ k.before.before.may_begin.ensures)
-
 pub put_word-requires : goal.put_word-requires
-put_word-requires c = omega (arith, room c)
+put_word-requires c = omega (arith, begin_room c.args.buf.now _ _ _ (ap view_written (sym c.in-Length.is) ∙ c.may_begin-answer.ensures))
 
 pub put_word-requires-in-Length : goal.put_word-requires-in-Length
-put_word-requires-in-Length c = omega (arith, room c)
+put_word-requires-in-Length c = omega (arith, begin_room c.args.buf.now _ _ _ (ap view_written (sym c.in-Length.is) ∙ c.may_begin-answer.ensures))
 
 pub put_word-requires-in-Length-2 : goal.put_word-requires-in-Length-2
-put_word-requires-in-Length-2 c = omega (arith, room c)
+put_word-requires-in-Length-2 c = omega (arith, begin_room c.args.buf.now _ _ _ (ap view_written (sym c.in-Length.is) ∙ c.may_begin-answer.ensures))
 
 pub returns-in-Refused : goal.returns-in-Refused
 returns-in-Refused c = begin_refused c.args.buf.now _ _ _ _ _ (ap view_written (sym c.in-Refused.is) ∙ c.may_begin-answer.ensures)
