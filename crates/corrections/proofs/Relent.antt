@@ -1,5 +1,5 @@
 -- A `&mut [T]` that a function holds and lends to a call for a lifetime of that call: what stands while it is lent, and how it comes back. The kit's
--- own laws say it of a slice without its machine value; here it is the parameter of a function that is proved by hand.
+-- own laws say it of a slice without its machine value; here it has one, as a parameter of a function that is proved by hand has. (No function here is today.)
 -- Assumes `Logic`.
 use mathlib.Core.Path.{◌≡◌, refl}
 use Prim.Native.Nat.{ℕ}

@@ -10,7 +10,7 @@ use native.Mathlib.Omega.{arith}
 use lib.ListN.{length, take, drop}
 use Rattle.format.specs.Words.{Bytes, words, bytes, word_at, long_at, time_at}
 use Rattle.format.specs.Book.{Class, channel, histogram, hit_count, sample, bin, last_cell, time_bin, data_frame, monitor_frame, command_frame, text, start_event, continue_event, end_event, frame_end, unassigned, class_of, after, assigned, text_words}
-use Rattle.format.specs.Items.{Channel, Histogram, HitCount, Sample, Bin, LastCell, TimeBin, Text, StartEvent, ContinueEvent, EndEvent, closed, decode, Token, whole, broken, token_for}
+use Rattle.format.specs.Items.{Sample, Bin, TimeBin, Text, StartEvent, ContinueEvent, EndEvent, closed, decode, Token, whole, broken, token_for}
 use Rattle.format.specs.Frames.{last_of}
 use Rattle.format.specs.Questions.{shown}
 use Rattle.format.specs.Cursor.{standing_by, standing_at, shown_by}

@@ -10,9 +10,9 @@ use lib.ListN.{length}
 use lib.Dec.{eqb, ltb}
 use borrow.Author.Tests.{ltb-true}
 use Rattle.format.specs.Words.{pick}
-use Rattle.format.specs.Answers.{Outcome, accepted, refused}
-use Rattle.format.specs.Rules.{Kind, data_kind, monitor_kind, command_kind, ReaderMode, fresh, unheaded, commands}
-use Rattle.format.specs.Steps.{ReaderState, start, Stepped, moved, stopped, step_of, Summary, summed}
+use Rattle.format.specs.Answers.{accepted, refused}
+use Rattle.format.specs.Rules.{Kind, data_kind, monitor_kind, command_kind, fresh, unheaded, commands}
+use Rattle.format.specs.Steps.{ReaderState, start, Stepped, moved, stopped, step_of, summed}
 use Rattle.frame.specs.Repeats.{onward, turns_of}
 use Rattle.format.proofs.reader.StepLaws.{Going, going_start, going_moved, going_stopped, going_end}
 

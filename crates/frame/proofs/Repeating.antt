@@ -1,22 +1,22 @@
 -- Runs: each item of a run takes a turn, and the turns add up.
 -- Assumes nothing.
-use Prim.Native.Nat.{ℕ, zero, suc, ◌+◌, ◌-◌, ◌*◌, ◌/◌, ◌%◌, ◌≤◌, ◌<◌}
+use Prim.Native.Nat.{ℕ, suc, ◌+◌, ◌-◌, ◌*◌, ◌/◌, ◌%◌, ◌≤◌, ◌<◌}
 use mathlib.Core.Path.{◌≡◌, refl, sym, ap, subst, ◌∙◌}
 use mathlib.Core.List.{List}
-use mathlib.Core.Bool.{Bool, true, false, ◌&&◌}
+use mathlib.Core.Bool.{true, false, ◌&&◌}
 use native.Mathlib.Omega.{arith}
 use lib.ListN.{length}
-use lib.Dec.{leb, ltb, eqb}
+use lib.Dec.{eqb}
 use borrow.Author.Tests.{le-leb, lt-ltb, ne_eqb, eqb-true}
 use Rattle.format.proofs.book.PrefixLaws.{and_left, and_right}
 use Rattle.format.specs.Words.{word_at, long_at}
 use Rattle.format.specs.Items.{in_range, whole, Sample, Bin, HitCount}
 use Rattle.format.specs.Rules.{ReaderMode, inside, after_sample, headed}
-use Rattle.format.specs.Steps.{Marks, ReaderState, Stepped, moved, marked, check_by, step_of}
+use Rattle.format.specs.Steps.{Marks, ReaderState, moved, marked, check_by, step_of}
 use Rattle.format.proofs.book.RangeLaws.{bin_is, sample_is, hits_is}
 use Rattle.book.specs.Fields.{hits_of, hits_item}
 use Rattle.book.specs.declared.items.HitCount as hc
-use Rattle.frame.specs.Repeats.{onward, turns_of, Turns, Repeated}
+use Rattle.frame.specs.Repeats.{turns_of, Turns, Repeated}
 use Rattle.frame.proofs.Steps.{sample_step, hit_step, bin_step}
 
 -- no item of a run is the one asked for

@@ -1,6 +1,6 @@
 -- A turn at a word, class by class: from what the code found at the word to the turn that the meaning takes there.
 -- Assumes nothing.
-use Prim.Native.Nat.{ℕ, ◌+◌, ◌-◌, ◌*◌, ◌/◌, ◌%◌, ◌≤◌, ◌<◌}
+use Prim.Native.Nat.{ℕ, ◌+◌, ◌-◌, ◌*◌, ◌%◌, ◌≤◌, ◌<◌}
 use mathlib.Core.Path.{◌≡◌, refl, sym, ap, ap₂, subst, ◌∙◌}
 use mathlib.Core.List.{List, []}
 use mathlib.Core.Bool.{Bool, true, false, ◌&&◌, ◌||◌}
@@ -14,14 +14,14 @@ use Rattle.format.proofs.items.TextLaws.{bytes_are}
 use Rattle.format.proofs.items.PartLaws.{payload_bytes}
 use Rattle.format.specs.Words.{Bytes, words, bytes, word_at, long_at, time_at, non_zero, all_zero}
 use Rattle.format.specs.Book.{Class, channel, histogram, hit_count, sample, bin, last_cell, time_bin, data_frame, monitor_frame, command_frame, text, start_event, continue_event, end_event, frame_end, unassigned, class_of, after, assigned, text_words}
-use Rattle.format.specs.Items.{Item, Channel, Histogram, HitCount, Sample, Bin, LastCell, TimeBin, Text, StartEvent, ContinueEvent, EndEvent, in_range, closed, decode, Token, whole, broken, flawed, token_for}
-use Rattle.format.specs.Rules.{ReaderMode, fresh, outside, inside, after_channel, after_time, after_sample, unheaded, headed, commands, allowed, among, bad}
+use Rattle.format.specs.Items.{Item, Sample, Bin, TimeBin, Text, StartEvent, ContinueEvent, EndEvent, in_range, closed, decode, whole, broken, flawed, token_for}
+use Rattle.format.specs.Rules.{ReaderMode, fresh, outside, inside, after_channel, after_time, after_sample, unheaded, headed, commands, allowed, among}
 use Rattle.format.specs.Steps.{ReaderState, place_by, marks_end, check_by, Stepped, stopped, marked, step_of}
-use Rattle.format.proofs.reader.TurnLaws.{Stands, step_at, stop_at, alone, no_class, not_there, bin_there, start_there, continue_there, continue_broken, end_there, end_broken, text_there, text_broken}
+use Rattle.format.proofs.reader.TurnLaws.{step_at, stop_at, alone, no_class, not_there, bin_there, start_there, continue_there, continue_broken, end_there, end_broken, text_there, text_broken}
 use Rattle.cursor.specs.Promises.{TextClosed}
 use Rattle.cursor.proofs.TextLoops.{closed_there}
 use Rattle.rules.specs.Views.{tested, continue_tested, end_tested, text_tested}
-use Rattle.book.specs.Fields.{channel_of, histogram_of, hits_of, cell_of, channel_item, histogram_item, hits_item, sample_item, cell_item, time_item}
+use Rattle.book.specs.Fields.{channel_of, histogram_of, hits_of, cell_of, channel_item, histogram_item, hits_item, cell_item}
 use Rattle.book.specs.declared.items.Channel as ch
 use Rattle.book.specs.declared.items.Histogram as hi
 use Rattle.book.specs.declared.items.HitCount as hc

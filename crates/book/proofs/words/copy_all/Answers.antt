@@ -1,7 +1,6 @@
 -- `book::words::copy_all` meets its contract. The loop keeps: what is left to store, stored, gives what the whole stored gives.
 -- Assumes nothing.
 use borrow.Author.Rules.{rules}
-use Prim.Native.Nat.{◌-◌}
 use mathlib.Core.Path.{refl}
 use native.Mathlib.Numerals.{add-one}
 use lib.ListN.{length-set, drop_of_length-le}

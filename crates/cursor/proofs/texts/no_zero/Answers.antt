@@ -1,6 +1,5 @@
 -- `cursor::texts::no_zero` meets its contract. The loop keeps: what was found so far, and the bytes that are left, make the answer.
 -- Assumes nothing.
-use Prim.Native.Nat.{◌-◌}
 use mathlib.Core.Path.{refl}
 use native.Mathlib.Omega.{arith}
 use Rattle.cursor.proofs.TextLoops.{more, none}

@@ -1,6 +1,5 @@
 -- `frame::repeats::past_bins` meets its contract: the Bins behind us took their turns.
 -- Assumes nothing.
-use Prim.Native.Nat.{◌-◌}
 use mathlib.Core.Path.{refl}
 use native.Mathlib.Omega.{arith}
 use Rattle.format.specs.Rules.{headed}

@@ -1,6 +1,5 @@
 -- `frame::repeats::past_hits` meets its contract: the Hit counts behind us took their turns.
 -- Assumes nothing.
-use Prim.Native.Nat.{◌-◌}
 use mathlib.Core.Path.{refl, sym, ◌∙◌}
 use native.Mathlib.Omega.{arith}
 use Rattle.format.specs.Rules.{inside}

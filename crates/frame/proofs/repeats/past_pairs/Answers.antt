@@ -1,6 +1,5 @@
 -- `frame::repeats::past_pairs` meets its contract: the Samples behind us took their turns.
 -- Assumes nothing.
-use Prim.Native.Nat.{◌-◌}
 use mathlib.Core.Path.{sym, ◌∙◌}
 use native.Mathlib.Omega.{arith}
 use Rattle.format.specs.Rules.{after_sample}

@@ -1,6 +1,5 @@
 -- `frame::walk::walk` meets its contract: the loop keeps that what is left to walk, after the items behind it, is the whole walk.
 -- Assumes nothing.
-use Prim.Native.Nat.{◌-◌}
 use mathlib.Core.Path.{ap}
 use native.Mathlib.Omega.{arith}
 use Rattle.rules.specs.Views.{view_kind, view_step}

@@ -7,9 +7,9 @@ use Rattle.listing.proofs.pieces.number.Goals as goal
 
 pub text-requires : goal.text-requires
 text-requires c =
-    let t = twenty _ _ c.ranges.n.fits c.decimal-k.ensures.1.0 in
-    omega (arith, c.decimal-k.ensures.0.1)
+    let t = twenty _ _ c.ranges.n.fits c.decimal-k.ensures.len in
+    omega (arith, c.decimal-k.ensures.in_bounds.1)
 
 pub returns : goal.returns
 returns c =
-    decimal_put _ _ _ c.decimal-k.ensures.1.0 c.decimal-k.ensures.1.1 c.decimal-k.ensures.0.1 (twenty _ _ c.ranges.n.fits c.decimal-k.ensures.1.0) c.text.ensures
+    decimal_put _ _ _ c.decimal-k.ensures.len c.decimal-k.ensures.digits c.decimal-k.ensures.in_bounds.1 (twenty _ _ c.ranges.n.fits c.decimal-k.ensures.len) c.text.ensures
