@@ -12,7 +12,7 @@ FACT = re.compile(
     r"the two (?:types|sides|values) (?:first differ|differ only|are)\b"
     r"|^  does not hold\b|` ≟ `"
     # what is left after a rewriting is no equation of a thing with itself
-    r"|must be a path whose two ends are equal, and .*is none|give a proof of that as the last argument, `rw L t`"
+    r"|must be a path whose two ends are equal, and .*is none|give a proof of that as the last argument, `(?:rw|simp) L t`"
     # of numbers, mostly with a counterexample
     r"|`omega`: the goal does not follow from what it read"
     # what the code owes, where no tactic finds it any more

@@ -1,6 +1,8 @@
 -- `records::restoring::keep_in` meets its contract.
 -- Assumes nothing.
-use mathlib.Core.Path.{sym, ◌∙◌}
+use mathlib.Core.Path.{◌≡◌, sym, ◌∙◌}
+use mathlib.Core.Bool.{true, ◌&&◌}
+use lib.Dec.{leb, eqb}
 use lib.ListN.{length, drop}
 use lib.Seq.{length-take-le}
 use Rattle.records.proofs.UndoLaws.{part_kept, kept_written, kept_none}
@@ -21,7 +23,8 @@ slice_bounds-copy-end-then-bad-k c =
 
 pub returns-then-bad-k : goal.returns-then-bad-k
 returns-then-bad-k c =
-    kept_written _ _ _ _ _ _ _ c.unwind_to-bad.ensures.0 _ _ _ c.if-bad-k.true (c.unwind_to-bad.auto.kept ∙ length-take-le _ _ c.requires.2) c.unwind_to-bad.ensures.1 c.copy.ensures
+    let t : ((eqb c.unwind_to-bad.result 0 && leb c.args.k c.args.n) && leb (length c.args.frame.now) (length c.args.out.now)) ≡ true = c.if-bad-k.true in
+    kept_written _ _ _ _ _ _ _ c.unwind_to-bad.ensures.0 _ _ _ t (c.unwind_to-bad.auto.kept ∙ length-take-le _ _ c.requires.2) c.unwind_to-bad.ensures.1 c.copy.ensures
 
 pub returns-else-bad-k : goal.returns-else-bad-k
 returns-else-bad-k c =
