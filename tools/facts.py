@@ -10,7 +10,7 @@ ROOT = os.path.dirname(os.path.dirname(os.path.abspath(__file__)))
 FACT = re.compile(
     # two values that had to be the same are not
     r"the two (?:types|sides|values) (?:first differ|differ only|are)\b"
-    r"|^  does not hold\b|` ≟ `"
+    r"|^  does not hold\b|` ≟ `|computed as a goal is, one side reads\b"
     # what is left after a rewriting is no equation of a thing with itself
     r"|must be a path whose two ends are equal, and .*is none|give a proof of that as the last argument, `(?:rw|simp) L t`"
     # of numbers, mostly with a counterexample
