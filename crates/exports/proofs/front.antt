@@ -1,2 +1,2 @@
--- Front page: what a caller of the static library may go by.
+-- Front page: what a caller of these calls may go by, by the static library (exports_c) too.
 pub mod Exports

@@ -1,4 +1,5 @@
--- The front page of the static library: what a caller may go by. Each export's promise is its contract in src/; here is what the promise says of
+-- The front page of the calls for C, Rust and Python: what a caller may go by. Each call's promise is its contract in src/, which exports_c has
+-- word for word for the static library; here is what the promise says of
 -- `refused`: it is 0 exactly where the documents' call is accepted, and where it is not 0, all lent memory is as found. To this there is one exception,
 -- document 02's own: a list of corrections that stops leaves those before its position standing, and has changed nothing else (`edit_all_leaves`).
 -- That a promise has one answer is Unique.antt. Each theorem cites one law, at what the call is.
