@@ -19,8 +19,6 @@ use Rattle.format.specs.Fields.{total, cut, pack, Fit, widths}
 use Rattle.format.proofs.book.BookLaws.{ranged}
 use Rattle.format.proofs.book.FieldLaws.{cut_fit, cut_packed, pack_cut}
 use Rattle.format.proofs.items.WrittenLaws.{content_fit, first_word_lem, read_content}
-use Rattle.book.specs.declared.items.Channel.{Channel}
-use Rattle.book.specs.declared.items.Histogram.{Histogram}
 use Rattle.book.specs.declared.items.HitCount.{HitCount}
 use Rattle.book.specs.declared.items.Sample.{Sample}
 use Rattle.book.specs.declared.items.Bin.{Bin}
@@ -30,7 +28,7 @@ use Rattle.book.specs.declared.items.Text.{Text}
 use Rattle.book.specs.declared.items.StartEvent.{StartEvent}
 use Rattle.book.specs.declared.items.ContinueEvent.{ContinueEvent}
 use Rattle.book.specs.declared.items.EndEvent.{EndEvent}
-use Rattle.book.specs.Fields.{channel_of, histogram_of, hits_of, sample_of, bin_of, cell_of, time_bin_of, text_of, type_of, header_bits_cut, channel_word, histogram_word, hits_word, sample_word, bin_word, cell_word, time_bin_word, text_word, start_word, channel_item, histogram_item, hits_item, sample_item, bin_item, cell_item, time_item, start_item, continue_item, end_item}
+use Rattle.book.specs.Fields.{Channel, Histogram, channel_of, histogram_of, hits_of, sample_of, bin_of, cell_of, time_bin_of, text_of, type_of, header_bits_cut, channel_word, histogram_word, hits_word, sample_word, bin_word, cell_word, time_bin_word, text_word, start_word, channel_item, histogram_item, hits_item, sample_item, bin_item, cell_item, time_item, start_item, continue_item, end_item}
 
 -- values of A lie in words as fields of the widths ns below a head
 pub record Laid (A : Type 0) (ns : List ℕ) (head : ℕ) : Type 0 where

@@ -10,8 +10,7 @@ use Rattle.format.specs.Words.{word_at, long_at, time_at}
 use Rattle.format.specs.Book.{class_of, row_of, after, text_words}
 use Rattle.format.specs.Items.{in_range, key}
 use Rattle.book.specs.declared.class.Class.{Class}
-use Rattle.book.specs.declared.items.Channel.{Channel}
-use Rattle.book.specs.declared.items.Histogram.{Histogram}
+use Rattle.book.specs.Fields.{Channel, Histogram}
 use Rattle.book.specs.declared.items.HitCount.{HitCount}
 use Rattle.book.specs.declared.items.Sample.{Sample}
 use Rattle.book.specs.declared.items.Bin.{Bin}

@@ -2,8 +2,7 @@
 -- Assumes nothing.
 use Rattle.std.specs.Prelude.{ℕ, ◌+◌, ◌*◌, ◌/◌, ◌%◌}
 use Rattle.format.specs.Items as items
-use Rattle.book.specs.declared.items.Channel.{Channel}
-use Rattle.book.specs.declared.items.Histogram.{Histogram}
+use Rattle.book.specs.declared.items.Header.{Header}
 use Rattle.book.specs.declared.items.HitCount.{HitCount}
 use Rattle.book.specs.declared.items.Sample.{Sample}
 use Rattle.book.specs.declared.items.Bin.{Bin}
@@ -14,12 +13,22 @@ use Rattle.book.specs.declared.items.StartEvent.{StartEvent}
 use Rattle.book.specs.declared.items.ContinueEvent.{ContinueEvent}
 use Rattle.book.specs.declared.items.EndEvent.{EndEvent}
 
+-- the headers, by the prefix that each word begins with
+abbrev pub Channel : Type 0
+Channel = Header 0xC000
+
+abbrev pub Histogram : Type 0
+Histogram = Header 0x8000
+
 -- card 5, chip 2, channel 7
+abbrev pub header_of : {prefix : ℕ} → ℕ → Header prefix
+header_of w = record { card = w / 512 % 32; chip = w / 128 % 4; channel = w % 128 }
+
 abbrev pub channel_of : ℕ → Channel
-channel_of w = record { card = w / 512 % 32; chip = w / 128 % 4; channel = w % 128 }
+channel_of w = header_of w
 
 abbrev pub histogram_of : ℕ → Histogram
-histogram_of w = record { card = w / 512 % 32; chip = w / 128 % 4; channel = w % 128 }
+histogram_of w = header_of w
 
 -- card 5, chip 2, count 7
 abbrev pub hits_of : ℕ → HitCount

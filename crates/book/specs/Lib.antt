@@ -1,4 +1,5 @@
 pub mod Views
+pub mod Refusals
 pub mod Fields
 pub mod Page
 pub mod Promises

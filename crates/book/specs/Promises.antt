@@ -1,14 +1,15 @@
 -- What each public function promises, under a name: `Read` of an item is what a word says of it, `Word` the word with its fields, `Valid` whether
 -- it keeps the value rules. The functions' contracts and the theorems of proofs/Once.antt are over these same names.
 -- Assumes nothing.
-use Rattle.std.specs.Prelude.{ℕ, ◌%◌, ◌≡◌, Bool, List}
+use Rattle.std.specs.Prelude.{ℕ, ◌%◌, ◌≡◌, ◌<◌, Bool, List, bit_or, Result, Ok, Err}
 use Rattle.std.proofs.lemmas.List.Edits.{sets}
 use Rattle.format.specs.Words.{word_at, long_at, time_at}
 use Rattle.format.specs.Book.{class_of, row_of, after, text_words}
 use Rattle.format.specs.Items.{in_range, key}
+use Rattle.format.specs.Items as items
 use Rattle.book.specs.declared.class.Class.{Class}
-use Rattle.book.specs.declared.items.Channel.{Channel}
-use Rattle.book.specs.declared.items.Histogram.{Histogram}
+use Rattle.book.specs.declared.class.NoClass.{NoClass}
+use Rattle.book.specs.declared.items.Header.{Header}
 use Rattle.book.specs.declared.items.HitCount.{HitCount}
 use Rattle.book.specs.declared.items.Sample.{Sample}
 use Rattle.book.specs.declared.items.Bin.{Bin}
@@ -16,7 +17,7 @@ use Rattle.book.specs.declared.items.LastCell.{LastCell}
 use Rattle.book.specs.declared.items.TimeBin.{TimeBin}
 use Rattle.book.specs.declared.items.Text.{Text}
 use Rattle.book.specs.declared.items.StartEvent.{StartEvent}
-use Rattle.book.specs.Fields.{channel_of, histogram_of, hits_of, bin_of, cell_of, type_of, channel_word, histogram_word, hits_word, sample_word, bin_word, cell_word, time_bin_word, text_word, start_word, channel_item, histogram_item, hits_item, sample_item, bin_item, cell_item, time_item, start_item}
+use Rattle.book.specs.Fields.{Channel, Histogram, channel_of, histogram_of, header_of, header_bits_cut, channel_word, histogram_word, hits_of, bin_of, cell_of, type_of, hits_word, sample_word, bin_word, cell_word, time_bin_word, text_word, start_word, channel_item, histogram_item, hits_item, sample_item, bin_item, cell_item, time_item, start_item}
 use Rattle.book.specs.Views.{view}
 use Rattle.book.specs.Page.{on_page, book_page}
 
@@ -37,6 +38,11 @@ ClassifiedOn page w r = view r ≡ on_page page w
 abbrev pub RowTold : Class → ℕ → Type 0
 RowTold c r = r ≡ row_of (view c)
 
+-- the class of a row; a number that no row has is no class
+abbrev pub ClassOf : ℕ → Result Class NoClass → Type 0
+ClassOf n (Ok c) = n ≡ row_of (view c)
+ClassOf n (Err e) = 15 < n
+
 abbrev pub TextLong : ℕ → ℕ → Type 0
 TextLong w r = r ≡ text_words w
 
@@ -49,6 +55,18 @@ WordsAfter w r = r ≡ after (class_of w) w
 abbrev pub KeyTold : ℕ → ℕ → ℕ → ℕ → Type 0
 KeyTold card chip channel r = r ≡ key card chip channel
 
+-- of a Channel and of a Histogram alike
+abbrev pub HeaderRead : (prefix : ℕ) → ℕ → Header prefix → Type 0
+HeaderRead prefix w r = r ≡ header_of w
+
+-- the word that begins with the prefix
+abbrev pub HeaderWord : (prefix : ℕ) → Header prefix → ℕ → Type 0
+HeaderWord prefix x r = r ≡ bit_or (header_bits_cut x.card x.chip x.channel) prefix
+
+abbrev pub HeaderValid : (prefix : ℕ) → Header prefix → ℕ → Bool → Type 0
+HeaderValid prefix x card r = (r ≡ in_range card (items.Channel x.card x.chip x.channel)) × (r ≡ in_range card (items.Histogram x.card x.chip x.channel))
+
+-- at the two prefixes
 abbrev pub ChannelRead : ℕ → Channel → Type 0
 ChannelRead w r = r ≡ channel_of w
 

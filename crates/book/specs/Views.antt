@@ -1,8 +1,9 @@
--- What the answers of this crate say in document 01: the class for each case of `Class`, the item for each case of `Item`, and a refusal's
--- number and place.
+-- What the answers of this crate say in document 01: the class for each case of `Class`, the item for each case of `Item`, answers
+-- that are refused or missing.
 -- Assumes nothing.
-use Rattle.std.specs.Prelude.{ℕ}
-use Rattle.format.specs.Answers.{Outcome, refused}
+use Rattle.std.specs.Prelude.{ℕ, Option, Some, None, Result, Ok, Err}
+use Rattle.std.proofs.Math.Option as paper
+use Rattle.format.specs.Answers.{Outcome, accepted}
 use Rattle.format.specs.Book as format
 use Rattle.format.specs.Items as items
 use Rattle.book.specs.declared.class.Class.{Class}
@@ -10,6 +11,7 @@ use Rattle.book.specs.declared.class.Class.TheVariants.{Channel, Histogram, HitC
 use Rattle.book.specs.declared.items.Item.{Item}
 use Rattle.book.specs.declared.items.Item.TheVariants as item
 use Rattle.book.specs.declared.refusal.Refusal.{Refusal}
+pub use Rattle.book.specs.Refusals.{refusal}
 
 abbrev pub view : Class → format.Class
 view Channel = format.channel
@@ -43,5 +45,12 @@ view_item (item.StartEvent x) = items.StartEvent x.kind x.timestamp x.number
 view_item (item.ContinueEvent x) = items.ContinueEvent x.number
 view_item (item.EndEvent x) = items.EndEvent x.size
 
-abbrev pub refusal : {A : Type 0} → Refusal → Outcome A
-refusal r = refused r.number r.place
+-- an answer that is accepted says what `look` makes of it; a refusal its number and place
+abbrev pub view_result : {A B : Type 0} → (A → B) → Result A Refusal → Outcome B
+view_result look (Ok x) = accepted (look x)
+view_result look (Err r) = refusal r
+
+-- an answer that may be missing
+abbrev pub view_option : {A B : Type 0} → (A → B) → Option A → paper.Option B
+view_option look (Some x) = paper.some (look x)
+view_option look None = paper.none

@@ -2,29 +2,29 @@
 ghost use Rattle.std.specs.Prelude.{◌≡◌};
 ghost use Rattle.format.specs.Book.{after, text_words};
 ghost use Rattle.book.specs.Views.{view};
-ghost use Rattle.book.specs.Promises.{Classified, RowTold, TextLong, WordsAfter};
+ghost use Rattle.book.specs.Promises.{Classified, RowTold, ClassOf, TextLong, WordsAfter};
 
 use crate::page::{classify_on, page};
 
-// A class of document 01's word book, in its order, or none; behind them those of document 02.
-#[derive(Clone, Copy)]
+// A class of document 01's word book, numbered by its row there, behind them those of document 02; 0 is that of a word that no row has.
+#[derive(Clone, Copy, Debug, PartialEq, Eq)]
 pub enum Class {
-    Channel,
-    Histogram,
-    HitCount,
-    Sample,
-    Bin,
-    LastCell,
-    TimeBin,
-    DataFrame,
-    MonitorFrame,
-    CommandFrame,
-    Text,
-    StartEvent,
-    EndEvent,
-    FrameEnd,
-    Unassigned,
-    ContinueEvent,
+    Unassigned = 0,
+    Channel = 1,
+    Histogram = 2,
+    HitCount = 3,
+    Sample = 4,
+    Bin = 5,
+    LastCell = 6,
+    TimeBin = 7,
+    DataFrame = 8,
+    MonitorFrame = 9,
+    CommandFrame = 10,
+    Text = 11,
+    StartEvent = 12,
+    EndEvent = 13,
+    FrameEnd = 14,
+    ContinueEvent = 15,
 }
 
 impl Class {
@@ -54,60 +54,43 @@ impl Class {
     pub const CHANNEL: u16 = 0xC000;
 }
 
-// The row of each class in document 01's table, from 1 on, and behind them those of document 02; named here once.
 impl Class {
-    pub const ROW_NONE: u32 = 0; // of a word that no row has
-
-    pub const ROW_CHANNEL: u32 = 1;
-
-    pub const ROW_HISTOGRAM: u32 = 2;
-
-    pub const ROW_HIT_COUNT: u32 = 3;
-
-    pub const ROW_SAMPLE: u32 = 4;
-
-    pub const ROW_BIN: u32 = 5;
-
-    pub const ROW_LAST_CELL: u32 = 6;
-
-    pub const ROW_TIME_BIN: u32 = 7;
-
-    pub const ROW_DATA_FRAME: u32 = 8;
-
-    pub const ROW_MONITOR_FRAME: u32 = 9;
-
-    pub const ROW_COMMAND_FRAME: u32 = 10;
-
-    pub const ROW_TEXT: u32 = 11;
-
-    pub const ROW_START_EVENT: u32 = 12;
-
-    pub const ROW_END_EVENT: u32 = 13;
-
-    pub const ROW_FRAME_END: u32 = 14;
-
-    pub const ROW_CONTINUE_EVENT: u32 = 15;
-
+    // The row of the class in the documents' table, from 1 on; 0 where it has none.
     pub fn row(self) -> u32
         ensures { RowTold self result }
     {
-        match self {
-            Class::Channel => Class::ROW_CHANNEL,
-            Class::Histogram => Class::ROW_HISTOGRAM,
-            Class::HitCount => Class::ROW_HIT_COUNT,
-            Class::Sample => Class::ROW_SAMPLE,
-            Class::Bin => Class::ROW_BIN,
-            Class::LastCell => Class::ROW_LAST_CELL,
-            Class::TimeBin => Class::ROW_TIME_BIN,
-            Class::DataFrame => Class::ROW_DATA_FRAME,
-            Class::MonitorFrame => Class::ROW_MONITOR_FRAME,
-            Class::CommandFrame => Class::ROW_COMMAND_FRAME,
-            Class::Text => Class::ROW_TEXT,
-            Class::StartEvent => Class::ROW_START_EVENT,
-            Class::EndEvent => Class::ROW_END_EVENT,
-            Class::FrameEnd => Class::ROW_FRAME_END,
-            Class::Unassigned => Class::ROW_NONE,
-            Class::ContinueEvent => Class::ROW_CONTINUE_EVENT,
+        self as u32
+    }
+}
+
+// A number that is no class's row.
+#[derive(Clone, Copy, Debug, PartialEq, Eq)]
+pub struct NoClass;
+
+impl TryFrom<u32> for Class {
+    type Error = NoClass;
+
+    ghost try_from_gives = { ClassOf };
+
+    fn try_from(row: u32) -> Result<Class, NoClass> {
+        match row {
+            0 => Ok(Class::Unassigned),
+            1 => Ok(Class::Channel),
+            2 => Ok(Class::Histogram),
+            3 => Ok(Class::HitCount),
+            4 => Ok(Class::Sample),
+            5 => Ok(Class::Bin),
+            6 => Ok(Class::LastCell),
+            7 => Ok(Class::TimeBin),
+            8 => Ok(Class::DataFrame),
+            9 => Ok(Class::MonitorFrame),
+            10 => Ok(Class::CommandFrame),
+            11 => Ok(Class::Text),
+            12 => Ok(Class::StartEvent),
+            13 => Ok(Class::EndEvent),
+            14 => Ok(Class::FrameEnd),
+            15 => Ok(Class::ContinueEvent),
+            _ => Err(NoClass),
         }
     }
 }

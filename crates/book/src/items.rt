@@ -3,68 +3,66 @@
 // card, which a frame start has too, before them.
 ghost use Rattle.std.specs.Prelude.{◌≡◌};
 ghost use Rattle.book.specs.Fields.{header_bits_cut};
-ghost use Rattle.book.specs.Promises.{KeyTold, ChannelRead, ChannelWord, ChannelValid, HistogramRead, HistogramWord, HistogramValid, HitCountRead, HitCountWord, HitCountValid, SampleRead, SampleWord, SampleValid, BinRead, BinWord, BinValid, LastCellRead, LastCellWord, LastCellValid, TimeBinRead, TimeBinWord, TimeBinValid, TextRead, TextWord, StartEventRead, StartEventWord, StartEventValid, EndEventLow, ContinueEventLow};
+ghost use Rattle.book.specs.Promises.{KeyTold, HeaderRead, HeaderWord, HeaderValid, HitCountRead, HitCountWord, HitCountValid, SampleRead, SampleWord, SampleValid, BinRead, BinWord, BinValid, LastCellRead, LastCellWord, LastCellValid, TimeBinRead, TimeBinWord, TimeBinValid, TextRead, TextWord, StartEventRead, StartEventWord, StartEventValid, EndEventLow, ContinueEventLow};
 
 use crate::class::Class;
 
 // The last card: five bits of a word.
 pub const LAST_CARD: u16 = 31;
 
-// A channel of a chip of a card, whose samples follow.
-#[derive(Clone, Copy)]
-pub struct Channel {
+// A channel of a chip of a card, for the items that follow: the item's word begins with the prefix.
+#[derive(Clone, Copy, Debug, PartialEq, Eq)]
+pub struct Header<const PREFIX: u16> {
     pub card: u16,
     pub chip: u16,
     pub channel: u16,
 }
 
-// A channel whose histogram follows.
-#[derive(Clone, Copy)]
-pub struct Histogram {
-    pub card: u16,
-    pub chip: u16,
-    pub channel: u16,
-}
+// A channel whose samples follow. (A const argument is a literal: that each is its class's first word is proved, proofs/FieldLaws.antt.)
+pub type Channel = Header<0xC000>;
+
+// A channel whose histogram follows: every channel may have one.
+pub type Histogram = Header<0x8000>;
 
 // How many channels of a chip were hit.
-#[derive(Clone, Copy)]
+#[derive(Clone, Copy, Debug, PartialEq, Eq)]
 pub struct HitCount {
     pub card: u16,
     pub chip: u16,
     pub count: u16,
 }
 
-#[derive(Clone, Copy)]
+#[derive(Clone, Copy, Debug, PartialEq, Eq)]
 pub struct Sample {
     pub value: u16,
 }
 
 // How often a value was met.
-#[derive(Clone, Copy)]
+#[derive(Clone, Copy, Debug, PartialEq, Eq)]
 pub struct Bin {
     pub bin: u16,
     pub count: u32,
 }
 
-#[derive(Clone, Copy)]
+#[derive(Clone, Copy, Debug, PartialEq, Eq)]
 pub struct LastCell {
     pub chip: u16,
     pub cell: u16,
 }
 
-#[derive(Clone, Copy)]
+#[derive(Clone, Copy, Debug, PartialEq, Eq)]
 pub struct TimeBin {
     pub time: u16,
 }
 
 // A text of n bytes, the final zero included; its bytes are fetched by a question of their own.
-#[derive(Clone, Copy)]
+#[derive(Clone, Copy, Debug, PartialEq, Eq)]
 pub struct Text {
     pub length: u16,
 }
 
 // An event begins: its type (`type` is a word of the language), timestamp and number.
-#[derive(Clone, Copy)]
+#[derive(Clone, Copy, Debug, PartialEq, Eq)]
 pub struct StartEvent {
     pub kind: u16,
     pub timestamp: u64,
@@ -72,18 +70,18 @@ pub struct StartEvent {
 }
 
 // The size of the event in bytes.
-#[derive(Clone, Copy)]
+#[derive(Clone, Copy, Debug, PartialEq, Eq)]
 pub struct EndEvent {
     pub size: u32,
 }
 
 // The number of an event that began in another frame and goes on in this one.
-#[derive(Clone, Copy)]
+#[derive(Clone, Copy, Debug, PartialEq, Eq)]
 pub struct ContinueEvent {
     pub number: u32,
 }
 
-#[derive(Clone, Copy)]
+#[derive(Clone, Copy, Debug, PartialEq, Eq)]
 pub enum Item {
     Channel(Channel),
     Histogram(Histogram),
@@ -120,12 +118,23 @@ impl Channel {
     pub const LAST_CHIP: u16 = 3; // two bits of a Channel's word
 
     pub const LAST: u16 = 78; // the last channel of a chip
+}
 
+// The limits of a Channel: every channel may have a histogram.
+impl Histogram {
+    pub const LAST_CARD: u16 = Channel::LAST_CARD;
+
+    pub const LAST_CHIP: u16 = Channel::LAST_CHIP;
+
+    pub const LAST: u16 = Channel::LAST;
+}
+
+impl<const PREFIX: u16> Header<PREFIX> {
     // The fields of a word, high bits first: card 5, chip 2, channel 7.
-    pub fn of_word(w: u16) -> Channel
-        ensures { ChannelRead w result }
+    pub fn of_word(w: u16) -> Header<PREFIX>
+        ensures { HeaderRead PREFIX w result }
     {
-        Channel {
+        Header {
             card: w >> 9 & 0x1F,
             chip: w >> 7 & 3,
             channel: w & 0x7F,
@@ -134,58 +143,19 @@ impl Channel {
 
     // The word with these fields, each cut to its width.
     pub fn word(self) -> u16
-        ensures { ChannelWord self result }
+        ensures { HeaderWord PREFIX self.entry result }
     {
-        header_bits(self.card, self.chip, self.channel) | Class::CHANNEL
+        header_bits(self.card, self.chip, self.channel) | PREFIX
     }
 
-    // The value rules in a frame of the card. Here and in the two items below the card has a branch of its own: it costs less than all the
-    // tests at once.
+    // The value rules in a frame of the card. Here and in the item below the card has a branch of its own: it costs less than all the tests at once.
     pub fn valid(self, card: u16) -> bool
-        ensures { ChannelValid self card result }
+        ensures { HeaderValid PREFIX self.entry card result }
     {
         if self.card == card {
             return (self.card <= Channel::LAST_CARD)
                 & (self.chip <= Channel::LAST_CHIP)
                 & (self.channel <= Channel::LAST);
-        }
-        false
-    }
-}
-
-impl Histogram {
-    pub const LAST_CARD: u16 = LAST_CARD; // that a Histogram may have
-
-    pub const LAST_CHIP: u16 = 3; // two bits of a Histogram's word
-
-    pub const LAST: u16 = Channel::LAST; // every channel may have a histogram
-
-    // The fields of a word, high bits first: card 5, chip 2, channel 7.
-    pub fn of_word(w: u16) -> Histogram
-        ensures { HistogramRead w result }
-    {
-        Histogram {
-            card: w >> 9 & 0x1F,
-            chip: w >> 7 & 3,
-            channel: w & 0x7F,
-        }
-    }
-
-    // The word with these fields, each cut to its width.
-    pub fn word(self) -> u16
-        ensures { HistogramWord self result }
-    {
-        header_bits(self.card, self.chip, self.channel) | Class::HISTOGRAM
-    }
-
-    // The value rules in a frame of the card.
-    pub fn valid(self, card: u16) -> bool
-        ensures { HistogramValid self card result }
-    {
-        if self.card == card {
-            return (self.card <= Histogram::LAST_CARD)
-                & (self.chip <= Histogram::LAST_CHIP)
-                & (self.channel <= Histogram::LAST);
         }
         false
     }

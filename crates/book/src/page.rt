@@ -9,37 +9,37 @@ ghost use Rattle.book.specs.Promises.{PageTold, ClassifiedOn};
 use crate::class::Class;
 
 // What a row of the page holds: the number of the class's row in the documents' table, in a byte.
-const NONE: u8 = Class::ROW_NONE as u8;
+const NONE: u8 = Class::Unassigned as u8;
 
-const CHANNEL: u8 = Class::ROW_CHANNEL as u8;
+const CHANNEL: u8 = Class::Channel as u8;
 
-const HISTOGRAM: u8 = Class::ROW_HISTOGRAM as u8;
+const HISTOGRAM: u8 = Class::Histogram as u8;
 
-const HIT_COUNT: u8 = Class::ROW_HIT_COUNT as u8;
+const HIT_COUNT: u8 = Class::HitCount as u8;
 
-const SAMPLE: u8 = Class::ROW_SAMPLE as u8;
+const SAMPLE: u8 = Class::Sample as u8;
 
-const BIN: u8 = Class::ROW_BIN as u8;
+const BIN: u8 = Class::Bin as u8;
 
-const LAST_CELL: u8 = Class::ROW_LAST_CELL as u8;
+const LAST_CELL: u8 = Class::LastCell as u8;
 
-const TIME_BIN: u8 = Class::ROW_TIME_BIN as u8;
+const TIME_BIN: u8 = Class::TimeBin as u8;
 
-const DATA_FRAME: u8 = Class::ROW_DATA_FRAME as u8;
+const DATA_FRAME: u8 = Class::DataFrame as u8;
 
-const MONITOR_FRAME: u8 = Class::ROW_MONITOR_FRAME as u8;
+const MONITOR_FRAME: u8 = Class::MonitorFrame as u8;
 
-const COMMAND_FRAME: u8 = Class::ROW_COMMAND_FRAME as u8;
+const COMMAND_FRAME: u8 = Class::CommandFrame as u8;
 
-const TEXT: u8 = Class::ROW_TEXT as u8;
+const TEXT: u8 = Class::Text as u8;
 
-const START_EVENT: u8 = Class::ROW_START_EVENT as u8;
+const START_EVENT: u8 = Class::StartEvent as u8;
 
-const END_EVENT: u8 = Class::ROW_END_EVENT as u8;
+const END_EVENT: u8 = Class::EndEvent as u8;
 
-const FRAME_END: u8 = Class::ROW_FRAME_END as u8;
+const FRAME_END: u8 = Class::FrameEnd as u8;
 
-const CONTINUE_EVENT: u8 = Class::ROW_CONTINUE_EVENT as u8;
+const CONTINUE_EVENT: u8 = Class::ContinueEvent as u8;
 
 // Or this, which names no class: the low byte decides.
 const LOW_BYTE: u8 = 255;

@@ -1,55 +1,83 @@
-// A refusal: the number and the place that document 01 gives it.
-use follower::Followed;
+// A refusal: what is wrong, by document 01's numbers, and the place that it gives.
+ghost use Rattle.std.specs.Prelude.{◌≡◌};
+ghost use Rattle.book.specs.Refusals.{FaultNumbered, AtStart, fault_of};
 
-#[derive(Clone, Copy)]
+use follower::SequenceError;
+
+// What is wrong: document 01's table of refusals, and behind it document 02's.
+#[derive(Clone, Copy, Debug, PartialEq, Eq)]
+pub enum Fault {
+    Length = 1,
+    Kind = 2,
+    Size = 3,
+    Sequence = 4,
+    End = 5,
+    Class = 6,
+    Cut = 7,
+    Place = 8,
+    Value = 9,
+    Order = 10,
+    Open = 11,
+    Room = 12,
+    Absent = 13,
+    NoStart = 14,
+    Link = 15,
+    Header = 20,
+    Entry = 21,
+    Target = 22,
+    NewValue = 23,
+    Signer = 24,
+    Full = 25,
+    NoEntry = 26,
+}
+
+#[derive(Clone, Copy, Debug, PartialEq, Eq)]
 pub struct Refusal {
-    pub number: u32,
+    pub fault: Fault,
     pub place: usize,
 }
 
-// The numbers of document 01's table of refusals, each named here once; the follower, which depends on nothing, has its own two.
-impl Refusal {
-    pub const LENGTH: u32 = 1;
+impl Fault {
+    // Its number in the documents' table.
+    pub fn number(self) -> u32
+        ensures { FaultNumbered self result }
+    {
+        self as u32
+    }
 
-    pub const KIND: u32 = 2;
+    // The refusal at a place.
+    pub fn at(self, place: usize) -> Refusal
+        ensures { result ≡ record { fault = self; place = place } }
+    {
+        Refusal { fault: self, place }
+    }
+}
 
-    pub const SIZE: u32 = 3;
+// A fault that names no place has place 0.
+impl From<Fault> for Refusal {
+    ghost from_gives = { AtStart };
 
-    pub const SEQUENCE: u32 = Followed::SEQUENCE;
+    fn from(fault: Fault) -> Refusal {
+        fault.at(0)
+    }
+}
 
-    pub const END: u32 = 5;
+// The follower, which depends on nothing, has faults of its own.
+impl From<SequenceError> for Fault {
+    ghost from_gives = { λ e f. f ≡ fault_of e };
 
-    pub const CLASS: u32 = 6;
+    fn from(e: SequenceError) -> Fault {
+        match e {
+            SequenceError::NoSequence => Fault::Sequence,
+            SequenceError::NoStart => Fault::NoStart,
+        }
+    }
+}
 
-    pub const CUT: u32 = 7;
+impl From<SequenceError> for Refusal {
+    ghost from_gives = { λ e r. AtStart (fault_of e) r };
 
-    pub const PLACE: u32 = 8;
-
-    pub const VALUE: u32 = 9;
-
-    pub const ORDER: u32 = 10;
-
-    pub const OPEN: u32 = 11;
-
-    pub const ROOM: u32 = 12;
-
-    pub const ABSENT: u32 = 13;
-
-    pub const NO_START: u32 = Followed::NO_START;
-
-    pub const LINK: u32 = 15;
-
-    pub const HEADER: u32 = 20;
-
-    pub const ENTRY: u32 = 21;
-
-    pub const TARGET: u32 = 22;
-
-    pub const NEW_VALUE: u32 = 23;
-
-    pub const SIGNER: u32 = 24;
-
-    pub const FULL: u32 = 25;
-
-    pub const NO_ENTRY: u32 = 26;
+    fn from(e: SequenceError) -> Refusal {
+        Fault::from(e).at(0)
+    }
 }

@@ -5,4 +5,4 @@
 pub mod standing;
 pub mod texts;
 
-pub use standing::{FoundItem, Standing, item_at};
+pub use standing::{FoundItem, item_at};

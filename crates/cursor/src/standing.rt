@@ -19,36 +19,29 @@ use book::items::{
 use book::words::{long, time, word};
 
 // An item, and the index of the word behind it: of the next item, or of the end word.
-#[derive(Clone, Copy)]
+#[derive(Clone, Copy, Debug, PartialEq, Eq)]
 pub struct FoundItem {
     pub item: Item,
     pub next: usize,
-}
-
-// What stands at a word: an item, whole, or none.
-#[derive(Clone, Copy)]
-pub enum Standing {
-    Item(FoundItem),
-    Nothing,
 }
 
 // The index of a frame's first item.
 const FIRST: usize = 3;
 
 // The item, and the index of the word behind it.
-fn found(item: Item, next: usize) -> Standing
+fn found(item: Item, next: usize) -> Option<FoundItem>
     ensures { view_standing result ≡ some (record { item = view_item item; next = next }) }
 {
-    Standing::Item(FoundItem { item, next })
+    Some(FoundItem { item, next })
 }
 
 // A Bin whose two words end before the last word.
-fn bin_standing(s: &[u8], last: usize, at: usize, w: u16) -> Standing
+fn bin_standing(s: &[u8], last: usize, at: usize, w: u16) -> Option<FoundItem>
     requires { (3 ≤ at) × (at < last) × (last ≡ last_of s.now) × (w ≡ word_at s.now at) × (book.bin ≡ book.class_of w) }
     ensures { view_standing result ≡ shown_by (standing_at s.now at) }
 {
     if last < at + 3 {
-        return Standing::Nothing;
+        return None;
     }
     let count = long(s, at + 1);
     let x = Bin {
@@ -59,12 +52,12 @@ fn bin_standing(s: &[u8], last: usize, at: usize, w: u16) -> Standing
 }
 
 // A Start event whose five words end before the last word.
-fn start_standing(s: &[u8], last: usize, at: usize, w: u16) -> Standing
+fn start_standing(s: &[u8], last: usize, at: usize, w: u16) -> Option<FoundItem>
     requires { (3 ≤ at) × (at < last) × (last ≡ last_of s.now) × (w ≡ word_at s.now at) × (book.start_event ≡ book.class_of w) }
     ensures { view_standing result ≡ shown_by (standing_at s.now at) }
 {
     if last < at + 6 {
-        return Standing::Nothing;
+        return None;
     }
     let timestamp = time(s, at + 1);
     let number = long(s, at + 4);
@@ -77,44 +70,44 @@ fn start_standing(s: &[u8], last: usize, at: usize, w: u16) -> Standing
 }
 
 // An End event whose low bits are 0 and whose two words end before the last word.
-fn end_standing(s: &[u8], last: usize, at: usize, w: u16) -> Standing
+fn end_standing(s: &[u8], last: usize, at: usize, w: u16) -> Option<FoundItem>
     requires { (3 ≤ at) × (at < last) × (last ≡ last_of s.now) × (w ≡ word_at s.now at) × (book.end_event ≡ book.class_of w) }
     ensures { view_standing result ≡ shown_by (standing_at s.now at) }
 {
     if last < at + 3 {
-        return Standing::Nothing;
+        return None;
     }
     if EndEvent::low_bits(w) != 0 {
-        return Standing::Nothing;
+        return None;
     }
     let size = long(s, at + 1);
     found(Item::EndEvent(EndEvent { size }), at + 3)
 }
 
 // A Continue event whose content is 0 and whose two words end before the last word.
-fn continue_standing(s: &[u8], last: usize, at: usize, w: u16) -> Standing
+fn continue_standing(s: &[u8], last: usize, at: usize, w: u16) -> Option<FoundItem>
     requires { (3 ≤ at) × (at < last) × (last ≡ last_of s.now) × (w ≡ word_at s.now at) × (book.continue_event ≡ book.class_of w) }
     ensures { view_standing result ≡ shown_by (standing_at s.now at) }
 {
     if last < at + 3 {
-        return Standing::Nothing;
+        return None;
     }
     if ContinueEvent::low_bits(w) != 0 {
-        return Standing::Nothing;
+        return None;
     }
     let number = long(s, at + 1);
     found(Item::ContinueEvent(ContinueEvent { number }), at + 3)
 }
 
 // A text whose bytes are closed and end before the last word.
-fn text_standing(s: &[u8], last: usize, at: usize, w: u16) -> Standing
+fn text_standing(s: &[u8], last: usize, at: usize, w: u16) -> Option<FoundItem>
     requires { (3 ≤ at) × (at < last) × (last ≡ last_of s.now) × (w ≡ word_at s.now at) × (book.text ≡ book.class_of w) }
     ensures { view_standing result ≡ shown_by (standing_at s.now at) }
 {
     let more = text_words(w) as usize;
     let next = at + 1 + more;
     if last < next {
-        return Standing::Nothing;
+        return None;
     }
     let x = Text::of_word(w);
     let from = 2 * (at + 1);
@@ -122,11 +115,11 @@ fn text_standing(s: &[u8], last: usize, at: usize, w: u16) -> Standing
     if is_closed(&s[from..to], w) {
         return found(Item::Text(x), next);
     }
-    Standing::Nothing
+    None
 }
 
 // By the class of its word.
-fn any_standing(s: &[u8], last: usize, at: usize, w: u16) -> Standing
+fn any_standing(s: &[u8], last: usize, at: usize, w: u16) -> Option<FoundItem>
     requires { (3 ≤ at) × (at < last) × (last ≡ last_of s.now) × (w ≡ word_at s.now at) }
     ensures { view_standing result ≡ shown_by (standing_at s.now at) }
 {
@@ -139,32 +132,32 @@ fn any_standing(s: &[u8], last: usize, at: usize, w: u16) -> Standing
         Class::Bin => bin_standing(s, last, at, w),
         Class::LastCell => found(Item::LastCell(LastCell::of_word(w)), at + 1),
         Class::TimeBin => found(Item::TimeBin(TimeBin::of_word(w)), at + 1),
-        Class::DataFrame => Standing::Nothing,
-        Class::MonitorFrame => Standing::Nothing,
-        Class::CommandFrame => Standing::Nothing,
+        Class::DataFrame => None,
+        Class::MonitorFrame => None,
+        Class::CommandFrame => None,
         Class::Text => text_standing(s, last, at, w),
         Class::StartEvent => start_standing(s, last, at, w),
         Class::EndEvent => end_standing(s, last, at, w),
-        Class::FrameEnd => Standing::Nothing,
-        Class::Unassigned => Standing::Nothing,
+        Class::FrameEnd => None,
+        Class::Unassigned => None,
         Class::ContinueEvent => continue_standing(s, last, at, w),
     }
 }
 
 // The item at word `at` of some bytes, where one stands whole between their first three words and their last, and the index of the word behind
 // it. Samples and Bins come one behind the other: they are told here, where a caller's loop has the test in it.
-pub fn item_at(s: &[u8], at: usize) -> Standing
+pub fn item_at(s: &[u8], at: usize) -> Option<FoundItem>
     ensures { StandingAnswered s.now at result }
 {
     if at < FIRST {
-        return Standing::Nothing;
+        return None;
     }
     if s.len() / 2 <= at {
-        return Standing::Nothing;
+        return None;
     }
     let last = s.len() / 2 - 1;
     if last <= at {
-        return Standing::Nothing;
+        return None;
     }
     let w = word(s, at);
     if Class::HIT_COUNT <= w {

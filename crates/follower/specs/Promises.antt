@@ -1,7 +1,8 @@
 -- What each public function promises, under a name: what its answer says on paper is the one that document 01 gives. Assumes nothing.
-use Rattle.std.specs.Prelude.{ℕ, ◌≡◌}
+use Rattle.std.specs.Prelude.{ℕ, ◌≡◌, Result}
 use Rattle.follower.specs.declared.Follower.{Follower}
 use Rattle.follower.specs.declared.Followed.{Followed}
+use Rattle.follower.specs.declared.SequenceError.{SequenceError}
 use Rattle.follower.specs.Follow.{idle, follow}
 use Rattle.follower.specs.Paper.{state_of, view}
 
@@ -10,5 +11,5 @@ abbrev pub Unstarted : Follower → Type 0
 Unstarted r = state_of r ≡ idle
 
 -- the answer of a follower that is fed a sequence word
-abbrev pub FollowedBy : Follower → ℕ → Followed → Type 0
+abbrev pub FollowedBy : Follower → ℕ → Result Followed SequenceError → Type 0
 FollowedBy self word r = view r ≡ follow (state_of self) word
