@@ -1,18 +1,11 @@
 // What judging a partial frame answers.
-use book::refusal::Refusal;
 use rules::state::{Kind, State};
 
 // An accepted partial frame: what its first words say, and the state behind its items.
-#[derive(Clone, Copy)]
+#[derive(Clone, Copy, Debug, PartialEq, Eq)]
 pub struct PartialFrame {
     pub kind: Kind,
     pub card: u16,
     pub sequence: u16,
     pub state: State,
-}
-
-#[derive(Clone, Copy)]
-pub enum Partial {
-    Accepted(PartialFrame),
-    Refused(Refusal),
 }

@@ -3,9 +3,10 @@ ghost use Rattle.std.specs.Prelude.{◌≡◌, true};
 ghost use Rattle.format.specs.Book.{class_of};
 ghost use Rattle.format.specs.Frames.{start_fits, kind_of, head_fault};
 ghost use Rattle.rules.specs.Views.{view_kind};
+ghost use Rattle.frame.specs.Views.{number_or_zero};
 
 use book::class::Class;
-use book::refusal::Refusal;
+use book::refusal::Fault;
 use book::words::word;
 use follower::Follower;
 use rules::state::Kind;
@@ -44,32 +45,32 @@ pub(crate) fn kind_of(w: u16) -> Kind
     Kind::Command
 }
 
-// The number of the first of rules 1 to 5 that is broken, or 0. Apart from the walk: with these early exits before its loop the compiler takes what
+// Err with the first of rules 1 to 5 that is broken. Apart from the walk: with these early exits before its loop the compiler takes what
 // is called in the loop for rarely used, and does not inline it.
-pub(crate) fn head_fault(s: &[u8]) -> u32
-    ensures { result ≡ head_fault s.now }
+pub(crate) fn head_fault(s: &[u8]) -> Result<(), Fault>
+    ensures { number_or_zero result ≡ head_fault s.now }
 {
     let n = s.len();
     if n % 2 != 0 {
-        return Refusal::LENGTH;
+        return Err(Fault::Length);
     }
     if n < LEAST {
-        return Refusal::LENGTH;
+        return Err(Fault::Length);
     }
     if MOST < n {
-        return Refusal::LENGTH;
+        return Err(Fault::Length);
     }
-    if is_start(word(s, 0)) {
-        if word(s, 1) as usize != n {
-            return Refusal::SIZE;
-        }
-        if LAST_SEQUENCE < word(s, 2) {
-            return Refusal::SEQUENCE;
-        }
-        if word(s, n / 2 - 1) != END {
-            return Refusal::END;
-        }
-        return 0;
+    if !is_start(word(s, 0)) {
+        return Err(Fault::Kind);
     }
-    Refusal::KIND
+    if word(s, 1) as usize != n {
+        return Err(Fault::Size);
+    }
+    if LAST_SEQUENCE < word(s, 2) {
+        return Err(Fault::Sequence);
+    }
+    if word(s, n / 2 - 1) != END {
+        return Err(Fault::End);
+    }
+    Ok(())
 }

@@ -12,8 +12,8 @@ pub mod reading;
 mod repeats;
 pub mod walk;
 
-pub use begun::{Partial, PartialFrame};
-pub use cursor::standing::{FoundItem, Standing, item_at};
-pub use items::{Found, IndexedItem, item, text};
-pub use reading::{Frame, Reading, read};
+pub use begun::PartialFrame;
+pub use cursor::standing::{FoundItem, item_at};
+pub use items::{IndexedItem, item, text};
+pub use reading::{Frame, read};
 pub use rules::state::{Kind, State};

@@ -15,21 +15,21 @@ use book::items::{
     TimeBin,
 };
 use book::page::{classify_on, page};
-use book::refusal::Refusal;
+use book::refusal::{Fault, Refusal};
 use cursor::texts::is_closed;
 use rules::state::{Kind, State};
 use rules::steps::{
-    Step, bin, channel, continue_event, end_event, histogram, hit_count, last_cell, sample,
+    Moved, bin, channel, continue_event, end_event, histogram, hit_count, last_cell, sample,
     start_event, text, time_bin,
 };
 
 // A Bin's number in its word, its count in the two words after it.
-fn bin_at(s: &[u8], last: usize, at: usize, w: u16, st: State) -> Step
+fn bin_at(s: &[u8], last: usize, at: usize, w: u16, st: State) -> Result<Moved, Fault>
     requires { (at < last) × (2 * last ≤ length s.now) × (w ≡ word_at s.now at) × (book.bin ≡ book.class_of w) }
     ensures { (card : ℕ) → view_step result ≡ step_of card s.now last at (view_state st) }
 {
     if last < at + 3 {
-        return Step::Stopped(Refusal::CUT);
+        return Err(Fault::Cut);
     }
     let count = long(s, at + 1);
     let x = Bin {
@@ -40,12 +40,12 @@ fn bin_at(s: &[u8], last: usize, at: usize, w: u16, st: State) -> Step
 }
 
 // A Start event's type in its word, timestamp and number in the five words after it.
-fn start_at(s: &[u8], last: usize, at: usize, w: u16, st: State) -> Step
+fn start_at(s: &[u8], last: usize, at: usize, w: u16, st: State) -> Result<Moved, Fault>
     requires { (at < last) × (2 * last ≤ length s.now) × (w ≡ word_at s.now at) × (book.start_event ≡ book.class_of w) }
     ensures { (card : ℕ) → view_step result ≡ step_of card s.now last at (view_state st) }
 {
     if last < at + 6 {
-        return Step::Stopped(Refusal::CUT);
+        return Err(Fault::Cut);
     }
     let timestamp = time(s, at + 1);
     let number = long(s, at + 4);
@@ -58,37 +58,37 @@ fn start_at(s: &[u8], last: usize, at: usize, w: u16, st: State) -> Step
 }
 
 // A Continue event's number in the two words after its word; no rule of the frame looks at it.
-fn continue_at(s: &[u8], last: usize, at: usize, w: u16, st: State) -> Step
+fn continue_at(s: &[u8], last: usize, at: usize, w: u16, st: State) -> Result<Moved, Fault>
     requires { (at < last) × (2 * last ≤ length s.now) × (w ≡ word_at s.now at) × (book.continue_event ≡ book.class_of w) }
     ensures { (card : ℕ) → view_step result ≡ step_of card s.now last at (view_state st) }
 {
     if last < at + 3 {
-        return Step::Stopped(Refusal::CUT);
+        return Err(Fault::Cut);
     }
     continue_event(st, ContinueEvent::low_bits(w), at + 3)
 }
 
 // An End event's size in the two words after its word.
-fn end_at(s: &[u8], last: usize, at: usize, w: u16, st: State) -> Step
+fn end_at(s: &[u8], last: usize, at: usize, w: u16, st: State) -> Result<Moved, Fault>
     requires { (at < last) × (2 * last ≤ length s.now) × (w ≡ word_at s.now at) × (book.end_event ≡ book.class_of w) }
     ensures { (card : ℕ) → view_step result ≡ step_of card s.now last at (view_state st) }
 {
     if last < at + 3 {
-        return Step::Stopped(Refusal::CUT);
+        return Err(Fault::Cut);
     }
     let size = long(s, at + 1);
     end_event(at, st, EndEvent { size }, EndEvent::low_bits(w), at + 3)
 }
 
 // A text's bytes in the words after its word.
-fn text_at(s: &[u8], last: usize, at: usize, w: u16, st: State) -> Step
+fn text_at(s: &[u8], last: usize, at: usize, w: u16, st: State) -> Result<Moved, Fault>
     requires { (at < last) × (2 * last ≤ length s.now) × (w ≡ word_at s.now at) × (book.text ≡ book.class_of w) }
     ensures { (card : ℕ) → view_step result ≡ step_of card s.now last at (view_state st) }
 {
     let more = text_words(w) as usize;
     let next = at + 1 + more;
     if last < next {
-        return Step::Stopped(Refusal::CUT);
+        return Err(Fault::Cut);
     }
     let from = 2 * (at + 1);
     let to = 2 * next;
@@ -98,7 +98,7 @@ fn text_at(s: &[u8], last: usize, at: usize, w: u16, st: State) -> Step
 
 // One turn at the word `at`, of the words before word `last`, by its class on the book's page. It has one caller, the loop below: with a second one
 // the compiler no longer inlines it.
-fn step(s: &[u8], rows: &[u8; 256], last: usize, at: usize, card: u16, st: State) -> Step
+fn step(s: &[u8], rows: &[u8; 256], last: usize, at: usize, card: u16, st: State) -> Result<Moved, Fault>
     requires { (at < last) × (2 * last ≤ length s.now) × (rows.now ≡ book_page) }
     ensures { view_step result ≡ step_of card s.now last at (view_state st) }
 {
@@ -112,30 +112,24 @@ fn step(s: &[u8], rows: &[u8; 256], last: usize, at: usize, card: u16, st: State
         Class::Bin => bin_at(s, last, at, w, st),
         Class::LastCell => last_cell(st, LastCell::of_word(w), at + 1),
         Class::TimeBin => time_bin(st, TimeBin::of_word(w), at + 1),
-        Class::DataFrame => Step::Stopped(Refusal::PLACE),
-        Class::MonitorFrame => Step::Stopped(Refusal::PLACE),
-        Class::CommandFrame => Step::Stopped(Refusal::PLACE),
+        Class::DataFrame => Err(Fault::Place),
+        Class::MonitorFrame => Err(Fault::Place),
+        Class::CommandFrame => Err(Fault::Place),
         Class::Text => text_at(s, last, at, w, st),
         Class::StartEvent => start_at(s, last, at, w, st),
         Class::EndEvent => end_at(s, last, at, w, st),
-        Class::FrameEnd => Step::Stopped(Refusal::PLACE),
-        Class::Unassigned => Step::Stopped(Refusal::CLASS),
+        Class::FrameEnd => Err(Fault::Place),
+        Class::Unassigned => Err(Fault::Class),
         Class::ContinueEvent => continue_at(s, last, at, w, st),
     }
 }
 
 // How many items there are, the word index of the item asked for, and the state behind them all.
-#[derive(Clone, Copy)]
+#[derive(Clone, Copy, Debug, PartialEq, Eq)]
 pub struct Summary {
     pub count: usize,
     pub index: usize,
     pub state: State,
-}
-
-#[derive(Clone, Copy)]
-pub enum Walked {
-    Ended(Summary),
-    Refused(Refusal),
 }
 
 // The index noted so far, with item n at hand or not. As a function it leaves the loop's proof an equation, and no join of branches.
@@ -150,7 +144,7 @@ fn noted(count: usize, n: usize, at: usize, index: usize) -> usize
 
 // Item by item from the left, over the words before word `last`, and many at once where they repeat; the index of item n is noted on the
 // way. The page is taken once and lent to each turn.
-pub(crate) fn walk(s: &[u8], last: usize, kind: Kind, card: u16, n: usize) -> Walked
+pub(crate) fn walk(s: &[u8], last: usize, kind: Kind, card: u16, n: usize) -> Result<Summary, Refusal>
     requires { 2 * last ≤ length s.now }
     ensures { view_walk result ≡ summed (view_kind kind) card s.now last n }
 {
@@ -161,28 +155,18 @@ pub(crate) fn walk(s: &[u8], last: usize, kind: Kind, card: u16, n: usize) -> Wa
     let mut st = State::start(kind);
     while at < last {
         index = noted(count, n, at, index);
-        let turn = step(s, &rows, last, at, card, st);
-        match turn {
-            Step::Moved(after, next) => {
-                count += 1;
-                let run = repeats_at(s, last, card, next, after, ahead(count, n));
-                let mode = after.mode;
-                let marks = after.marks;
-                st = State {
-                    mode,
-                    key: after.key,
-                    next: run.next,
-                    marks,
-                };
-                at = run.at;
-                count += run.count;
-            }
-            Step::Stopped(number) => {
-                return Walked::Refused(Refusal { number, place: at });
-            }
-        }
+        let turn = step(s, &rows, last, at, card, st).map_err(|fault| fault.at(at))?;
+        count += 1;
+        let after = turn.state;
+        let run = repeats_at(s, last, card, turn.next, after, ahead(count, n));
+        st = State {
+            next: run.next,
+            ..after
+        };
+        at = run.at;
+        count += run.count;
     }
-    Walked::Ended(Summary {
+    Ok(Summary {
         count,
         index,
         state: st,

@@ -1,13 +1,11 @@
 -- What each public function promises, under a name: the functions' contracts and the theorems of proofs/Once.antt are over these same names.
 -- Assumes nothing.
-use Rattle.std.specs.Prelude.{ℕ, ◌≡◌, Bool}
+use Rattle.std.specs.Prelude.{ℕ, ◌≡◌, ◌<◌, ◌⊎◌, Bool, Result, Ok, Err}
 use Rattle.format.specs.Book.{channel, histogram, sample, bin, time_bin, text, start_event, continue_event}
 use Rattle.format.specs.Items.{whole}
 use Rattle.format.specs.Rules.{allowed, among}
 use Rattle.format.specs.Steps as steps
 use Rattle.format.specs.Steps.{ended_by, start, marked, check_by}
-use Rattle.book.specs.declared.items.Channel.{Channel}
-use Rattle.book.specs.declared.items.Histogram.{Histogram}
 use Rattle.book.specs.declared.items.HitCount.{HitCount}
 use Rattle.book.specs.declared.items.Sample.{Sample}
 use Rattle.book.specs.declared.items.Bin.{Bin}
@@ -15,12 +13,19 @@ use Rattle.book.specs.declared.items.LastCell.{LastCell}
 use Rattle.book.specs.declared.items.TimeBin.{TimeBin}
 use Rattle.book.specs.declared.items.StartEvent.{StartEvent}
 use Rattle.book.specs.declared.items.EndEvent.{EndEvent}
-use Rattle.book.specs.Fields.{channel_item, histogram_item, hits_item, sample_item, bin_item, cell_item, time_item, start_item}
+use Rattle.book.specs.Fields.{Channel, Histogram, channel_item, histogram_item, hits_item, sample_item, bin_item, cell_item, time_item, start_item}
+use Rattle.book.specs.declared.refusal.Fault.{Fault}
 use Rattle.rules.specs.declared.state.Kind.{Kind}
+use Rattle.rules.specs.declared.state.NoKind.{NoKind}
 use Rattle.rules.specs.declared.state.Mode.{Mode}
 use Rattle.rules.specs.declared.state.State.{State}
-use Rattle.rules.specs.declared.steps.Step.{Step}
-use Rattle.rules.specs.Views.{view_kind, view_mode, view_state, view_step, continue_tested, end_tested, text_tested}
+use Rattle.rules.specs.declared.steps.Moved.{Moved}
+use Rattle.rules.specs.Views.{view_kind, number_of_kind, view_mode, view_state, view_step, continue_tested, end_tested, text_tested}
+
+-- the kind of a number; a number that no kind has is none
+abbrev pub KindOf : ℕ → Result Kind NoKind → Type 0
+KindOf n (Ok k) = n ≡ number_of_kind k
+KindOf n (Err e) = (n ≡ 0) ⊎ (3 < n)
 
 -- ---- the state, and what may stand where
 
@@ -60,35 +65,35 @@ PausedFrom mode next time r = r ≡ steps.paused (view_mode mode) next time
 
 -- ---- one turn of the rules at an item
 
-abbrev pub ChannelStep : ℕ → State → Channel → ℕ → Step → Type 0
+abbrev pub ChannelStep : ℕ → State → Channel → ℕ → Result Moved Fault → Type 0
 ChannelStep card st x next r = view_step r ≡ marked next (check_by card 0 (view_state st) (whole (channel_item x)))
 
-abbrev pub HistogramStep : ℕ → State → Histogram → ℕ → Step → Type 0
+abbrev pub HistogramStep : ℕ → State → Histogram → ℕ → Result Moved Fault → Type 0
 HistogramStep card st x next r = view_step r ≡ marked next (check_by card 0 (view_state st) (whole (histogram_item x)))
 
-abbrev pub HitCountStep : ℕ → State → HitCount → ℕ → Step → Type 0
+abbrev pub HitCountStep : ℕ → State → HitCount → ℕ → Result Moved Fault → Type 0
 HitCountStep card st x next r = view_step r ≡ marked next (check_by card 0 (view_state st) (whole (hits_item x)))
 
-abbrev pub LastCellStep : State → LastCell → ℕ → Step → Type 0
+abbrev pub LastCellStep : State → LastCell → ℕ → Result Moved Fault → Type 0
 LastCellStep st x next r = view_step r ≡ marked next (check_by 0 0 (view_state st) (whole (cell_item x)))
 
-abbrev pub TimeBinStep : State → TimeBin → ℕ → Step → Type 0
+abbrev pub TimeBinStep : State → TimeBin → ℕ → Result Moved Fault → Type 0
 TimeBinStep st x next r = view_step r ≡ marked next (check_by 0 0 (view_state st) (whole (time_item x)))
 
-abbrev pub SampleStep : State → Sample → ℕ → Step → Type 0
+abbrev pub SampleStep : State → Sample → ℕ → Result Moved Fault → Type 0
 SampleStep st x next r = view_step r ≡ marked next (check_by 0 0 (view_state st) (whole (sample_item x)))
 
-abbrev pub BinStep : State → Bin → ℕ → Step → Type 0
+abbrev pub BinStep : State → Bin → ℕ → Result Moved Fault → Type 0
 BinStep st x next r = view_step r ≡ marked next (check_by 0 0 (view_state st) (whole (bin_item x)))
 
-abbrev pub StartEventStep : ℕ → State → StartEvent → ℕ → Step → Type 0
+abbrev pub StartEventStep : ℕ → State → StartEvent → ℕ → Result Moved Fault → Type 0
 StartEventStep at st x next r = view_step r ≡ marked next (check_by 0 at (view_state st) (whole (start_item x)))
 
-abbrev pub ContinueEventStep : State → ℕ → ℕ → Step → Type 0
+abbrev pub ContinueEventStep : State → ℕ → ℕ → Result Moved Fault → Type 0
 ContinueEventStep st low next r = view_step r ≡ marked next (continue_tested (view_state st) low)
 
-abbrev pub EndEventStep : ℕ → State → EndEvent → ℕ → ℕ → Step → Type 0
+abbrev pub EndEventStep : ℕ → State → EndEvent → ℕ → ℕ → Result Moved Fault → Type 0
 EndEventStep at st x low next r = view_step r ≡ marked next (end_tested at (view_state st) x.size low)
 
-abbrev pub TextStep : State → Bool → ℕ → Step → Type 0
+abbrev pub TextStep : State → Bool → ℕ → Result Moved Fault → Type 0
 TextStep st closed next r = view_step r ≡ marked next (text_tested (view_state st) closed)

@@ -1,25 +1,32 @@
 -- What a state and a turn of this crate say in document 01.
 -- Assumes nothing.
-use Rattle.std.specs.Prelude.{ℕ, ◌+◌, ◌*◌, ◌-◌, Bool, true, ◌&&◌, ◌||◌, eqb}
+use Rattle.std.specs.Prelude.{ℕ, ◌+◌, ◌*◌, ◌-◌, Bool, true, ◌&&◌, ◌||◌, eqb, Result, Ok, Err}
 use Rattle.format.specs.Words.{pick}
 use Rattle.format.specs.Book.{continue_event, end_event, text}
 use Rattle.format.specs.Rules as rules
 use Rattle.format.specs.Rules.{Checked, good, bad}
 use Rattle.format.specs.Steps as steps
 use Rattle.format.specs.Steps.{ReaderState, Stepped, moved, stopped, place_by, marks_end}
+use Rattle.book.specs.declared.refusal.Fault.{Fault}
+use Rattle.book.specs.Refusals.{number_of}
 use Rattle.rules.specs.declared.state.Kind.{Kind}
 use Rattle.rules.specs.declared.state.Kind.TheVariants as kind
 use Rattle.rules.specs.declared.state.Mode.{Mode}
 use Rattle.rules.specs.declared.state.Mode.TheVariants as mode
 use Rattle.rules.specs.declared.state.Marks.{Marks}
 use Rattle.rules.specs.declared.state.State.{State}
-use Rattle.rules.specs.declared.steps.Step.{Step}
-use Rattle.rules.specs.declared.steps.Step.TheVariants as step
+use Rattle.rules.specs.declared.steps.Moved.{Moved}
 
 abbrev pub view_kind : Kind → rules.Kind
 view_kind kind.Data = rules.data_kind
 view_kind kind.Monitor = rules.monitor_kind
 view_kind kind.Command = rules.command_kind
+
+-- the number of a kind, in a call and in a record's header
+abbrev pub number_of_kind : Kind → ℕ
+number_of_kind kind.Data = 1
+number_of_kind kind.Monitor = 2
+number_of_kind kind.Command = 3
 
 abbrev pub view_mode : Mode → rules.ReaderMode
 view_mode mode.Outside = rules.outside
@@ -38,9 +45,9 @@ view_marks m = record { opener = m.opener; first = m.first; lead = m.lead }
 abbrev pub view_state : State → ReaderState
 view_state st = record { mode = view_mode st.mode; key = st.key; next = st.next; marks = view_marks st.marks }
 
-abbrev pub view_step : Step → Stepped
-view_step (step.Moved st next) = moved (view_state st) next
-view_step (step.Stopped n) = stopped n
+abbrev pub view_step : Result Moved Fault → Stepped
+view_step (Ok x) = moved (view_state x.state) x.next
+view_step (Err f) = stopped (number_of f)
 
 -- place before value before order
 abbrev pub tested : Bool → Bool → Bool → ReaderState → Checked ReaderState

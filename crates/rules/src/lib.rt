@@ -6,4 +6,4 @@ pub mod state;
 pub mod steps;
 
 pub use state::{Kind, State};
-pub use steps::Step;
+pub use steps::Moved;

@@ -1,16 +1,36 @@
 // What a reader has to remember of the items behind it; a state goes in by value and comes back.
-ghost use Rattle.rules.specs.Promises.{Started, MayEnd, MayStart, MayContinue, MayStandInside, MayTime, MaySample, MayHistogram, MayBin, MayText, PausedFrom};
+ghost use Rattle.rules.specs.Promises.{KindOf, Started, MayEnd, MayStart, MayContinue, MayStandInside, MayTime, MaySample, MayHistogram, MayBin, MayText, PausedFrom};
 
-#[derive(Clone, Copy)]
+// What a frame carries, numbered as document 01 does.
+#[derive(Clone, Copy, Debug, PartialEq, Eq)]
 pub enum Kind {
-    Data,
-    Monitor,
-    Command,
+    Data = 1,
+    Monitor = 2,
+    Command = 3,
+}
+
+// A number that is no kind's.
+#[derive(Clone, Copy, Debug, PartialEq, Eq)]
+pub struct NoKind;
+
+impl TryFrom<u16> for Kind {
+    type Error = NoKind;
+
+    ghost try_from_gives = { KindOf };
+
+    fn try_from(number: u16) -> Result<Kind, NoKind> {
+        match number {
+            1 => Ok(Kind::Data),
+            2 => Ok(Kind::Monitor),
+            3 => Ok(Kind::Command),
+            _ => Err(NoKind),
+        }
+    }
 }
 
 // Where the next item would stand. The order is for speed alone: the places that most words of a data frame stand in come first, side by side,
 // so that a test for two of them is one comparison.
-#[derive(Clone, Copy)]
+#[derive(Clone, Copy, Debug, PartialEq, Eq)]
 pub enum Mode {
     AfterTime,
     AfterSample,
@@ -24,7 +44,7 @@ pub enum Mode {
 }
 
 // Where events begin and end. The leading part is that of an event that began in another frame: a Continue event opens it.
-#[derive(Clone, Copy)]
+#[derive(Clone, Copy, Debug, PartialEq, Eq)]
 pub struct Marks {
     // The word index of the latest Start event; 0 where the frame has none. Whether its event is open is the mode's to tell.
     pub opener: usize,
@@ -34,7 +54,7 @@ pub struct Marks {
     pub lead: usize,
 }
 
-#[derive(Clone, Copy)]
+#[derive(Clone, Copy, Debug, PartialEq, Eq)]
 pub struct State {
     pub mode: Mode,
     // A header's key is at least this.

@@ -12,30 +12,36 @@ use crate::state::{
 use book::items::{
     Bin, Channel, EndEvent, Histogram, HitCount, LastCell, Sample, StartEvent, TimeBin, key,
 };
-use book::refusal::Refusal;
+use book::refusal::Fault;
 
-// One turn: the state after the item and the index of the next, or a refusal's number.
-#[derive(Clone, Copy)]
-pub enum Step {
-    Moved(State, usize),
-    Stopped(u32),
+// One turn: the state after the item, and the index of the next.
+#[derive(Clone, Copy, Debug, PartialEq, Eq)]
+pub struct Moved {
+    pub state: State,
+    pub next: usize,
 }
 
-// The first of 8, 9 and 10 whose rule does not hold, else the state after the item. Every class hands over its three tests and the state, worked out:
+// The first of place, value and order that does not hold, else the state after the item. Every class hands over its three tests and the state, worked out:
 // one law then makes the turn of all eleven classes.
-fn judged(place: bool, value: bool, order: bool, after: State, next: usize) -> Step
-    ensures { view_step result ≡ marked next (tested place value order (view_state after)) }
+fn judged(
+    place: bool,
+    value: bool,
+    order: bool,
+    state: State,
+    next: usize,
+) -> Result<Moved, Fault>
+    ensures { view_step result ≡ marked next (tested place value order (view_state state)) }
 {
-    if place {
-        if value {
-            if order {
-                return Step::Moved(after, next);
-            }
-            return Step::Stopped(Refusal::ORDER);
-        }
-        return Step::Stopped(Refusal::VALUE);
+    if !place {
+        return Err(Fault::Place);
     }
-    Step::Stopped(Refusal::PLACE)
+    if !value {
+        return Err(Fault::Value);
+    }
+    if !order {
+        return Err(Fault::Order);
+    }
+    Ok(Moved { state, next })
 }
 
 // The first of the leading part's headers, one more than its key, with a header at hand whose key is one less than n.
@@ -58,7 +64,7 @@ fn lead_of(opener: usize, lead: usize, at: usize) -> usize
     lead
 }
 
-pub fn channel(card: u16, st: State, x: Channel, next: usize) -> Step
+pub fn channel(card: u16, st: State, x: Channel, next: usize) -> Result<Moved, Fault>
     ensures { ChannelStep card st x next result }
 {
     let mode = st.mode;
@@ -85,7 +91,7 @@ pub fn channel(card: u16, st: State, x: Channel, next: usize) -> Step
     )
 }
 
-pub fn histogram(card: u16, st: State, x: Histogram, next: usize) -> Step
+pub fn histogram(card: u16, st: State, x: Histogram, next: usize) -> Result<Moved, Fault>
     ensures { HistogramStep card st x next result }
 {
     let mode = st.mode;
@@ -101,7 +107,7 @@ pub fn histogram(card: u16, st: State, x: Histogram, next: usize) -> Step
     judged(may_histogram(mode), x.valid(card), st.key <= k, after, next)
 }
 
-pub fn hit_count(card: u16, st: State, x: HitCount, next: usize) -> Step
+pub fn hit_count(card: u16, st: State, x: HitCount, next: usize) -> Result<Moved, Fault>
     ensures { HitCountStep card st x next result }
 {
     let mode = st.mode;
@@ -115,7 +121,7 @@ pub fn hit_count(card: u16, st: State, x: HitCount, next: usize) -> Step
     judged(may_stand_inside(mode), x.valid(card), true, after, next)
 }
 
-pub fn last_cell(st: State, x: LastCell, next: usize) -> Step
+pub fn last_cell(st: State, x: LastCell, next: usize) -> Result<Moved, Fault>
     ensures { LastCellStep st x next result }
 {
     let mode = st.mode;
@@ -129,7 +135,7 @@ pub fn last_cell(st: State, x: LastCell, next: usize) -> Step
     judged(may_stand_inside(mode), x.valid(), true, after, next)
 }
 
-pub fn time_bin(st: State, x: TimeBin, next: usize) -> Step
+pub fn time_bin(st: State, x: TimeBin, next: usize) -> Result<Moved, Fault>
     ensures { TimeBinStep st x next result }
 {
     let mode = st.mode;
@@ -160,7 +166,7 @@ fn later(time: u32) -> u32
     0
 }
 
-pub fn sample(st: State, x: Sample, next: usize) -> Step
+pub fn sample(st: State, x: Sample, next: usize) -> Result<Moved, Fault>
     ensures { SampleStep st x next result }
 {
     let mode = st.mode;
@@ -180,7 +186,7 @@ pub fn sample(st: State, x: Sample, next: usize) -> Step
     )
 }
 
-pub fn bin(st: State, x: Bin, next: usize) -> Step
+pub fn bin(st: State, x: Bin, next: usize) -> Result<Moved, Fault>
     ensures { BinStep st x next result }
 {
     let mode = st.mode;
@@ -195,7 +201,7 @@ pub fn bin(st: State, x: Bin, next: usize) -> Step
     judged(may_bin(mode), x.valid(), st.next <= number, after, next)
 }
 
-pub fn start_event(at: usize, st: State, x: StartEvent, next: usize) -> Step
+pub fn start_event(at: usize, st: State, x: StartEvent, next: usize) -> Result<Moved, Fault>
     ensures { StartEventStep at st x next result }
 {
     let mode = st.mode;
@@ -215,7 +221,7 @@ pub fn start_event(at: usize, st: State, x: StartEvent, next: usize) -> Step
 }
 
 // An event that began in another frame goes on; the content of the item's first word is zero.
-pub fn continue_event(st: State, low: u16, next: usize) -> Step
+pub fn continue_event(st: State, low: u16, next: usize) -> Result<Moved, Fault>
     ensures { ContinueEventStep st low next result }
 {
     let mode = st.mode;
@@ -251,7 +257,7 @@ fn sized(at: usize, opener: usize, size: u32) -> bool
 }
 
 // The low bits of the item's first word are a value rule of their own. The opener stays: a constant in its place made the whole walk dearer.
-pub fn end_event(at: usize, st: State, x: EndEvent, low: u16, next: usize) -> Step
+pub fn end_event(at: usize, st: State, x: EndEvent, low: u16, next: usize) -> Result<Moved, Fault>
     ensures { EndEventStep at st x low next result }
 {
     let mode = st.mode;
@@ -273,7 +279,7 @@ pub fn end_event(at: usize, st: State, x: EndEvent, low: u16, next: usize) -> St
 
 // A text whose bytes passed their test, or did not. Key and next, which a command frame has no use for, are 0 behind each text as at the start: so no
 // proof has a fact to carry about them.
-pub fn text(st: State, closed: bool, next: usize) -> Step
+pub fn text(st: State, closed: bool, next: usize) -> Result<Moved, Fault>
     ensures { TextStep st closed next result }
 {
     let mode = st.mode;
