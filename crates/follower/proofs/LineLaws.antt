@@ -34,6 +34,11 @@ pub counts : (e nn : ℕ) → accepted (difference nn e) (expecting ((nn + 1) % 
 unfolding numbered
 counts e nn = refl
 
+-- whatever the way in which the loss was found
+pub counts_by : (e nn l : ℕ) → l ≡ difference nn e → accepted l (expecting ((nn + 1) % 256)) ≡ numbered (expecting e) nn
+unfolding numbered
+counts_by e nn l h = ap (λ (l : ℕ). accepted l (expecting ((nn + 1) % 256))) h
+
 -- Every state and word is at one of the five lines.
 
 pub data Line : State → ℕ → Type 0 where

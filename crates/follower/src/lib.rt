@@ -23,20 +23,18 @@ pub struct Followed {
     pub next: Follower,
 }
 
-// Why a sequence word is refused, by document 01's numbers; the place is 0.
+// Why a sequence word is refused; document 01's numbers are specs/Paper.antt's `number_of`, and the place is 0.
 #[derive(Clone, Copy, Debug, PartialEq, Eq)]
 pub enum SequenceError {
-    // The word is no sequence word.
-    NoSequence = 4,
-    // A sequence number before a start.
-    NoStart = 14,
+    // 4: the word is no sequence word.
+    NoSequence,
+    // 14: a sequence number before a start.
+    NoStart,
 }
 
 impl Follower {
     // The word that starts the count.
     pub const START: u16 = 0x0100;
-    // How many sequence numbers there are; after the last comes 0 again.
-    pub const NUMBERS: u16 = 256;
 
     // A follower that has seen nothing.
     pub fn new() -> Self
@@ -55,7 +53,9 @@ impl Follower {
                 next: Follower::Expecting(1),
             });
         }
-        let number = u8::try_from(word).map_err(|_| SequenceError::NoSequence)?;
+        let Ok(number) = u8::try_from(word) else {
+            return Err(SequenceError::NoSequence);
+        };
         match self {
             Follower::Idle => unstarted(number),
             Follower::Expecting(expected) => Ok(counted(expected, number)),

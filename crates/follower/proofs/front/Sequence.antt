@@ -4,8 +4,10 @@ use Prim.Native.Nat.{ℕ, ◌+◌, ◌-◌, ◌%◌, ◌<◌, ◌≤◌}
 use mathlib.Core.Path.{◌≡◌, refl, sym}
 use mathlib.Core.List.{List, [], ◌∷◌}
 use mathlib.Core.Logic.{◌↔◌}
+use Rattle.std.specs.Prelude.{Result}
 use Rattle.follower.specs.declared.Follower.{Follower}
 use Rattle.follower.specs.declared.Followed.{Followed}
+use Rattle.follower.specs.declared.SequenceError.{SequenceError}
 use Rattle.follower.specs.Follow.{State, idle, expecting, InRange, accepted, refused, after, numbered, follow, Given}
 use Rattle.follower.specs.Sender.{sent, arrivals, account, AllBelow256, answers, losses}
 use Rattle.follower.specs.Paper.{state_of, view}
@@ -102,7 +104,7 @@ case_12 = refl
 pub states_injective : (r q : Follower) → state_of r ≡ state_of q → r ≡ q
 states_injective = unique.same_state
 
-pub answers_injective : (r q : Followed) → view r ≡ view q → r ≡ q
+pub answers_injective : (r q : Result Followed SequenceError) → view r ≡ view q → r ≡ q
 answers_injective = unique.same_answer
 
 -- the promise of `Follower::new`
@@ -110,5 +112,5 @@ pub new_once : (r q : Follower) → Unstarted r → Unstarted q → r ≡ q
 new_once = unique.one state_of unique.same_state idle
 
 -- and that of `Follower::follow`
-pub follow_once : (self : Follower) (word : ℕ) (r q : Followed) → FollowedBy self word r → FollowedBy self word q → r ≡ q
+pub follow_once : (self : Follower) (word : ℕ) (r q : Result Followed SequenceError) → FollowedBy self word r → FollowedBy self word q → r ≡ q
 follow_once self word = unique.one view unique.same_answer (follow (state_of self) word)
