@@ -1,6 +1,6 @@
 -- Runs of the writer's calls as the code is called, and what a caller hands over who copies a frame: what `read`, `item` and `text` answered.
 -- Assumes nothing.
-use Rattle.std.specs.Prelude.{ℕ, suc, ◌≡◌, List, [], ◌∷◌, Bool, true, false, ◌&&◌, ltb, length}
+use Rattle.std.specs.Prelude.{ℕ, suc, ◌≡◌, List, [], ◌∷◌, Bool, true, false, ◌&&◌, ltb, length, Result, Ok, Err}
 use Rattle.std.proofs.Math.Pow.{are_bytes}
 use Rattle.std.specs.Borrow.{Bor}
 use Rattle.format.specs.Book.{text}
@@ -14,13 +14,8 @@ use Rattle.book.specs.declared.refusal.Refusal.{Refusal}
 use Rattle.book.specs.Views.{view_item}
 use Rattle.rules.specs.declared.state.Kind.{Kind}
 use Rattle.frame.specs.declared.reading.Frame.{Frame}
-use Rattle.frame.specs.declared.reading.Reading.{Reading}
-use Rattle.frame.specs.declared.reading.Reading.TheVariants as reading
 use Rattle.frame.specs.declared.items.IndexedItem.{IndexedItem}
-use Rattle.frame.specs.declared.items.Found.TheVariants as found
 use Rattle.frame.specs.Promises.{ItemAnswered, TextAnswered}
-use Rattle.writer.specs.declared.answers.Written.{Written}
-use Rattle.writer.specs.declared.answers.Written.TheVariants as written
 use Rattle.writer.specs.Promises.{Begun, Added, AddedText, Closed}
 
 -- ---- runs
@@ -35,23 +30,23 @@ call_in (an_item x) = by_add (view_item x)
 call_in (a_text s) = by_text s
 
 -- the one call or the other
-abbrev pub Handed : List ℕ → ℕ → Argument → Written → List ℕ → Type 0
+abbrev pub Handed : List ℕ → ℕ → Argument → Result ℕ Refusal → List ℕ → Type 0
 Handed b n (an_item x) r left = Added b n x r left
 Handed b n (a_text s) r left = AddedText b n s r left
 
 -- on the buffer b with n bytes written, these handed over one by one, then close: each call on the buffer that the one before it left and from the
 -- length that it answered. A refused call is the last. The last answer, and the buffer after it
-pub data Adds : List ℕ → ℕ → List Argument → Written → List ℕ → Type 0 where
-  closes : {b left : List ℕ} {n : ℕ} {r : Written} → Closed b n r left → Adds b n [] r left
-  adds : {b c left : List ℕ} {n m : ℕ} {g : Argument} {gs : List Argument} {r : Written} → Handed b n g (written.Length m) c → Adds c m gs r left
+pub data Adds : List ℕ → ℕ → List Argument → Result ℕ Refusal → List ℕ → Type 0 where
+  closes : {b left : List ℕ} {n : ℕ} {r : Result ℕ Refusal} → Closed b n r left → Adds b n [] r left
+  adds : {b c left : List ℕ} {n m : ℕ} {g : Argument} {gs : List Argument} {r : Result ℕ Refusal} → Handed b n g (Ok m) c → Adds c m gs r left
       → Adds b n (g ∷ gs) r left
-  refuses : {b left : List ℕ} {n : ℕ} {g : Argument} {gs : List Argument} {q : Refusal} → Handed b n g (written.Refused q) left
-      → Adds b n (g ∷ gs) (written.Refused q) left
+  refuses : {b left : List ℕ} {n : ℕ} {g : Argument} {gs : List Argument} {q : Refusal} → Handed b n g (Err q) left
+      → Adds b n (g ∷ gs) (Err q) left
 
 -- the same from begin on
-pub data FrameCalls (b : List ℕ) (kind : Kind) (card sequence : ℕ) (gs : List Argument) : Written → List ℕ → Type 0 where
-  begins : {c left : List ℕ} {n : ℕ} {r : Written} → Begun b kind card sequence (written.Length n) c → Adds c n gs r left → FrameCalls b kind card sequence gs r left
-  begin_refuses : {left : List ℕ} {q : Refusal} → Begun b kind card sequence (written.Refused q) left → FrameCalls b kind card sequence gs (written.Refused q) left
+pub data FrameCalls (b : List ℕ) (kind : Kind) (card sequence : ℕ) (gs : List Argument) : Result ℕ Refusal → List ℕ → Type 0 where
+  begins : {c left : List ℕ} {n : ℕ} {r : Result ℕ Refusal} → Begun b kind card sequence (Ok n) c → Adds c n gs r left → FrameCalls b kind card sequence gs r left
+  begin_refuses : {left : List ℕ} {q : Refusal} → Begun b kind card sequence (Err q) left → FrameCalls b kind card sequence gs (Err q) left
 
 -- ---- what is handed over
 
@@ -61,9 +56,9 @@ is_text x = same text (class_for (view_item x))
 -- who copies the frame s, from ordinal n on, asks `item` and hands over what it answers; where that is a text, what `text` answers
 pub data Copies (s : Bor (List ℕ)) : ℕ → List Argument → Type 0 where
   no_more : {n : ℕ} → Copies s n []
-  with_item : {n : ℕ} {gs : List Argument} (x : IndexedItem) → ItemAnswered s.now n (found.Item x) → is_text x.item ≡ false → Copies s (suc n) gs
+  with_item : {n : ℕ} {gs : List Argument} (x : IndexedItem) → ItemAnswered s.now n (Ok x) → is_text x.item ≡ false → Copies s (suc n) gs
       → Copies s n (an_item x.item ∷ gs)
-  with_text : {n : ℕ} {gs : List Argument} (x : IndexedItem) (t : Bor (List ℕ)) → ItemAnswered s.now n (found.Item x) → is_text x.item ≡ true → TextAnswered s n t
+  with_text : {n : ℕ} {gs : List Argument} (x : IndexedItem) (t : Bor (List ℕ)) → ItemAnswered s.now n (Ok x) → is_text x.item ≡ true → TextAnswered s n t
       → Copies s (suc n) gs
       → Copies s n (a_text t.now ∷ gs)
 
@@ -111,9 +106,9 @@ all_typed [] = true
 all_typed (g ∷ gs) = typed g && all_typed gs
 
 -- what was handed over under this kind, card and sequence word reads back as itself: so `read` answers r, and who copies the frame hands over hs
-pub record ReadsBack (kind : Kind) (card sequence : ℕ) (gs : List Argument) (r : Reading) (hs : List Argument) : Type 0 where
+pub record ReadsBack (kind : Kind) (card sequence : ℕ) (gs : List Argument) (r : Result Frame Refusal) (hs : List Argument) : Type 0 where
   pub frame : Frame
-  pub answered : r ≡ reading.Accepted frame
+  pub answered : r ≡ Ok frame
   pub its_kind : frame.kind ≡ kind
   pub its_card : frame.card ≡ card
   pub its_sequence : frame.sequence ≡ sequence

@@ -1,37 +1,31 @@
 -- What the writer's answers say in document 01, and what its inner steps are made of.
 -- Assumes nothing.
-use Rattle.std.specs.Prelude.{ℕ, ◌+◌, ◌/◌, ◌%◌, ◌≤◌, List, [], ◌∷◌, ◌++◌, Bool, ◌&&◌, leb, eqb, length}
+use Rattle.std.specs.Prelude.{ℕ, ◌+◌, ◌/◌, ◌%◌, ◌≤◌, List, [], ◌∷◌, ◌++◌, Bool, ◌&&◌, leb, eqb, length, Result}
 use Rattle.std.proofs.lemmas.List.Edits.{sets}
 use Rattle.format.specs.Words.{pick, bytes, long_words}
-use Rattle.format.specs.Answers.{Outcome, accepted, refused, and_then, leaves}
+use Rattle.format.specs.Answers.{Outcome, accepted, refused, leaves}
 use Rattle.format.specs.Steps.{Stepped, moved, stopped}
 use Rattle.format.specs.PartialSteps as steps
-use Rattle.book.specs.Views.{refusal}
+use Rattle.book.specs.Views.{view_result}
 use Rattle.book.specs.Fields.{channel_word, histogram_word, hits_word, sample_word, bin_word, cell_word, time_bin_word, start_word}
 use Rattle.book.specs.declared.items.Item.{Item}
 use Rattle.book.specs.declared.items.Item.TheVariants as item
+use Rattle.book.specs.declared.refusal.Refusal.{Refusal}
 use Rattle.rules.specs.Views.{view_state}
-use Rattle.writer.specs.declared.answers.Written.{Written}
-use Rattle.writer.specs.declared.answers.Written.TheVariants as written
 use Rattle.writer.specs.declared.answers.Put.{Put}
-use Rattle.writer.specs.declared.answers.Put.TheVariants as put
 use Rattle.writer.specs.declared.stores.Piece.{Piece}
 use Rattle.writer.specs.declared.stores.Piece.TheVariants as piece
 
-abbrev pub view_written : Written → Outcome ℕ
-view_written (written.Length n) = accepted n
-view_written (written.Refused r) = refusal r
+-- a new length
+abbrev pub view_written : Result ℕ Refusal → Outcome ℕ
+view_written = view_result (λ n. n)
 
-abbrev pub view_put : Put → Outcome steps.Put
-view_put (put.Reached n st) = accepted (record { reached = n; state = view_state st })
-view_put (put.Refused r) = refusal r
+-- a new length and the state behind the item
+abbrev pub view_reached : Put → steps.Put
+view_reached x = record { reached = x.length; state = view_state x.state }
 
--- the length that a put item reached
-abbrev pub length_of : Outcome steps.Put → Outcome ℕ
-length_of o = and_then o (λ x. accepted x.reached)
-
-abbrev pub refuse : ℕ → ℕ → Outcome ℕ
-refuse n p = refused n p
+abbrev pub view_put : Result Put Refusal → Outcome steps.Put
+view_put = view_result view_reached
 
 -- the words of a number, cut to its 48 bits
 abbrev pub time_cut : ℕ → List ℕ

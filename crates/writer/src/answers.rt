@@ -1,17 +1,9 @@
-// What the writer answers; a refusal left every byte as found.
-use book::refusal::Refusal;
+// What the writer answers about an item that it put; a refusal left every byte as found.
 use rules::state::State;
 
-// The new length of the partial frame, or of the closed one.
-#[derive(Clone, Copy)]
-pub enum Written {
-    Length(usize),
-    Refused(Refusal),
-}
-
 // The new length, and the state behind the item.
-#[derive(Clone, Copy)]
-pub enum Put {
-    Reached(usize, State),
-    Refused(Refusal),
+#[derive(Clone, Copy, Debug, PartialEq, Eq)]
+pub struct Put {
+    pub length: usize,
+    pub state: State,
 }

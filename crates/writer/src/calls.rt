@@ -3,25 +3,16 @@ ghost use Rattle.std.specs.Prelude.{◌≡◌, ◌%◌};
 ghost use Rattle.format.specs.Frames.{start_word};
 ghost use Rattle.format.specs.Writing.{begin_answer, close_answer};
 ghost use Rattle.rules.specs.Views.{view_kind};
-ghost use Rattle.writer.specs.Views.{view_written, view_put, length_of, refuse};
+ghost use Rattle.writer.specs.Views.{view_written};
 ghost use Rattle.writer.specs.Promises.{Begun, Added, AddedText, Closed};
 
-use crate::answers::{Put, Written};
 use crate::steps::{put, put_text};
 use crate::stores::put_word;
 use book::items::{Item, LAST_CARD};
-use book::refusal::Refusal;
-use frame::begun::Partial;
+use book::refusal::{Fault, Refusal};
 use frame::head::{END, LAST_SEQUENCE, LEAST};
 use frame::partial::{FEWEST, partial};
 use rules::state::{Kind, may_end};
-
-// A refusal.
-fn refused(number: u32, place: usize) -> Written
-    ensures { view_written result ≡ refuse number place }
-{
-    Written::Refused(Refusal { number, place })
-}
 
 // The start word of a frame of version 0, its card cut to its width.
 fn start_word(kind: Kind, card: u16) -> u16
@@ -34,111 +25,74 @@ fn start_word(kind: Kind, card: u16) -> u16
     }
 }
 
-fn may_begin(buf: &[u8], card: u16, sequence: u16) -> Written
+fn may_begin(buf: &[u8], card: u16, sequence: u16) -> Result<usize, Refusal>
     ensures { view_written result ≡ begin_answer buf.now card sequence }
 {
     if LAST_CARD < card {
-        return refused(Refusal::VALUE, 0);
+        return Err(Fault::Value.into());
     }
     if LAST_SEQUENCE < sequence {
-        return refused(Refusal::SEQUENCE, 0);
+        return Err(Fault::Sequence.into());
     }
     if buf.len() < LEAST {
-        return refused(Refusal::ROOM, 0);
+        return Err(Fault::Room.into());
     }
-    Written::Length(FEWEST)
+    Ok(FEWEST)
 }
 
 // Begins a partial frame: writes bytes 0 to 5 and answers the length 6. It refuses a card over 31 by 9, a sequence word over 0x0100 by 4, a
 // buffer under 8 bytes by 12, in that order, each at place 0.
-pub fn begin(buf: &mut [u8], kind: Kind, card: u16, sequence: u16) -> Written
+pub fn begin(buf: &mut [u8], kind: Kind, card: u16, sequence: u16) -> Result<usize, Refusal>
     ensures { Begun buf.old kind card sequence result buf.new }
 {
-    let answer = may_begin(buf, card, sequence);
-    match answer {
-        Written::Refused(r) => Written::Refused(r),
-        Written::Length(n) => {
-            put_word(buf, 0, start_word(kind, card));
-            put_word(buf, 2, 0);
-            put_word(buf, 4, sequence);
-            Written::Length(n)
-        }
-    }
-}
-
-// The new length alone.
-fn reached(answer: Put) -> Written
-    ensures { view_written result ≡ length_of (view_put answer) }
-{
-    match answer {
-        Put::Refused(r) => Written::Refused(r),
-        Put::Reached(length, _) => Written::Length(length),
-    }
+    let n = may_begin(buf, card, sequence)?;
+    put_word(buf, 0, start_word(kind, card));
+    put_word(buf, 2, 0);
+    put_word(buf, 4, sequence);
+    Ok(n)
 }
 
 // Adds an item to the partial frame in the first `length` bytes: writes its bytes behind them and answers the new length. It refuses by what is
 // wrong with the partial frame (1 to 4, then 6 to 10); then by 8, 9 or 10 for the item, at word `length`/2, a content too wide for its field being
 // 9; then by 12 at place 0 where the item and an end word would pass the buffer or 8,192 bytes. A text is added by `add_text`; here it is 8 or 9.
-pub fn add(buf: &mut [u8], length: usize, item: Item) -> Written
+pub fn add(buf: &mut [u8], length: usize, item: Item) -> Result<usize, Refusal>
     ensures { Added buf.old length item result buf.new }
 {
-    let judged = partial(buf, length);
-    match judged {
-        Partial::Refused(r) => Written::Refused(r),
-        Partial::Accepted(frame) => {
-            let state = frame.state;
-            reached(put(buf, length, frame.card, state, item))
-        }
-    }
+    let frame = partial(buf, length)?;
+    let reached = put(buf, length, frame.card, frame.state, item)?;
+    Ok(reached.length)
 }
 
 // Adds a text, which comes without its final zero. As `add`; a text over 254 bytes or holding a zero is 9.
-pub fn add_text(buf: &mut [u8], length: usize, text: &[u8]) -> Written
+pub fn add_text(buf: &mut [u8], length: usize, text: &[u8]) -> Result<usize, Refusal>
     ensures { AddedText buf.old length text.now result buf.new }
 {
-    let judged = partial(buf, length);
-    match judged {
-        Partial::Refused(r) => Written::Refused(r),
-        Partial::Accepted(frame) => {
-            let state = frame.state;
-            reached(put_text(buf, length, state, text))
-        }
-    }
+    let frame = partial(buf, length)?;
+    let reached = put_text(buf, length, frame.state, text)?;
+    Ok(reached.length)
 }
 
-fn may_close(buf: &[u8], length: usize) -> Written
+fn may_close(buf: &[u8], length: usize) -> Result<usize, Refusal>
     ensures { view_written result ≡ close_answer buf.now length }
 {
-    let judged = partial(buf, length);
-    match judged {
-        Partial::Refused(r) => Written::Refused(r),
-        Partial::Accepted(frame) => {
-            let state = frame.state;
-            let mode = state.mode;
-            if may_end(mode) {
-                if length + 2 <= buf.len() {
-                    return Written::Length(length + 2);
-                }
-                return refused(Refusal::ROOM, 0);
-            }
-            refused(Refusal::OPEN, length / 2)
-        }
+    let frame = partial(buf, length)?;
+    if !may_end(frame.state.mode) {
+        return Err(Fault::Open.at(length / 2));
     }
+    if buf.len() < length + 2 {
+        return Err(Fault::Room.into());
+    }
+    Ok(length + 2)
 }
 
 // Closes the partial frame in the first `length` bytes: writes the size and end words and answers the frame's length. It refuses by what is
 // wrong with the partial frame, then after Channel or Time bin by 11 at the word where the end word would stand, then by 12 at place 0 where the
 // end word doesn't fit. An event may be open.
-pub fn close(buf: &mut [u8], length: usize) -> Written
+pub fn close(buf: &mut [u8], length: usize) -> Result<usize, Refusal>
     ensures { Closed buf.old length result buf.new }
 {
-    let answer = may_close(buf, length);
-    match answer {
-        Written::Refused(r) => Written::Refused(r),
-        Written::Length(n) => {
-            put_word(buf, 2, n as u16);
-            put_word(buf, length, END);
-            Written::Length(n)
-        }
-    }
+    let n = may_close(buf, length)?;
+    put_word(buf, 2, n as u16);
+    put_word(buf, length, END);
+    Ok(n)
 }

@@ -7,6 +7,6 @@ pub mod calls;
 pub mod steps;
 mod stores;
 
-pub use answers::{Put, Written};
+pub use answers::Put;
 pub use calls::{add, add_text, begin, close};
 pub use steps::{put, put_text};

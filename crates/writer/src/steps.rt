@@ -13,12 +13,12 @@ ghost use Rattle.writer.specs.Promises.{PutDone, PutTextDone};
 use crate::answers::Put;
 use crate::stores::{Piece, piece_size, put_letters, put_piece};
 use book::items::{ContinueEvent, EndEvent, Item, Text};
-use book::refusal::Refusal;
+use book::refusal::{Fault, Refusal};
 use cursor::texts::no_zero;
 use frame::head::MOST;
 use rules::state::State;
 use rules::steps::{
-    Step, bin, channel, continue_event, end_event, histogram, hit_count, last_cell, sample,
+    Moved, bin, channel, continue_event, end_event, histogram, hit_count, last_cell, sample,
     start_event, text, time_bin,
 };
 
@@ -36,39 +36,27 @@ fn has_room(room: usize, length: usize, size: usize) -> bool
 }
 
 // The answer to an item of so many bytes, by the turn that the rules took at it: 8, 9 or 10 at its word, then 12.
-fn answered(room: usize, length: usize, turn: Step, size: usize) -> Put
+fn answered(room: usize, length: usize, turn: Result<Moved, Fault>, size: usize) -> Result<Put, Refusal>
     requires { size ≤ 1000 }
     ensures { view_put result ≡ answered_by room length size (view_step turn) }
 {
-    match turn {
-        Step::Stopped(number) => Put::Refused(Refusal {
-            number,
-            place: length / 2,
-        }),
-        Step::Moved(st, _) => {
-            if has_room(room, length, size) {
-                return Put::Reached(length + size, st);
-            }
-            Put::Refused(Refusal {
-                number: Refusal::ROOM,
-                place: 0,
-            })
-        }
+    let moved = turn.map_err(|fault| fault.at(length / 2))?;
+    if !has_room(room, length, size) {
+        return Err(Fault::Room.into());
     }
+    Ok(Put {
+        length: length + size,
+        state: moved.state,
+    })
 }
 
 // An item of some words.
-fn put_words(buf: &mut [u8], length: usize, turn: Step, piece: Piece) -> Put
+fn put_words(buf: &mut [u8], length: usize, turn: Result<Moved, Fault>, piece: Piece) -> Result<Put, Refusal>
     ensures { PutWrote (placed buf.old length (piece_bytes piece) (view_step turn)) (placed_left buf.old length (piece_bytes piece) (view_step turn)) (view_put result) buf.new }
 {
-    let answer = answered(buf.len(), length, turn, piece_size(piece));
-    match answer {
-        Put::Refused(r) => Put::Refused(r),
-        Put::Reached(next, st) => {
-            put_piece(buf, length, piece);
-            Put::Reached(next, st)
-        }
-    }
+    let reached = answered(buf.len(), length, turn, piece_size(piece))?;
+    put_piece(buf, length, piece);
+    Ok(reached)
 }
 
 // What an item is written as: a plain value, so that the buffer is lent once and not in each arm, which the check pays for (docs/PROVING.md).
@@ -91,21 +79,21 @@ fn piece_of(item: Item) -> Piece
 }
 
 // The rules at an End event that is handed over: its low bits are zero.
-fn end_turn(at: usize, st: State, x: EndEvent) -> Step
+fn end_turn(at: usize, st: State, x: EndEvent) -> Result<Moved, Fault>
     ensures { view_step result ≡ marked 0 (check_by 0 at (view_state st) (whole (end_item x))) }
 {
     end_event(at, st, x, 0, 0)
 }
 
 // The rules at a Continue event that is handed over: its content is zero, and no rule looks at its number.
-fn continue_turn(st: State, x: ContinueEvent) -> Step
+fn continue_turn(st: State, x: ContinueEvent) -> Result<Moved, Fault>
     ensures { view_step result ≡ marked 0 (check_by 0 0 (view_state st) (whole (continue_item x))) }
 {
     continue_event(st, 0, 0)
 }
 
 // The turn that the rules take at an item; a text without its bytes breaks its rule.
-fn turn_of(at: usize, card: u16, st: State, item: Item) -> Step
+fn turn_of(at: usize, card: u16, st: State, item: Item) -> Result<Moved, Fault>
     ensures { view_step result ≡ marked 0 (check_by card at (view_state st) (given (view_item item))) }
 {
     match item {
@@ -126,7 +114,7 @@ fn turn_of(at: usize, card: u16, st: State, item: Item) -> Step
 // Puts an item behind `length` bytes of a frame of the card, where `st` is the state behind them: writes its bytes and answers the new length
 // and the state behind it. It refuses by 8, 9 or 10 at word `length`/2, then by 12 at place 0 where the item and an end word don't fit. A text's
 // bytes are not in the item: it answers 8 or 9, and `put_text` puts it. (The rules' index of a next item is not asked for here.)
-pub fn put(buf: &mut [u8], length: usize, card: u16, st: State, item: Item) -> Put
+pub fn put(buf: &mut [u8], length: usize, card: u16, st: State, item: Item) -> Result<Put, Refusal>
     ensures { PutDone buf.old length card st item result buf.new }
 {
     let turn = turn_of(length / 2, card, st, item);
@@ -134,7 +122,7 @@ pub fn put(buf: &mut [u8], length: usize, card: u16, st: State, item: Item) -> P
 }
 
 // An item of a text's letters.
-fn text_words(buf: &mut [u8], length: usize, turn: Step, letters: &[u8]) -> Put
+fn text_words(buf: &mut [u8], length: usize, turn: Result<Moved, Fault>, letters: &[u8]) -> Result<Put, Refusal>
     requires { Short letters.now }
     ensures { PutWrote (placed buf.old length (lettered letters.now) (view_step turn)) (placed_left buf.old length (lettered letters.now) (view_step turn)) (view_put result) buf.new }
 {
@@ -144,19 +132,14 @@ fn text_words(buf: &mut [u8], length: usize, turn: Step, letters: &[u8]) -> Put
         length: (n + 1) as u16,
     }
     .word();
-    let answer = answered(buf.len(), length, turn, size);
-    match answer {
-        Put::Refused(r) => Put::Refused(r),
-        Put::Reached(next, st) => {
-            put_letters(buf, length, w, letters);
-            Put::Reached(next, st)
-        }
-    }
+    let reached = answered(buf.len(), length, turn, size)?;
+    put_letters(buf, length, w, letters);
+    Ok(reached)
 }
 
 // Puts a text behind `length` bytes, where `st` is the state behind them; the text comes without its final zero. As `put`: it refuses by 8, by 9
 // for a text over 254 bytes or holding a zero, then by 12 at place 0.
-pub fn put_text(buf: &mut [u8], length: usize, st: State, letters: &[u8]) -> Put
+pub fn put_text(buf: &mut [u8], length: usize, st: State, letters: &[u8]) -> Result<Put, Refusal>
     ensures { PutTextDone buf.old length st letters.now result buf.new }
 {
     if Text::MOST < letters.len() {
