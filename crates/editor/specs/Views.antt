@@ -1,29 +1,28 @@
 -- What the answers of this crate say in document 01, and what an edit asks.
 -- Assumes nothing.
-use Rattle.std.specs.Prelude.{ℕ, ◌+◌, [], ◌∷◌, Bool, true, false, not, ◌&&◌, leb, ltb, eqb}
+use Rattle.std.specs.Prelude.{ℕ, ◌+◌, [], ◌∷◌, not, ◌&&◌, leb, ltb, eqb, ◌≡◌, Result, Err}
 use Rattle.format.specs.Answers as answers
-use Rattle.format.specs.Answers.{accepted, and_then, need, first_of}
-use Rattle.book.specs.Views.{refusal}
+use Rattle.format.specs.Answers.{need, first_of}
+use Rattle.book.specs.declared.refusal.Refusal.{Refusal}
+use Rattle.book.specs.Refusals.{number_of}
+use Rattle.book.specs.Views.{view_result}
 use Rattle.ledger.specs.Formats as formats
 use Rattle.ledger.specs.Records.{signed}
 use Rattle.ledger.specs.Calls.{Summary}
 use Rattle.ledger.specs.VersionTwo.{time_in}
 use Rattle.ledger.specs.PlaneFrames.{plane_frames}
-use Rattle.editor.specs.declared.answers.Done.{Done}
-use Rattle.editor.specs.declared.answers.Done.TheVariants as done
 use Rattle.editor.specs.declared.editing.Correction.{Correction}
 
-abbrev pub view_done : Done → answers.Done
-view_done done.Accepted = accepted tt
-view_done (done.Refused r) = refusal r
+-- what a call answers: accepted, only that
+abbrev pub Answer : Type 0
+Answer = Result (Unit {0}) Refusal
 
--- the first answer where it refuses, else the second
-abbrev pub also : answers.Done → answers.Done → answers.Done
-also a b = and_then a (λ u. b)
+abbrev pub view_done : Answer → answers.Done
+view_done = view_result (λ u. u)
 
-abbrev pub refusing : answers.Done → Bool
-refusing (accepted u) = false
-refusing (answers.refused n p) = true
+-- the answer is the refusal of that number at that place
+abbrev pub Refuses : {A : Type 0} → Result A Refusal → ℕ → ℕ → Type 0
+Refuses r n p = (q : Refusal) × (r ≡ Err q) × (number_of q.fault ≡ n) × (q.place ≡ p)
 
 -- what an edit asks: after the reason a time, at desk 0
 abbrev pub asked : Correction → formats.Correction

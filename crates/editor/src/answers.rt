@@ -1,43 +1,14 @@
-// What opening, editing and restoring answer, and how the first of some refusals is found.
+// How a test that does not hold is answered.
 ghost use Rattle.std.specs.Prelude.{◌≡◌};
 ghost use Rattle.format.specs.Answers.{need};
-ghost use Rattle.editor.specs.Views.{view_done, also, refusing};
+ghost use Rattle.book.specs.Refusals.{number_of};
+ghost use Rattle.editor.specs.Views.{view_done};
 
-use book::refusal::Refusal;
+use book::refusal::{Fault, Refusal};
 
-// Accepted, or refused with a number and a place; accepted, the calls answer only that.
-#[derive(Clone, Copy)]
-pub enum Done {
-    Accepted,
-    Refused(Refusal),
-}
-
-// A refusal by `number` at place 0, unless the test holds.
-pub(crate) fn test(holds: bool, number: u32) -> Done
-    ensures { view_done result ≡ need holds number 0 }
+// Refused for the fault, at place 0, unless the test holds.
+pub(crate) fn need(holds: bool, fault: Fault) -> Result<(), Refusal>
+    ensures { view_done result ≡ need holds (number_of fault) 0 }
 {
-    if holds {
-        return Done::Accepted;
-    }
-    Done::Refused(Refusal { number, place: 0 })
-}
-
-// The first answer where it refuses, else the second.
-pub(crate) fn first_of(a: Done, b: Done) -> Done
-    ensures { view_done result ≡ also (view_done a) (view_done b) }
-{
-    match a {
-        Done::Accepted => b,
-        Done::Refused(r) => Done::Refused(r),
-    }
-}
-
-// Whether an answer refuses.
-pub(crate) fn refuses(a: Done) -> bool
-    ensures { result ≡ refusing (view_done a) }
-{
-    match a {
-        Done::Accepted => false,
-        Done::Refused(_refusal) => true,
-    }
+    if holds { Ok(()) } else { Err(fault.into()) }
 }

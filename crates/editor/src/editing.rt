@@ -9,13 +9,13 @@ ghost use Rattle.editor.specs.Views.{view_done, asked, item_tests};
 ghost use Rattle.editor.specs.Promises.{Edited};
 ghost use Rattle.editor.specs.Writes.{Known, Holds, Editable};
 
-use crate::answers::{Done, first_of, refuses, test};
+use crate::answers::need;
 use crate::stores::put_words;
 use book::items::Item;
-use book::refusal::Refusal;
+use book::refusal::{Fault, Refusal};
 use book::words::word;
-use cursor::standing::{Standing, item_at};
-use records::answers::{Entry, Judged, Record, Spot, SpotFound, Stamp};
+use cursor::standing::{FoundItem, item_at};
+use records::answers::{Entry, Record, Spot, Stamp};
 use records::entries::put_entry;
 use records::history::signed;
 use records::judge;
@@ -33,19 +33,16 @@ pub struct Correction {
     pub time: u64,
 }
 
-// The tests of an edit of an accepted record at an item of the kind with the value: 23, 24, 25, 12. All are made and the first refusal is told:
-// straight code, to be read against the meaning's list of them.
-fn edit_tests(c: Correction, x: Record, kind: u16, value: u32, room: usize) -> Done
+// The tests of an edit of an accepted record at an item of the kind with the value: 23, 24, 25, 12; to be read against the meaning's list of them.
+fn edit_tests(c: Correction, x: Record, kind: u16, value: u32, room: usize) -> Result<(), Refusal>
     requires { x.total < 65536 }
     ensures { view_done result ≡ item_tests (asked c) (summary_of x) kind value room }
 {
-    let fresh = legal(kind, c.value) & (value != c.value);
-    let changed = test(fresh, Refusal::NEW_VALUE);
+    need(legal(kind, c.value) & (value != c.value), Fault::NewValue)?;
     let named = signed(c.operator, c.reason);
-    let signer = test(named & (c.time <= Entry::LAST_TIME), Refusal::SIGNER);
-    let full = test(x.count < Record::MOST, Refusal::FULL);
-    let end = test(x.total + Entry::SIZE <= room, Refusal::ROOM);
-    first_of(changed, first_of(signer, first_of(full, end)))
+    need(named & (c.time <= Entry::LAST_TIME), Fault::Signer)?;
+    need(x.count < Record::MOST, Fault::Full)?;
+    need(x.total + Entry::SIZE <= room, Fault::Room)
 }
 
 // An edit that may be made: the value, the two header words that change, and one entry.
@@ -59,7 +56,10 @@ fn write_edit(buf: &mut [u8], c: Correction, x: Record, kind: u16, value: u32)
     let count = (x.count + 1) as u16;
     let total = (x.total + Entry::SIZE) as u16;
     put_words(buf, 2 * Record::COUNT_WORD, &[count, total]);
-    let stamp = Stamp::Given(c.time, Entry::DESK);
+    let stamp = Stamp {
+        time: c.time,
+        desk: Entry::DESK,
+    };
     let entry = Entry {
         word: c.word as u16,
         kind,
@@ -67,44 +67,39 @@ fn write_edit(buf: &mut [u8], c: Correction, x: Record, kind: u16, value: u32)
         new: c.value,
         operator: c.operator as u16,
         reason: c.reason as u16,
-        stamp,
+        stamp: Some(stamp),
     };
     put_entry(buf, x.total, entry);
 }
 
 // An edit of an accepted record at an item of the kind with the value.
-fn edit_value(buf: &mut [u8], c: Correction, x: Record, kind: u16, value: u32) -> Done
+fn edit_value(buf: &mut [u8], c: Correction, x: Record, kind: u16, value: u32) -> Result<(), Refusal>
     requires { Known version_two buf.old (summary_of x) × Holds buf.old c.word kind value }
     ensures { Edited buf.old (asked c) (view_done result) buf.new }
 {
-    let answer = edit_tests(c, x, kind, value, buf.len());
-    if refuses(answer) {
-        return answer;
-    }
+    edit_tests(c, x, kind, value, buf.len())?;
     write_edit(buf, c, x, kind, value);
-    answer
+    Ok(())
 }
 
 // An edit of an accepted record, where judging has told what stands at the word asked for, so that an item begins there: the item answer is taken
 // apart, and anything but a Sample or Bin leaves at once with 22.
-fn edit_item(buf: &mut [u8], c: Correction, x: Record, spot: SpotFound) -> Done
+fn edit_item(buf: &mut [u8], c: Correction, x: Record, spot: Option<Spot>) -> Result<(), Refusal>
     requires { Known version_two buf.old (summary_of x) × (view_spot spot ≡ plane_frames.spot (frame_in buf.old) c.word) }
     ensures { Edited buf.old (asked c) (view_done result) buf.new }
 {
-    let SpotFound::Spot(_spot) = spot else {
-        return test(false, Refusal::TARGET);
+    let Some(_spot) = spot else {
+        return Err(Fault::Target.into());
     };
     let start = Record::HEADER;
     let end = start + x.length;
-    let standing = item_at(&buf[start..end], c.word);
-    let Standing::Item(found) = standing else {
-        return test(false, Refusal::TARGET);
+    let Some(FoundItem { item, .. }) = item_at(&buf[start..end], c.word) else {
+        return Err(Fault::Target.into());
     };
-    let item = found.item;
     match item {
         Item::Sample(s) => edit_value(buf, c, x, Spot::SAMPLE, s.value as u32),
         Item::Bin(s) => edit_value(buf, c, x, Spot::BIN, s.count),
-        _ => test(false, Refusal::TARGET),
+        _ => Err(Fault::Target.into()),
     }
 }
 
@@ -113,15 +108,10 @@ fn edit_item(buf: &mut [u8], c: Correction, x: Record, spot: SpotFound) -> Done
 // range, by 25 where 512 entries stand, and by 12 where the buffer has no room for one entry more. The time is kept as given, whatever the times of
 // earlier entries. Accepted, it has written the value, the two header words that change and one entry, and nothing else; refused, the buffer is as
 // found.
-pub fn edit(buf: &mut [u8], c: Correction) -> Done
+pub fn edit(buf: &mut [u8], c: Correction) -> Result<(), Refusal>
     ensures { Edited buf.old (asked c) (view_done result) buf.new }
 {
-    if word(buf, Record::VERSION_WORD) != Record::VERSION {
-        return test(false, Refusal::HEADER);
-    }
-    let judged = judge(buf, c.word);
-    match judged {
-        Judged::Refused(r) => Done::Refused(r),
-        Judged::Accepted(x, spot) => edit_item(buf, c, x, spot),
-    }
+    need(word(buf, Record::VERSION_WORD) == Record::VERSION, Fault::Header)?;
+    let judged = judge(buf, c.word)?;
+    edit_item(buf, c, judged.record, judged.spot)
 }

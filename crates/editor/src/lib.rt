@@ -3,7 +3,7 @@
 // at those of the version that the record names (`format_in`).
 #![tactic(auto)]
 
-pub mod answers;
+mod answers;
 pub mod editing;
 pub mod opening;
 pub mod restoring;

@@ -6,11 +6,11 @@ ghost use Rattle.ledger.specs.VersionTwo.{version_two};
 ghost use Rattle.editor.specs.Views.{view_done};
 ghost use Rattle.editor.specs.Promises.{Opened};
 
-use crate::answers::{Done, test};
+use crate::answers::need;
 use crate::stores::put_words;
-use book::refusal::Refusal;
+use book::refusal::{Fault, Refusal};
 use book::words::copy;
-use frame::reading::{Reading, read};
+use frame::reading::read;
 use records::answers::Record;
 
 // The header of a record that has no entries, of a frame of `n` bytes.
@@ -49,19 +49,11 @@ fn write_open(buf: &mut [u8], frame: &[u8])
 
 // Opens a record of the frame, with no history, at the start of the buffer. Refuses as reading the frame does, then by 12 where the buffer
 // is under 16 bytes and the frame. Accepted, it has written header and frame and nothing beyond; refused, the buffer is as found.
-pub fn open(buf: &mut [u8], frame: &[u8]) -> Done
+pub fn open(buf: &mut [u8], frame: &[u8]) -> Result<(), Refusal>
     ensures { Opened frame.now buf.old (view_done result) buf.new }
 {
-    let reading = read(frame);
-    match reading {
-        Reading::Refused(r) => Done::Refused(r),
-        Reading::Accepted(_) => {
-            if Record::HEADER + frame.len() <= buf.len() {
-                write_open(buf, frame);
-                Done::Accepted
-            } else {
-                test(false, Refusal::ROOM)
-            }
-        }
-    }
+    read(frame)?;
+    need(Record::HEADER + frame.len() <= buf.len(), Fault::Room)?;
+    write_open(buf, frame);
+    Ok(())
 }

@@ -10,9 +10,7 @@ pub(crate) fn put_words(buf: &mut [u8], at: usize, ws: &[u16])
     requires { at + 2 * length ws.now ≤ length buf.old }
     ensures { buf.new ≡ sets buf.old at (bytes ws.now) }
 {
-    let mut i = 0;
-    while i < ws.len() {
-        put_word(buf, at + 2 * i, ws[i]);
-        i += 1;
+    for (i, w) in ws.iter().enumerate() {
+        put_word(buf, at + 2 * i, *w);
     }
 }
