@@ -1,7 +1,7 @@
 -- What each public function promises, under a name: its answer, or the whole of the bytes that it leaves. The functions' contracts and the theorems
 -- of proofs/Unique.antt are over these same names.
 -- Assumes nothing.
-use Rattle.std.specs.Prelude.{ℕ, ◌≡◌, Bool, List, [], ◌∷◌}
+use Rattle.std.specs.Prelude.{ℕ, ◌≡◌, ◌×◌, Bool, List, [], ◌∷◌, Option, Result, Ok, Err}
 use Rattle.std.proofs.lemmas.List.Edits.{sets}
 use Rattle.format.specs.Words.{bytes}
 use Rattle.format.specs.Spots as spots
@@ -14,34 +14,36 @@ use Rattle.ledger.specs.Formats.{size}
 use Rattle.ledger.specs.VersionTwo.{version_two}
 use Rattle.ledger.specs.Versions.{format_for, format_in}
 use Rattle.ledger.specs.PlaneFrames.{plane_frames}
-use Rattle.records.specs.declared.answers.SpotFound.{SpotFound}
-use Rattle.records.specs.declared.answers.RecordFound.{RecordFound}
+use Rattle.book.specs.declared.refusal.Refusal.{Refusal}
+use Rattle.records.specs.declared.answers.SpotKind.{SpotKind}
+use Rattle.records.specs.declared.answers.NoKind.{NoKind}
+use Rattle.records.specs.declared.answers.Spot.{Spot}
+use Rattle.records.specs.declared.answers.Record.{Record}
 use Rattle.records.specs.declared.answers.Judged.{Judged}
 use Rattle.records.specs.declared.answers.Entry.{Entry}
-use Rattle.records.specs.declared.answers.EntryFound.{EntryFound}
-use Rattle.records.specs.Views.{view_spot, view_record, view_judged, as_entry, view_entry}
+use Rattle.records.specs.Views.{view_spot_kind, view_spot, view_record, view_judged, as_entry, view_entry}
 use Rattle.records.specs.Stored.{stored}
 
 -- ---- the questions
 
 -- what stands at word w of a frame
-abbrev pub SpotTold : List ℕ → ℕ → SpotFound → Type 0
+abbrev pub SpotTold : List ℕ → ℕ → Option Spot → Type 0
 SpotTold f w r = view_spot r ≡ spots.spot f w
 
 -- whether a buffer begins with a record of the version that its first word names, and of what lengths and count
-abbrev pub Recorded : List ℕ → RecordFound → Type 0
+abbrev pub Recorded : List ℕ → Result Record Refusal → Type 0
 Recorded b r = view_record r ≡ record_answer plane_frames (format_in b) b
 
 -- the same, and what stands at word w of its frame
-abbrev pub JudgedTo : List ℕ → ℕ → Judged → Type 0
+abbrev pub JudgedTo : List ℕ → ℕ → Result Judged Refusal → Type 0
 JudgedTo b w r = view_judged r ≡ judged_at plane_frames (format_in b) b w
 
 -- entry j of a record
-abbrev pub EntryTold : List ℕ → ℕ → EntryFound → Type 0
+abbrev pub EntryTold : List ℕ → ℕ → Result Entry Refusal → Type 0
 EntryTold b j r = view_entry r ≡ entry_answer plane_frames (format_in b) b j
 
 -- the record question, and restoring to k into a second buffer
-pub record RestoredTo (b : List ℕ) (k : ℕ) (found : List ℕ) (r : RecordFound) (exit : List ℕ) : Type 0 where
+pub record RestoredTo (b : List ℕ) (k : ℕ) (found : List ℕ) (r : Result Record Refusal) (exit : List ℕ) : Type 0 where
   pub answered : view_record r ≡ record_answer plane_frames (format_in b) b
   pub left : exit ≡ restore_exit plane_frames (format_in b) b k found
 
@@ -63,6 +65,11 @@ abbrev pub SignedBy : ℕ → ℕ → Bool → Type 0
 SignedBy operator reason r = r ≡ records.signed operator reason
 
 -- ---- values
+
+-- the kind of a number; a number that is no kind's is none
+abbrev pub SpotKindOf : ℕ → Result SpotKind NoKind → Type 0
+SpotKindOf n (Ok k) = n ≡ view_spot_kind k
+SpotKindOf n (Err e) = (n ≡ 1 → ⊥) × (n ≡ 2 → ⊥)
 
 -- an item of the kind may hold the value
 abbrev pub MayHold : ℕ → ℕ → Bool → Type 0

@@ -1,16 +1,17 @@
 -- What holds while the entries of a record are undone, newest first, on a copy of its frame: the map has the words of the headers for every frame
 -- on the way, since an entry that fits puts a legal value and that changes no item's place or class.
 -- Assumes nothing.
-use Rattle.std.specs.Prelude.{ℕ, ◌+◌, ◌-◌, ◌*◌, ◌≤◌, ◌≡◌, ◌&&◌, List, eqb, leb, length, get_or, take}
+use Rattle.std.specs.Prelude.{ℕ, ◌+◌, ◌-◌, ◌*◌, ◌≤◌, ◌≡◌, ◌&&◌, List, leb, length, get_or, take, Result, Err, is_ok, IsOk, ⊤}
 use Rattle.std.proofs.lemmas.List.Edits.{sets}
 use Rattle.format.specs.Words.{pick}
 use Rattle.format.specs.Scans.{head}
-use Rattle.format.specs.Answers.{refused}
 use Rattle.ledger.specs.Frames.{Accepted}
 use Rattle.ledger.specs.Formats.{Format, size}
 use Rattle.ledger.specs.Records.{length_in, entries_to, history_verdict}
 use Rattle.ledger.specs.Calls.{undone}
 use Rattle.ledger.specs.PlaneFrames.{plane_frames}
+use Rattle.book.specs.declared.refusal.Refusal.{Refusal}
+use Rattle.book.specs.Views.{refusal}
 use Rattle.records.specs.Views.{unfit}
 
 -- at each word where an item begins the word of the header that it stands under, 0 elsewhere
@@ -34,15 +35,15 @@ pub record Unwinding (F : Format) (frame f map b : List ℕ) (n : ℕ) : Type 0 
   pub long : 4096 ≤ length map
   pub zeros : (i : ℕ) → get_or map i 0 ≡ 0
 
--- the entries from number n down to number k + 1, undone in f, which left g: the first that does not fit is number `bad`, or each fits, and
--- what the older ones are judged by is g
-pub record Walked (F : Format) (map f b : List ℕ) (n k bad : ℕ) (g : List ℕ) : Type 0 where
-  pub stops : (bad ≡ 0 → ⊥) → history_verdict plane_frames F f (entries_to F b n) ≡ refused 21 bad
-  pub goes_on : bad ≡ 0 → history_verdict plane_frames F g (entries_to F b k) ≡ history_verdict plane_frames F f (entries_to F b n)
-  pub undoes : bad ≡ 0 → g ≡ undone plane_frames f (take (n - k) (entries_to F b n))
-  pub undoing : bad ≡ 0 → Undoing map g
+-- the entries from number n down to number k + 1, undone in f, which left g: the history is refused as the first that does not fit says, or each
+-- fits, and what the older ones are judged by is g
+pub record Walked (F : Format) (map f b : List ℕ) (n k : ℕ) (done : Result ⊤ Refusal) (g : List ℕ) : Type 0 where
+  pub stops : (r : Refusal) → done ≡ Err r → history_verdict plane_frames F f (entries_to F b n) ≡ refusal r
+  pub goes_on : IsOk done → history_verdict plane_frames F g (entries_to F b k) ≡ history_verdict plane_frames F f (entries_to F b n)
+  pub undoes : IsOk done → g ≡ undone plane_frames f (take (n - k) (entries_to F b n))
+  pub undoing : IsOk done → Undoing map g
 
 -- the frame as it stood after the first k of n entries, written to the start of a second buffer where all entries fit, there are so many, and it has room
-pub record Kept (F : Format) (frame b : List ℕ) (n k : ℕ) (found : List ℕ) (bad : ℕ) (exit : List ℕ) : Type 0 where
-  pub verdict : unfit bad ≡ history_verdict plane_frames F frame (entries_to F b n)
-  pub left : exit ≡ pick ((eqb bad 0 && leb k n) && leb (length frame) (length found)) (sets found 0 (undone plane_frames frame (take (n - k) (entries_to F b n)))) found
+pub record Kept (F : Format) (frame b : List ℕ) (n k : ℕ) (found : List ℕ) (done : Result ⊤ Refusal) (exit : List ℕ) : Type 0 where
+  pub verdict : unfit done ≡ history_verdict plane_frames F frame (entries_to F b n)
+  pub left : exit ≡ pick ((is_ok done && leb k n) && leb (length frame) (length found)) (sets found 0 (undone plane_frames frame (take (n - k) (entries_to F b n)))) found

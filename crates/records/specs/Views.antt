@@ -1,62 +1,66 @@
 -- What the answers of this crate say in the documents.
 -- Assumes nothing.
-use Rattle.std.specs.Prelude.{ℕ, List, [], ◌∷◌, eqb}
-use Rattle.std.proofs.Math.Option.{Option, none, some}
-use Rattle.format.specs.Answers.{Outcome, accepted, refused, Done, need, and_then}
+use Rattle.std.specs.Prelude.{ℕ, List, [], ◌∷◌, Result, ⊤}
+use Rattle.std.specs.Prelude as answer
+use Rattle.std.proofs.Math.Option.{Option}
+use Rattle.format.specs.Answers.{Outcome, accepted, Done, need, and_then}
 use Rattle.format.specs.Spots as spots
-use Rattle.book.specs.Views.{refusal}
+use Rattle.book.specs.declared.refusal.Refusal.{Refusal}
+use Rattle.book.specs.Views.{view_option, view_result}
 use Rattle.ledger.specs.Formats as formats
 use Rattle.ledger.specs.Calls.{Summary}
 use Rattle.ledger.specs.Judged as judged
 use Rattle.ledger.specs.Records.{length_in, count_in, total_in, frame_in, header_right, entries_to, history_verdict}
 use Rattle.ledger.specs.PlaneFrames.{plane_frames}
 use Rattle.records.specs.declared.answers.Header.{Header}
-use Rattle.records.specs.declared.answers.SpotFound.{SpotFound}
-use Rattle.records.specs.declared.answers.SpotFound.TheVariants as found
+use Rattle.records.specs.declared.answers.SpotKind.{SpotKind}
+use Rattle.records.specs.declared.answers.SpotKind.TheVariants as kind
+use Rattle.records.specs.declared.answers.Spot.{Spot}
 use Rattle.records.specs.declared.answers.Record.{Record}
-use Rattle.records.specs.declared.answers.RecordFound.{RecordFound}
-use Rattle.records.specs.declared.answers.RecordFound.TheVariants as records
 use Rattle.records.specs.declared.answers.Judged.{Judged}
-use Rattle.records.specs.declared.answers.Judged.TheVariants as judging
 use Rattle.records.specs.declared.answers.Stamp.{Stamp}
-use Rattle.records.specs.declared.answers.Stamp.TheVariants as stamps
 use Rattle.records.specs.declared.answers.Entry.{Entry}
-use Rattle.records.specs.declared.answers.EntryFound.{EntryFound}
-use Rattle.records.specs.declared.answers.EntryFound.TheVariants as entries
 
 abbrev pub view_header : Header → spots.Header
 view_header h = record { card = h.card; chip = h.chip; channel = h.channel }
 
-abbrev pub view_spot : SpotFound → Option spots.Spot
-view_spot (found.Spot p) = some (record { kind = p.kind; value = p.value; header = view_header p.header })
-view_spot found.Nothing = none
+-- a kind's number in an entry
+abbrev pub view_spot_kind : SpotKind → ℕ
+view_spot_kind kind.Sample = 1
+view_spot_kind kind.Bin = 2
+
+abbrev pub view_found_spot : Spot → spots.Spot
+view_found_spot p = record { kind = view_spot_kind p.kind; value = p.value; header = view_header p.header }
+
+abbrev pub view_spot : answer.Option Spot → Option spots.Spot
+view_spot = view_option view_found_spot
 
 abbrev pub summary_of : Record → Summary
 summary_of r = record { length = r.length; count = r.count; total = r.total }
 
-abbrev pub view_record : RecordFound → Outcome Summary
-view_record (records.Record r) = accepted (summary_of r)
-view_record (records.Refused r) = refusal r
+abbrev pub view_record : Result Record Refusal → Outcome Summary
+view_record = view_result summary_of
 
-abbrev pub view_judged : Judged → Outcome judged.Judged
-view_judged (judging.Accepted r p) = accepted (record { length = r.length; count = r.count; total = r.total; spot = view_spot p })
-view_judged (judging.Refused r) = refusal r
+abbrev pub judged_of : Judged → judged.Judged
+judged_of x = record { length = x.«record».length; count = x.«record».count; total = x.«record».total; spot = view_spot x.spot }
+
+abbrev pub view_judged : Result Judged Refusal → Outcome judged.Judged
+view_judged = view_result judged_of
 
 -- after the reason stands nothing, or a time and a desk
-abbrev pub view_stamp : Stamp → List ℕ
-view_stamp stamps.Missing = []
-view_stamp (stamps.Given time desk) = time ∷ desk ∷ []
+abbrev pub view_stamp : answer.Option Stamp → List ℕ
+view_stamp answer.None = []
+view_stamp (answer.Some x) = x.time ∷ x.desk ∷ []
 
 abbrev pub as_entry : Entry → formats.Entry
 as_entry e = record { word = e.word; kind = e.kind; old = e.old; new = e.new; operator = e.operator; reason = e.reason; extra = view_stamp e.stamp }
 
-abbrev pub view_entry : EntryFound → Outcome formats.Entry
-view_entry (entries.Entry e) = accepted (as_entry e)
-view_entry (entries.Refused r) = refusal r
+abbrev pub view_entry : Result Entry Refusal → Outcome formats.Entry
+view_entry = view_result as_entry
 
--- the number of the newest entry that does not fit, or 0, as an answer
-abbrev pub unfit : ℕ → Done
-unfit n = need (eqb n 0) 21 n
+-- whether each entry fits, or the refusal with the number of the newest that does not
+abbrev pub unfit : Result ⊤ Refusal → Done
+unfit = view_result (λ u. u)
 
 -- what the header and the frame of a record tell, with no entry tested
 unfoldable pub framed_answer : formats.Format → List ℕ → Outcome Summary

@@ -1,38 +1,50 @@
 // What is asked for and answered about a record and the items of its frame.
-use book::refusal::Refusal;
+ghost use Rattle.records.specs.Promises.{SpotKindOf};
 
-// What a Channel or Histogram item says of the items that follow it; zeros before any.
-#[derive(Clone, Copy)]
+// What a Channel or Histogram item says of the items that follow it; zeros before any. It has the shape of book's `Header`, and no prefix: a spot
+// may stand under an item of either class, and under none.
+#[derive(Clone, Copy, Debug, PartialEq, Eq)]
 pub struct Header {
     pub card: u16,
     pub chip: u16,
     pub channel: u16,
 }
 
-// A Sample or Bin: its kind (1 sample, 2 bin), its value, and the header it stands under.
-#[derive(Clone, Copy)]
+// The kinds of item that may be corrected, by their number in an entry.
+#[derive(Clone, Copy, Debug, PartialEq, Eq)]
+pub enum SpotKind {
+    Sample = 1,
+    Bin = 2,
+}
+
+// A number that is no kind's.
+#[derive(Clone, Copy, Debug, PartialEq, Eq)]
+pub struct NoKind;
+
+impl TryFrom<u16> for SpotKind {
+    type Error = NoKind;
+
+    ghost try_from_gives = { SpotKindOf };
+
+    fn try_from(number: u16) -> Result<SpotKind, NoKind> {
+        match number {
+            1 => Ok(SpotKind::Sample),
+            2 => Ok(SpotKind::Bin),
+            _ => Err(NoKind),
+        }
+    }
+}
+
+// A Sample or Bin: its kind, its value, and the header it stands under.
+#[derive(Clone, Copy, Debug, PartialEq, Eq)]
 pub struct Spot {
-    pub kind: u16,
+    pub kind: SpotKind,
     pub value: u32,
     pub header: Header,
 }
 
-impl Spot {
-    // The kinds.
-    pub const SAMPLE: u16 = 1;
-
-    pub const BIN: u16 = 2;
-}
-
-// What stands at a word of a frame: a Sample or Bin that begins there, or nothing that may be corrected.
-#[derive(Clone, Copy)]
-pub enum SpotFound {
-    Spot(Spot),
-    Nothing,
-}
-
 // An accepted record: its frame's length in bytes, how many entries it has, and its own length in bytes.
-#[derive(Clone, Copy)]
+#[derive(Clone, Copy, Debug, PartialEq, Eq)]
 pub struct Record {
     pub length: usize,
     pub count: usize,
@@ -73,28 +85,22 @@ impl Record {
     pub const LAST_WORD: usize = 7;
 }
 
-#[derive(Clone, Copy)]
-pub enum RecordFound {
-    Record(Record),
-    Refused(Refusal),
+// An accepted record, and the Sample or Bin that begins at the word asked for, where one does.
+#[derive(Clone, Copy, Debug, PartialEq, Eq)]
+pub struct Judged {
+    pub record: Record,
+    pub spot: Option<Spot>,
 }
 
-// An accepted record, and what stands at the word asked for.
-#[derive(Clone, Copy)]
-pub enum Judged {
-    Accepted(Record, SpotFound),
-    Refused(Refusal),
+// What an entry of version 2 keeps after the reason: the time that was given with the correction, and a desk number, 0 for now.
+#[derive(Clone, Copy, Debug, PartialEq, Eq)]
+pub struct Stamp {
+    pub time: u64,
+    pub desk: u16,
 }
 
-// What an entry keeps after the reason: nothing in version 1; in version 2 the time that was given with the correction, and a desk number, 0 for now.
-#[derive(Clone, Copy)]
-pub enum Stamp {
-    Missing,
-    Given(u64, u16),
-}
-
-// An entry of the history: the value at a word was changed from old to new.
-#[derive(Clone, Copy)]
+// An entry of the history: the value at a word was changed from old to new. In version 1 it keeps no stamp.
+#[derive(Clone, Copy, Debug, PartialEq, Eq)]
 pub struct Entry {
     pub word: u16,
     pub kind: u16,
@@ -102,7 +108,7 @@ pub struct Entry {
     pub new: u32,
     pub operator: u16,
     pub reason: u16,
-    pub stamp: Stamp,
+    pub stamp: Option<Stamp>,
 }
 
 impl Entry {
@@ -138,10 +144,4 @@ impl Entry {
     pub const LAST_TIME: u64 = 281474976710655;
 
     pub const DESK: u16 = 0;
-}
-
-#[derive(Clone, Copy)]
-pub enum EntryFound {
-    Entry(Entry),
-    Refused(Refusal),
 }

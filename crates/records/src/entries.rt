@@ -32,30 +32,36 @@ fn joined(low: u32, high: u16) -> u64
 }
 
 // What the entry that a slice begins with, and has whole, keeps after the reason.
-fn stamp_in(s: &[u8], version: u16) -> Stamp
+fn stamp_in(s: &[u8], version: u16) -> Option<Stamp>
     requires { size (format_for version) ≤ length s.now }
     ensures { view_stamp result ≡ (format_for version).read (drop 16 s.now) }
 {
     if version == Record::FIRST_VERSION {
-        return Stamp::Missing;
+        return None;
     }
     let low = long_in(s, Entry::TIME_WORD);
     let high = word_in(s, Entry::TIME_WORD + 2);
     let desk = word_in(s, Entry::DESK_WORD);
-    Stamp::Given(joined(low, high), desk)
+    Some(Stamp {
+        time: joined(low, high),
+        desk,
+    })
 }
 
 // The same where what is past the end is 0.
-fn stamp_of(s: &[u8], version: u16) -> Stamp
+fn stamp_of(s: &[u8], version: u16) -> Option<Stamp>
     ensures { view_stamp result ≡ (format_for version).read (drop 16 s.now) }
 {
     if version == Record::FIRST_VERSION {
-        return Stamp::Missing;
+        return None;
     }
     let low = long(s, Entry::TIME_WORD);
     let high = word(s, Entry::TIME_WORD + 2);
     let desk = word(s, Entry::DESK_WORD);
-    Stamp::Given(joined(low, high), desk)
+    Some(Stamp {
+        time: joined(low, high),
+        desk,
+    })
 }
 
 // The entry that a slice begins with and has whole, in a record of that version.
@@ -102,13 +108,13 @@ fn put_time(buf: &mut [u8], at: usize, time: u64, desk: u16)
 }
 
 // Stores what an entry keeps after the reason; zeros where it keeps nothing.
-fn put_stamp(buf: &mut [u8], at: usize, stamp: Stamp)
+fn put_stamp(buf: &mut [u8], at: usize, stamp: Option<Stamp>)
     requires { at < length buf.old + 24 }
     ensures { buf.new ≡ sets buf.old at (bytes (stamp_words (view_stamp stamp))) }
 {
     match stamp {
-        Stamp::Missing => put_time(buf, at, 0, 0),
-        Stamp::Given(time, desk) => put_time(buf, at, time, desk),
+        None => put_time(buf, at, 0, 0),
+        Some(x) => put_time(buf, at, x.time, x.desk),
     }
 }
 
@@ -125,6 +131,5 @@ pub fn put_entry(buf: &mut [u8], at: usize, e: Entry)
     put_long(buf, at + 2 * Entry::NEW_WORD, e.new);
     put_word(buf, at + 2 * Entry::OPERATOR_WORD, e.operator);
     put_word(buf, at + 2 * Entry::REASON_WORD, e.reason);
-    let stamp = e.stamp;
-    put_stamp(buf, at + 2 * Entry::TIME_WORD, stamp);
+    put_stamp(buf, at + 2 * Entry::TIME_WORD, e.stamp);
 }

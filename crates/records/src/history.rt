@@ -1,5 +1,5 @@
 // The history of a record: its entries, tested and undone from the newest back on a copy of the frame.
-ghost use Rattle.std.specs.Prelude.{◌≡◌, ◌&&◌, ℕ, ◌+◌, ◌-◌, ◌*◌, ◌≤◌, length, get_or, take};
+ghost use Rattle.std.specs.Prelude.{◌≡◌, ◌&&◌, ℕ, ◌+◌, ◌-◌, ◌*◌, ◌≤◌, length, get_or, take, IsOk};
 ghost use Rattle.ledger.specs.Frames.{Accepted};
 ghost use Rattle.ledger.specs.Formats.{size};
 ghost use Rattle.ledger.specs.Records.{length_in, entries_to, fits, history_verdict};
@@ -7,18 +7,19 @@ ghost use Rattle.ledger.specs.Calls.{undone};
 ghost use Rattle.ledger.specs.Versions.{format_for};
 ghost use Rattle.ledger.specs.PlaneFrames.{plane_frames};
 ghost use Rattle.format.specs.Spots as spots;
-ghost use Rattle.records.specs.Views.{view_spot, view_stamp, as_entry, unfit};
+ghost use Rattle.records.specs.Views.{view_spot, view_spot_kind, view_stamp, as_entry, unfit};
 ghost use Rattle.records.specs.Sound.{sound_at, left_by};
 ghost use Rattle.records.specs.Undoing.{Heads, Undoing, Unwinding, Walked};
 ghost use Rattle.records.specs.Promises.{SignedBy};
 
-use crate::answers::{Entry, Record, Spot, SpotFound, Stamp};
+use crate::answers::{Entry, Record, Spot, SpotKind, Stamp};
 use crate::entries::{entry_in, entry_size};
 use crate::scan::{NONE, header_at, item_noted, note_heads, spot_of};
 use crate::values::{legal, put_in};
 use book::items::Item;
+use book::refusal::{Fault, Refusal};
 use book::words::copy;
-use cursor::standing::{Standing, item_at};
+use cursor::standing::item_at;
 
 // The lesser of two numbers.
 fn least(a: usize, b: usize) -> usize
@@ -48,12 +49,12 @@ pub fn signed(operator: u32, reason: u32) -> bool
 }
 
 // Whether an entry of a record of that version keeps after its reason what that version keeps: nothing, or a time of 6 bytes at desk 0.
-fn stamp_fits(stamp: Stamp, version: u16) -> bool
+fn stamp_fits(stamp: Option<Stamp>, version: u16) -> bool
     ensures { (s : spots.Spot) → result ≡ (((format_for version).good (view_stamp stamp)) && ((format_for version).suits (view_stamp stamp) s)) }
 {
     match stamp {
-        Stamp::Missing => version == Record::FIRST_VERSION,
-        Stamp::Given(time, desk) => {
+        None => version == Record::FIRST_VERSION,
+        Some(Stamp { time, desk }) => {
             (version != Record::FIRST_VERSION) & (time <= Entry::LAST_TIME) & (desk == Entry::DESK)
         }
     }
@@ -70,21 +71,20 @@ fn is_sound(e: Entry, version: u16) -> bool
     if !signed(e.operator as u32, e.reason as u32) {
         return false;
     }
-    let stamp = e.stamp;
-    stamp_fits(stamp, version)
+    stamp_fits(e.stamp, version)
 }
 
 // Whether the item of the kind with the value is the one that a sound entry left, and may have held the old value.
-fn fits_item(e: Entry, kind: u16, value: u32) -> bool
-    ensures { result ≡ left_by (as_entry e) kind value }
+fn fits_item(e: Entry, kind: SpotKind, value: u32) -> bool
+    ensures { result ≡ left_by (as_entry e) (view_spot_kind kind) value }
 {
-    if kind != e.kind {
+    if kind as u16 != e.kind {
         return false;
     }
     if value != e.new {
         return false;
     }
-    legal(kind, e.old)
+    legal(e.kind, e.old)
 }
 
 // Whether an entry fits a frame whose headers are noted in the map: the item answer at its word is taken apart, and anything but a Sample or
@@ -100,38 +100,33 @@ fn entry_fits(f: &[u8], map: &[u16], e: Entry, version: u16) -> bool
     if head_at(map, at) == NONE {
         return false;
     }
-    let standing = item_noted(f, at);
-    let Standing::Item(found) = standing else {
+    let Some(found) = item_noted(f, at) else {
         return false;
     };
-    let item = found.item;
-    match item {
-        Item::Sample(x) => fits_item(e, Spot::SAMPLE, x.value as u32),
-        Item::Bin(x) => fits_item(e, Spot::BIN, x.count),
+    match found.item {
+        Item::Sample(x) => fits_item(e, SpotKind::Sample, x.value as u32),
+        Item::Bin(x) => fits_item(e, SpotKind::Bin, x.count),
         _ => false,
     }
 }
 
 // What stands at word w of a frame whose headers are noted in the map: the item answer there is taken apart, under its header. It is asked for one
 // word, so that `item_at` will do; `item_noted` stays with the loop over the entries alone, since with a second caller that loop is dearer.
-pub(crate) fn spot_noted(f: &[u8], map: &[u16], w: usize) -> SpotFound
+pub(crate) fn spot_noted(f: &[u8], map: &[u16], w: usize) -> Option<Spot>
     requires { Undoing map.now f.now }
     ensures { view_spot result ≡ plane_frames.spot f.now w }
 {
     let head = head_at(map, w);
     if head == NONE {
-        return SpotFound::Nothing;
+        return None;
     }
     let header = header_at(f, head);
-    let standing = item_at(f, w);
-    let Standing::Item(found) = standing else {
-        return SpotFound::Nothing;
-    };
-    let item = found.item;
-    spot_of(item, header)
+    let found = item_at(f, w)?;
+    spot_of(found.item, header)
 }
 
-// The number of the newest entry that does not fit, or 0: the entries from number n down to number k + 1, undone in f. The history begins at byte h.
+// The entries from number n down to number k + 1, undone in f; refused by 21 with the number of the newest that does not fit. The history begins at
+// byte h.
 fn walk_back(
     f: &mut [u8],
     map: &[u16],
@@ -140,7 +135,7 @@ fn walk_back(
     h: usize,
     n: usize,
     k: usize,
-) -> usize
+) -> Result<(), Refusal>
     requires { Undoing map.now f.old × (h ≡ 16 + length_in b.now) × (h + size (format_for version) * n ≤ length b.now) × (k ≤ n) }
     ensures { Walked (format_for version) map.now f.old b.now n k result f.new }
 {
@@ -153,10 +148,10 @@ fn walk_back(
             put_in(f, e.kind, e.word as usize, e.old);
             m -= 1;
         } else {
-            return m;
+            return Err(Fault::Entry.at(m));
         }
     }
-    0
+    Ok(())
 }
 
 // The same of all entries over a copy of the frame, made in f, with its headers noted in a map of zeros. A copy and not the frame itself: the frame is
@@ -168,7 +163,7 @@ pub(crate) fn unwind(
     b: &[u8],
     version: u16,
     n: usize,
-) -> usize
+) -> Result<(), Refusal>
     requires { Unwinding (format_for version) frame.now f.old map.old b.now n }
     ensures { (unfit result ≡ history_verdict plane_frames (format_for version) frame.now (entries_to (format_for version) b.now n)) × Heads frame.now map.new }
 {
@@ -187,18 +182,15 @@ pub(crate) fn unwind_to(
     version: u16,
     n: usize,
     k: usize,
-) -> usize
+) -> Result<(), Refusal>
     requires { Unwinding (format_for version) frame.now f.old map.old b.now n × (length kept.old ≡ length frame.now) }
-    ensures { (unfit result ≡ history_verdict plane_frames (format_for version) frame.now (entries_to (format_for version) b.now n)) × (result ≡ 0 → k ≤ n → kept.new ≡ undone plane_frames frame.now (take (n - k) (entries_to (format_for version) b.now n))) }
+    ensures { (unfit result ≡ history_verdict plane_frames (format_for version) frame.now (entries_to (format_for version) b.now n)) × (IsOk result → k ≤ n → kept.new ≡ undone plane_frames frame.now (take (n - k) (entries_to (format_for version) b.now n))) }
 {
     note_heads(frame, map);
     copy(frame, f);
     let h = Record::HEADER + frame.len();
     let stop = least(k, n);
-    let bad = walk_back(f, map, b, version, h, n, stop);
-    if bad != 0 {
-        return bad;
-    }
+    walk_back(f, map, b, version, h, n, stop)?;
     copy(f, kept);
     walk_back(f, map, b, version, h, stop, 0)
 }

@@ -15,25 +15,24 @@ pub mod restoring;
 pub mod scan;
 pub mod values;
 
-use answers::{EntryFound, Judged, Record, RecordFound, SpotFound};
-use book::refusal::Refusal;
+use answers::{Entry, Judged, Record, Spot};
+use book::refusal::{Fault, Refusal};
 use book::words::word;
 use entries::{entry_of, entry_size};
 use frame::head::MOST;
-use frame::reading::{Reading, read};
+use frame::reading::read;
 use header::header_right;
 use history::{spot_noted, unwind};
 use scan::spot_in;
 
 // The Sample or Bin that begins at word w of a frame, with its kind, value and header; nothing where another item or none begins there, and
 // where the bytes are no frame.
-pub fn spot(f: &[u8], w: usize) -> SpotFound
+pub fn spot(f: &[u8], w: usize) -> Option<Spot>
     ensures { SpotTold f.now w result }
 {
-    let reading = read(f);
-    match reading {
-        Reading::Refused(_refusal) => SpotFound::Nothing,
-        Reading::Accepted(_frame) => spot_in(f, w),
+    match read(f) {
+        Ok(_frame) => spot_in(f, w),
+        Err(_refusal) => None,
     }
 }
 
@@ -44,108 +43,87 @@ fn judge_history_in(
     frame: &[u8],
     b: &[u8],
     version: u16,
-    x: Record,
+    record: Record,
     w: usize,
-) -> Judged
-    requires { Framed (format_for version) frame.now b.now x.count × (length frame.now ≤ length scratch.old) × (4096 ≤ length map.old) × ((i : ℕ) → get_or map.old i 0 ≡ 0) }
+) -> Result<Judged, Refusal>
+    requires { Framed (format_for version) frame.now b.now record.count × (length frame.now ≤ length scratch.old) × (4096 ≤ length map.old) × ((i : ℕ) → get_or map.old i 0 ≡ 0) }
     ensures { view_judged result ≡ history_judged (format_for version) frame.now b.now (summary_of x) w }
 {
     let len = frame.len();
-    let bad = unwind(&mut scratch[..len], map, frame, b, version, x.count);
-    if bad == 0 {
-        return Judged::Accepted(x, spot_noted(frame, map, w));
-    }
-    Judged::Refused(Refusal {
-        number: Refusal::ENTRY,
-        place: bad,
-    })
+    unwind(&mut scratch[..len], map, frame, b, version, record.count)?;
+    let spot = spot_noted(frame, map, w);
+    Ok(Judged { record, spot })
 }
 
 // The most words of a frame.
 pub(crate) const WORDS: usize = MOST / 2;
 
 // The same with memory of its own. The arrays stand here and are lent on: in the function that works on them every goal would show all their zeros.
-fn judge_history(frame: &[u8], b: &[u8], version: u16, x: Record, w: usize) -> Judged
-    requires { Framed (format_for version) frame.now b.now x.count }
-    ensures { view_judged result ≡ history_judged (format_for version) frame.now b.now (summary_of x) w }
+fn judge_history(
+    frame: &[u8],
+    b: &[u8],
+    version: u16,
+    record: Record,
+    w: usize,
+) -> Result<Judged, Refusal>
+    requires { Framed (format_for version) frame.now b.now record.count }
+    ensures { view_judged result ≡ history_judged (format_for version) frame.now b.now (summary_of record) w }
 {
     let mut map = [0u16; WORDS];
     let mut scratch = [0u8; MOST];
-    judge_history_in(&mut map, &mut scratch, frame, b, version, x, w)
+    judge_history_in(&mut map, &mut scratch, frame, b, version, record, w)
 }
 
 // The header and the frame of a record: refused, or its lengths and its entry count, with no entry tested. Both versions are judged here: the version
 // word says how long an entry is.
-pub(crate) fn framed(buf: &[u8]) -> RecordFound
+pub(crate) fn framed(buf: &[u8]) -> Result<Record, Refusal>
     ensures { view_record result ≡ framed_answer (format_in buf.now) buf.now }
 {
     if !header_right(buf) {
-        return RecordFound::Refused(Refusal {
-            number: Refusal::HEADER,
-            place: 0,
-        });
+        return Err(Fault::Header.into());
     }
     let length = word(buf, Record::LENGTH_WORD) as usize;
     let count = word(buf, Record::COUNT_WORD) as usize;
     let total = word(buf, Record::TOTAL_WORD) as usize;
     let start = Record::HEADER;
     let end = start + length;
-    let reading = read(&buf[start..end]);
-    match reading {
-        Reading::Refused(r) => RecordFound::Refused(r),
-        Reading::Accepted(_frame) => RecordFound::Record(Record {
-            length,
-            count,
-            total,
-        }),
-    }
+    read(&buf[start..end])?;
+    Ok(Record {
+        length,
+        count,
+        total,
+    })
 }
 
 // Whether a buffer begins with a record, as `record` answers, and what stands at word w of its frame, as `spot` answers.
-pub fn judge(buf: &[u8], w: usize) -> Judged
+pub fn judge(buf: &[u8], w: usize) -> Result<Judged, Refusal>
     ensures { JudgedTo buf.now w result }
 {
-    let found = framed(buf);
-    match found {
-        RecordFound::Refused(r) => Judged::Refused(r),
-        RecordFound::Record(x) => {
-            let end = Record::HEADER + x.length;
-            let version = word(buf, Record::VERSION_WORD);
-            judge_history(&buf[Record::HEADER..end], buf, version, x, w)
-        }
-    }
+    let x = framed(buf)?;
+    let end = Record::HEADER + x.length;
+    let version = word(buf, Record::VERSION_WORD);
+    judge_history(&buf[Record::HEADER..end], buf, version, x, w)
 }
 
 // Whether a buffer begins with a record, and of what frame length, entry count and total length. Refuses by 20, then as the frame is refused,
 // then by 21 with the number of the newest entry that does not fit.
-pub fn record(buf: &[u8]) -> RecordFound
+pub fn record(buf: &[u8]) -> Result<Record, Refusal>
     ensures { Recorded buf.now result }
 {
     // Any word will do; what stands there is left aside.
-    let judged = judge(buf, 0);
-    match judged {
-        Judged::Refused(r) => RecordFound::Refused(r),
-        Judged::Accepted(x, _spot) => RecordFound::Record(x),
-    }
+    let judged = judge(buf, 0)?;
+    Ok(judged.record)
 }
 
 // Entry j of a record, from 1 as the oldest. Refuses as `record` does, then by 26 where j is 0 or above the entry count.
-pub fn entry(buf: &[u8], j: usize) -> EntryFound
+pub fn entry(buf: &[u8], j: usize) -> Result<Entry, Refusal>
     ensures { EntryTold buf.now j result }
 {
-    let found = record(buf);
-    match found {
-        RecordFound::Refused(r) => EntryFound::Refused(r),
-        RecordFound::Record(x) => {
-            if (1 <= j) & (j <= x.count) {
-                let version = word(buf, Record::VERSION_WORD);
-                let at = Record::HEADER + x.length + entry_size(version) * (j - 1);
-                return EntryFound::Entry(entry_of(&buf[at..], version));
-            }
-            EntryFound::Refused(Refusal {
-                number: Refusal::NO_ENTRY,
-                place: 0,
-            })
-        }
+    let x = record(buf)?;
+    if (1 <= j) & (j <= x.count) {
+        let version = word(buf, Record::VERSION_WORD);
+        let at = Record::HEADER + x.length + entry_size(version) * (j - 1);
+        return Ok(entry_of(&buf[at..], version));
     }
+    Err(Fault::NoEntry.into())
 }

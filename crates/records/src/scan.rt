@@ -12,10 +12,10 @@ ghost use Rattle.ledger.specs.PlaneFrames.{plane_frames};
 ghost use Rattle.records.specs.Views.{view_header, view_spot};
 ghost use Rattle.records.specs.Undoing.{Heads};
 
-use crate::answers::{Header, Spot, SpotFound};
+use crate::answers::{Header, Spot, SpotKind};
 use book::class::Class;
 use book::items::{Bin, Item, Sample};
-use cursor::standing::{FoundItem, Standing, item_at};
+use cursor::standing::{FoundItem, item_at};
 
 // The index of a frame's first item.
 const FIRST: usize = 3;
@@ -62,30 +62,28 @@ fn header_of(item: Item) -> Header
 pub(crate) fn header_at(f: &[u8], head: u16) -> Header
     ensures { view_header result ≡ header_at f.now head }
 {
-    let standing = item_at(f, head as usize);
-    let Standing::Item(found) = standing else {
+    let Some(found) = item_at(f, head as usize) else {
         return header(0, 0, 0);
     };
-    let item = found.item;
-    header_of(item)
+    header_of(found.item)
 }
 
 // An item under a header as a spot: anything but a Sample or Bin is nothing.
-pub(crate) fn spot_of(item: Item, header: Header) -> SpotFound
+pub(crate) fn spot_of(item: Item, header: Header) -> Option<Spot>
     ensures { view_spot result ≡ spots.spot_of (view_header header) (view_item item) }
 {
     match item {
-        Item::Sample(x) => SpotFound::Spot(Spot {
-            kind: Spot::SAMPLE,
+        Item::Sample(x) => Some(Spot {
+            kind: SpotKind::Sample,
             value: x.value as u32,
             header,
         }),
-        Item::Bin(x) => SpotFound::Spot(Spot {
-            kind: Spot::BIN,
+        Item::Bin(x) => Some(Spot {
+            kind: SpotKind::Bin,
             value: x.count,
             header,
         }),
-        _ => SpotFound::Nothing,
+        _ => None,
     }
 }
 
@@ -116,37 +114,33 @@ pub(crate) fn long_in(s: &[u8], i: usize) -> u32
 }
 
 // What stands at word w of an accepted frame.
-pub(crate) fn spot_in(f: &[u8], w: usize) -> SpotFound
+pub(crate) fn spot_in(f: &[u8], w: usize) -> Option<Spot>
     requires { Accepted plane_frames f.now }
     ensures { view_spot result ≡ spots.spot f.now w }
 {
     let mut at = FIRST;
     let mut head = UNHEADED;
     while at <= w {
-        let standing = item_at(f, at);
-        let Standing::Item(found) = standing else {
-            return SpotFound::Nothing;
-        };
-        let item = found.item;
+        let found = item_at(f, at)?;
         if at == w {
-            return spot_of(item, header_at(f, head));
+            return spot_of(found.item, header_at(f, head));
         }
-        head = head_behind(item, at as u16, head);
+        head = head_behind(found.item, at as u16, head);
         at = found.next;
     }
-    SpotFound::Nothing
+    None
 }
 
 // The answer that an item stands there, and where the next one begins.
-fn stands(item: Item, next: usize) -> Standing
+fn stands(item: Item, next: usize) -> Option<FoundItem>
     ensures { view_standing result ≡ some (record { item = view_item item; next = next }) }
 {
-    Standing::Item(FoundItem { item, next })
+    Some(FoundItem { item, next })
 }
 
 // The item answer at a word where an item begins. A Sample or a Bin is told by the range of its word, a case of the cursor's law: entries are of
 // little else, and are judged one by one.
-pub(crate) fn item_noted(f: &[u8], at: usize) -> Standing
+pub(crate) fn item_noted(f: &[u8], at: usize) -> Option<FoundItem>
     requires { Noted f.now at }
     ensures { view_standing result ≡ shown_by (standing_at f.now at) }
 {
@@ -197,12 +191,10 @@ pub(crate) fn note_heads(f: &[u8], map: &mut [u16])
             at += 1;
             continue;
         }
-        let standing = item_at(f, at);
-        let Standing::Item(found) = standing else {
+        let Some(found) = item_at(f, at) else {
             return;
         };
-        let item = found.item;
-        head = head_behind(item, at as u16, head);
+        head = head_behind(found.item, at as u16, head);
         map[at] = head;
         at = found.next;
     }

@@ -6,20 +6,18 @@ ghost use Rattle.format.specs.Spots.{legal_value};
 ghost use Rattle.records.specs.Stored.{stored, Inside};
 ghost use Rattle.records.specs.Promises.{MayHold, WordPut, ValuePut};
 
-use crate::answers::Spot;
+use crate::answers::SpotKind;
 use book::items::{Bin, Sample};
 
 // An item of the kind may hold the value: a sample of at most 4,095, a bin's count of at least 1.
 pub fn legal(kind: u16, value: u32) -> bool
     ensures { MayHold kind value result }
 {
-    if kind == Spot::SAMPLE {
-        return value <= Sample::LAST as u32;
+    match SpotKind::try_from(kind) {
+        Ok(SpotKind::Sample) => value <= Sample::LAST as u32,
+        Ok(SpotKind::Bin) => Bin::LEAST_COUNT <= value,
+        Err(_) => false,
     }
-    if kind == Spot::BIN {
-        return Bin::LEAST_COUNT <= value;
-    }
-    false
 }
 
 // Stores a word at byte `at`, low byte first, where there is room.
@@ -59,7 +57,7 @@ fn put_legal(f: &mut [u8], kind: u16, w: usize, value: u32)
     requires { (2 * w ≤ length f.old) × (legal_value kind value ≡ true) }
     ensures { f.new ≡ stored f.old kind w value }
 {
-    if kind == Spot::SAMPLE {
+    if kind == SpotKind::Sample as u16 {
         let x = Sample {
             value: value as u16,
         };
@@ -74,7 +72,7 @@ pub(crate) fn put_in(f: &mut [u8], kind: u16, w: usize, value: u32)
     requires { Inside kind w f.old × (legal_value kind value ≡ true) }
     ensures { f.new ≡ stored f.old kind w value }
 {
-    if kind == Spot::SAMPLE {
+    if kind == SpotKind::Sample as u16 {
         let x = Sample {
             value: value as u16,
         };
