@@ -4,27 +4,26 @@
 #![tactic(auto)]
 
 ghost use Rattle.std.specs.Prelude.{◌≡◌};
-ghost use Rattle.follower.specs.Follow.{accepted, follow};
+ghost use Rattle.follower.specs.Follow.{accepted};
 ghost use Rattle.follower.specs.Paper.{state_of};
-ghost use Rattle.rules.specs.Views.{view_kind, view_marks};
+ghost use Rattle.rules.specs.Views.{view_marks};
 ghost use Rattle.frame.specs.Views.{view_frame};
-ghost use Rattle.runs.specs.Assembly.{is_data};
 ghost use Rattle.runs.specs.Marked.{linking_by, Reach};
 ghost use Rattle.assembler.specs.Views.{view_assembler, view_taken};
 ghost use Rattle.assembler.specs.Promises.{Unused, GivenUp, TakenAs};
 
 use crate::links::linked;
 use crate::opens::open_after;
-use book::refusal::Refusal;
+use book::refusal::{Fault, Refusal};
 use follower::{Followed, Follower};
-use frame::reading::{Frame, Reading, read};
+use frame::reading::{Frame, read};
 use rules::state::Kind;
 
 mod links;
 mod opens;
 
 // An event that is open. Any numbers are taken, and mean what `take` leaves in them.
-#[derive(Clone, Copy)]
+#[derive(Clone, Copy, Debug, PartialEq, Eq)]
 pub struct OpenEvent {
     pub number: u32,
     // Its bytes so far, of all parts, Continue items included.
@@ -41,27 +40,20 @@ impl OpenEvent {
     pub const NO_ITEMS: usize = 8;
 }
 
-// The event that is open, or none.
-#[derive(Clone, Copy)]
-pub enum Current {
-    Nothing,
-    Open(OpenEvent),
-}
-
 // It goes in and comes out by value, so on a refusal the caller's own copy stays as it was, its follower too. A card above 31 has no frame.
-#[derive(Clone, Copy)]
+#[derive(Clone, Copy, Debug, PartialEq, Eq)]
 pub struct Assembler {
     pub card: u16,
     pub follower: Follower,
-    pub event: Current,
+    // The event that is open, if one is.
+    pub event: Option<OpenEvent>,
 }
 
-// The answer to one frame.
-#[derive(Clone, Copy)]
-pub enum Taken {
-    // How many frames were lost before this one, and the assembler from here on.
-    Accepted { lost: u8, next: Assembler },
-    Refused(Refusal),
+// The answer to one frame that is accepted: how many frames were lost before this one, and the assembler from here on.
+#[derive(Clone, Copy, Debug, PartialEq, Eq)]
+pub struct Taken {
+    pub lost: u8,
+    pub next: Assembler,
 }
 
 impl Assembler {
@@ -69,12 +61,10 @@ impl Assembler {
     pub fn new(card: u16) -> Assembler
         ensures { Unused card result }
     {
-        let follower = Follower::new();
-        let event = Current::Nothing;
         Assembler {
             card,
-            follower,
-            event,
+            follower: Follower::new(),
+            event: None,
         }
     }
 
@@ -82,73 +72,36 @@ impl Assembler {
     pub fn give_up(self) -> Assembler
         ensures { GivenUp self result }
     {
-        let follower = self.follower;
-        let event = Current::Nothing;
         Assembler {
-            card: self.card,
-            follower,
-            event,
+            event: None,
+            ..self
         }
     }
 
     // The next frame. Refuses as `read` does, then by 14 as the follower does, then by 15 at 0 a frame that is no data frame, is of another card or
     // does not link to what is open.
-    pub fn take(self, frame: &[u8]) -> Taken
+    pub fn take(self, frame: &[u8]) -> Result<Taken, Refusal>
         ensures { TakenAs self frame.now result }
     {
-        let reading = read(frame);
-        match reading {
-            Reading::Refused(r) => Taken::Refused(r),
-            Reading::Accepted(f) => followed(self, frame, f),
-        }
+        let f = read(frame)?;
+        let followed = self.follower.follow(f.sequence)?;
+        linking(self, frame, f, followed)
     }
 }
 
-// The frame's sequence word is followed first.
-fn followed(a: Assembler, s: &[u8], f: Frame) -> Taken
+// The frame links to what is open, or does not.
+fn linking(a: Assembler, s: &[u8], f: Frame, followed: Followed) -> Result<Taken, Refusal>
     requires { Reach s.now (view_marks f.state.marks) }
-    ensures { view_taken result ≡ linking_by (view_assembler a) s.now (view_frame f) (follow (state_of a.follower) f.sequence) }
+    ensures { view_taken result ≡ linking_by (view_assembler a) s.now (view_frame f) (accepted followed.lost (state_of followed.next)) }
 {
-    let follower = a.follower;
-    let answer = follower.follow(f.sequence);
-    match answer {
-        Followed::Refused { number, place } => Taken::Refused(Refusal { number, place }),
-        Followed::Accepted { lost, next } => linking(a, s, f, lost, next),
-    }
-}
-
-// Then it links to what is open, or does not.
-fn linking(a: Assembler, s: &[u8], f: Frame, lost: u8, next: Follower) -> Taken
-    requires { Reach s.now (view_marks f.state.marks) }
-    ensures { view_taken result ≡ linking_by (view_assembler a) s.now (view_frame f) (accepted lost (state_of next)) }
-{
-    let kind = f.kind;
-    let card = a.card;
-    let told = f.card;
-    let state = f.state;
-    let event = a.event;
-    let marks = state.marks;
-    if is_data(kind) & (told == card) & linked(event, lost, s, marks) {
-        let open = open_after(event, s, state);
-        let after = Assembler {
-            card,
-            follower: next,
-            event: open,
+    let lost = followed.lost;
+    if (f.kind == Kind::Data) & (f.card == a.card) & linked(a.event, lost, s, f.state.marks) {
+        let next = Assembler {
+            card: a.card,
+            follower: followed.next,
+            event: open_after(a.event, s, f.state),
         };
-        return Taken::Accepted { lost, next: after };
+        return Ok(Taken { lost, next });
     }
-    Taken::Refused(Refusal {
-        number: Refusal::LINK,
-        place: 0,
-    })
-}
-
-fn is_data(kind: Kind) -> bool
-    ensures { result ≡ is_data (view_kind kind) }
-{
-    match kind {
-        Kind::Data => true,
-        Kind::Monitor => false,
-        Kind::Command => false,
-    }
+    Err(Fault::Link.into())
 }

@@ -4,7 +4,7 @@ ghost use Rattle.rules.specs.Views.{view_marks};
 ghost use Rattle.runs.specs.Marked.{continues_at, rises_by, size_by, goes_on_by, linked_by, Reach};
 ghost use Rattle.assembler.specs.Views.{view_open, view_current};
 
-use crate::{Current, OpenEvent};
+use crate::OpenEvent;
 use book::items::ContinueEvent;
 use book::words::{long, word};
 use rules::state::Marks;
@@ -46,12 +46,12 @@ fn goes_on(o: OpenEvent, lost: u8, s: &[u8], marks: Marks) -> bool
     (lost == 0) & continues(s) & (o.number == long(s, 4)) & rising & sizes
 }
 
-pub(crate) fn linked(event: Current, lost: u8, s: &[u8], marks: Marks) -> bool
+pub(crate) fn linked(event: Option<OpenEvent>, lost: u8, s: &[u8], marks: Marks) -> bool
     requires { Reach s.now (view_marks marks) }
     ensures { result ≡ linked_by (view_current event) lost s.now (view_marks marks) }
 {
     match event {
-        Current::Nothing => !continues(s),
-        Current::Open(o) => goes_on(o, lost, s, marks),
+        None => !continues(s),
+        Some(o) => goes_on(o, lost, s, marks),
     }
 }

@@ -1,5 +1,6 @@
 -- What the scans over an accepted frame find: for the functions that only this crate calls. Words are counted from the frame's first.
 -- Assumes nothing.
+use Rattle.std.specs.Prelude as found
 use Rattle.std.specs.Prelude.{ℕ, ◌+◌, ◌%◌, ◌<◌, ◌≡◌, List, [], ◌∷◌, Bool, true, false, ◌&&◌, eqb, length}
 use Rattle.std.proofs.Math.Option.{Option, none, some}
 use Rattle.format.specs.Words.{pick, word_at, time_at, long_at}
@@ -10,8 +11,8 @@ use Rattle.format.specs.Rules.{Kind, data_kind, same, gather}
 use Rattle.format.specs.Frames.{earlier_then}
 use Rattle.format.specs.Cursor.{items_from, On}
 use Rattle.format.specs.Questions.{Event, Opened, end_size, head_of, events, pick_nth, present, done, until, past_at, is_channel, is_histogram, channel_at, sample_word, bin_word}
-use Rattle.questions.specs.declared.answers.Place.{Place}
-use Rattle.questions.specs.declared.answers.Place.TheVariants as place
+use Rattle.book.specs.Views.{view_option}
+use Rattle.questions.specs.Views.{itself}
 
 -- the cursor stands at word `at` of an accepted frame of the kind
 pub record Amid (s : List ℕ) (kind : Kind) (at : ℕ) : Type 0 where
@@ -98,9 +99,9 @@ pub record EventAt (s : List ℕ) (e q : ℕ) : Type 0 where
   pub picked : pick_nth e (events 3 (items_from s 3)) ≡ some (opened_at s q)
   pub amid : Amid s data_kind (inside_at s q)
 
-abbrev pub EventSought : List ℕ → ℕ → Place → Type 0
-EventSought s e (place.At q) = EventAt s e q
-EventSought s e place.Nothing = pick_nth e (events 3 (items_from s 3)) ≡ none
+abbrev pub EventSought : List ℕ → ℕ → found.Option ℕ → Type 0
+EventSought s e (found.Some q) = EventAt s e q
+EventSought s e found.None = pick_nth e (events 3 (items_from s 3)) ≡ none
 
 -- what event e of some items answers
 abbrev pub event_in : List Item → ℕ → Outcome Event
@@ -124,31 +125,30 @@ pub record ChannelAt (s : List ℕ) (from chip c q : ℕ) : Type 0 where
   pub passed : past_at (is_channel chip c) from (until end_event (items_from s from)) ≡ some (record { index = q; items = until end_event (items_from s q) })
   pub headed : Headed s q
 
-abbrev pub ChannelSought : List ℕ → ℕ → ℕ → ℕ → Place → Type 0
-ChannelSought s from chip c (place.At q) = ChannelAt s from chip c q
-ChannelSought s from chip c place.Nothing = past_at (is_channel chip c) from (until end_event (items_from s from)) ≡ none
+abbrev pub ChannelSought : List ℕ → ℕ → ℕ → ℕ → found.Option ℕ → Type 0
+ChannelSought s from chip c (found.Some q) = ChannelAt s from chip c q
+ChannelSought s from chip c found.None = past_at (is_channel chip c) from (until end_event (items_from s from)) ≡ none
 
 -- of event e of a frame's items
 pub record ChannelFound (s : List ℕ) (e chip c q : ℕ) : Type 0 where
   pub found : channel_at e chip c (items_from s 3) ≡ accepted (record { index = q; items = until end_event (items_from s q) })
   pub headed : Headed s q
 
-abbrev pub SamplesSought : List ℕ → ℕ → ℕ → ℕ → Place → Type 0
-SamplesSought s e chip c (place.At q) = ChannelFound s e chip c q
-SamplesSought s e chip c place.Nothing = channel_at e chip c (items_from s 3) ≡ refused 13 0
+abbrev pub SamplesSought : List ℕ → ℕ → ℕ → ℕ → found.Option ℕ → Type 0
+SamplesSought s e chip c (found.Some q) = ChannelFound s e chip c q
+SamplesSought s e chip c found.None = channel_at e chip c (items_from s 3) ≡ refused 13 0
 
 pub record HistogramAt (s : List ℕ) (chip c q : ℕ) : Type 0 where
   pub passed : past_at (is_histogram chip c) 3 (items_from s 3) ≡ some (record { index = q; items = items_from s q })
   pub on : On s q
 
-abbrev pub HistogramSought : List ℕ → ℕ → ℕ → Place → Type 0
-HistogramSought s chip c (place.At q) = HistogramAt s chip c q
-HistogramSought s chip c place.Nothing = past_at (is_histogram chip c) 3 (items_from s 3) ≡ none
+abbrev pub HistogramSought : List ℕ → ℕ → ℕ → found.Option ℕ → Type 0
+HistogramSought s chip c (found.Some q) = HistogramAt s chip c q
+HistogramSought s chip c found.None = past_at (is_histogram chip c) 3 (items_from s 3) ≡ none
 
 -- a place as the definitions have it
-abbrev pub place_of : Place → Option ℕ
-place_of (place.At q) = some q
-place_of place.Nothing = none
+abbrev pub place_of : found.Option ℕ → Option ℕ
+place_of = view_option itself
 
 -- the word of a sample, and of a bin, of a frame's items
 abbrev pub sample_word_in : List Item → ℕ → ℕ → ℕ → ℕ → Outcome ℕ

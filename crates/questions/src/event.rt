@@ -9,33 +9,31 @@ ghost use Rattle.format.specs.Cursor.{items_from};
 ghost use Rattle.questions.specs.Sought.{Amid, started_at, continued_at, opened_at, inside_at, EventSought, event_in};
 ghost use Rattle.questions.specs.Promises.{EventAnswered};
 
-use crate::answers::{Began, Event, EventFound, Place};
+use crate::answers::{Beginning, Event};
 use crate::scan::{end_size, seek_event};
 use book::class::{Class, classify};
 use book::items::StartEvent;
-use book::refusal::Refusal;
+use book::refusal::{Fault, Refusal};
 use book::words::{long, time, word};
-use frame::reading::{Reading, read};
+use frame::reading::read;
 use rules::state::Kind;
 
 // Where event e begins: only a data frame has events.
-pub(crate) fn find_event(s: &[u8], kind: Kind, e: usize) -> Place
+pub(crate) fn find_event(s: &[u8], kind: Kind, e: usize) -> Option<usize>
     requires { Amid s.now (view_kind kind) 3 }
     ensures { EventSought s.now e result }
 {
-    match kind {
-        Kind::Data => seek_event(s, e),
-        Kind::Monitor => Place::Nothing,
-        Kind::Command => Place::Nothing,
+    if kind != Kind::Data {
+        return None;
     }
+    seek_event(s, e)
 }
 
 // The word is a Continue event's: the event began in another frame.
 fn is_continued(w: u16) -> bool
     ensures { result ≡ same (class_of w) continue_event }
 {
-    let class = classify(w);
-    class.row() == Class::ROW_CONTINUE_EVENT
+    classify(w) == Class::ContinueEvent
 }
 
 // The index behind the item that opens the event: a Continue event has three words, a Start event six.
@@ -55,15 +53,13 @@ fn started_at(s: &[u8], at: usize, w: u16) -> Event
     requires { (at < length s.now) × (w ≡ word_at s.now at) × Amid s.now data_kind (at + 6) }
     ensures { event_of result ≡ (started_at s.now at).event }
 {
-    let kind = StartEvent::of_word(w);
-    let timestamp = time(s, at + 1);
-    let number = long(s, at + 4);
-    let ended = end_size(s, at + 6);
-    let began = Began::Here { kind, timestamp };
     Event {
-        began,
-        number,
-        ended,
+        began: Some(Beginning {
+            kind: StartEvent::of_word(w),
+            timestamp: time(s, at + 1),
+        }),
+        number: long(s, at + 4),
+        ended: end_size(s, at + 6),
         index: at,
     }
 }
@@ -73,13 +69,10 @@ fn continued_at(s: &[u8], at: usize) -> Event
     requires { (at < length s.now) × Amid s.now data_kind (at + 3) }
     ensures { event_of result ≡ (continued_at s.now at).event }
 {
-    let number = long(s, at + 1);
-    let ended = end_size(s, at + 3);
-    let began = Began::Elsewhere;
     Event {
-        began,
-        number,
-        ended,
+        began: None,
+        number: long(s, at + 1),
+        ended: end_size(s, at + 3),
         index: at,
     }
 }
@@ -97,32 +90,20 @@ fn event_at(s: &[u8], at: usize) -> Event
 }
 
 // Event e of a frame's items.
-fn event_in(s: &[u8], kind: Kind, e: usize) -> EventFound
+fn event_in(s: &[u8], kind: Kind, e: usize) -> Result<Event, Refusal>
     requires { Amid s.now (view_kind kind) 3 }
     ensures { view_event result ≡ event_in (items_from s.now 3) e }
 {
-    let place = find_event(s, kind, e);
-    match place {
-        Place::At(at) => EventFound::Event(event_at(s, at)),
-        Place::Nothing => EventFound::Refused(Refusal {
-            number: Refusal::ABSENT,
-            place: 0,
-        }),
-    }
+    let at = find_event(s, kind, e).ok_or(Fault::Absent)?;
+    Ok(event_at(s, at))
 }
 
 // Event e, from 0, of a frame: its type, timestamp, number, size and the index of its Start event word. A part that a Continue event opens is
-// event 0, by the index of that word; what stands in another frame is told to be elsewhere. Refuses as `read` does, then 13 where there is no
+// event 0, by the index of that word; what stands in another frame is missing. Refuses as `read` does, then 13 where there is no
 // such event.
-pub fn event(s: &[u8], e: usize) -> EventFound
+pub fn event(s: &[u8], e: usize) -> Result<Event, Refusal>
     ensures { EventAnswered s.now e result }
 {
-    let reading = read(s);
-    match reading {
-        Reading::Refused(r) => EventFound::Refused(r),
-        Reading::Accepted(frame) => {
-            let kind = frame.kind;
-            event_in(s, kind, e)
-        }
-    }
+    let frame = read(s)?;
+    event_in(s, frame.kind, e)
 }

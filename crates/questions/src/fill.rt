@@ -22,11 +22,7 @@ pub(crate) fn clear_counts(out: &mut [u32])
     requires { 4096 ≤ length out.old }
     ensures { out.new ≡ cleared 4096 0 out.old }
 {
-    let mut i: usize = 0;
-    while i < COUNTS {
-        out[i] = 0;
-        i += 1;
-    }
+    out[..COUNTS].fill(0);
 }
 
 // The counts of the Bins from here on, up to an item that is none.
@@ -52,11 +48,7 @@ pub(crate) fn clear_samples(out: &mut [u16])
     requires { 512 ≤ length out.old }
     ensures { out.new ≡ cleared 512 0xFFFF out.old }
 {
-    let mut i: usize = 0;
-    while i < SAMPLES {
-        out[i] = BLANK;
-        i += 1;
-    }
+    out[..SAMPLES].fill(BLANK);
 }
 
 // The Samples from here on, each at its time, up to an item that is neither a Sample nor a Time bin.

@@ -9,11 +9,10 @@ ghost use Rattle.book.specs.Views.{view_item};
 ghost use Rattle.questions.specs.Views.{view_ended};
 ghost use Rattle.questions.specs.Sought.{Amid, opens_event, ends_event, is_header, EventSought, ChannelSought, HistogramSought};
 
-use crate::answers::{Ended, Place};
 use book::class::Class;
 use book::items::{Channel, Histogram, Item};
 use book::words::long;
-use cursor::standing::{Standing, item_at};
+use cursor::item_at;
 
 // The index of a frame's first item.
 pub(crate) const FIRST: usize = 3;
@@ -48,37 +47,13 @@ pub(crate) fn long_in(s: &[u8], i: usize) -> u32
 fn is_opener(item: Item) -> bool
     ensures { result ≡ opens_event (view_item item) }
 {
-    match item {
-        Item::Channel(_) => false,
-        Item::Histogram(_) => false,
-        Item::HitCount(_) => false,
-        Item::Sample(_) => false,
-        Item::Bin(_) => false,
-        Item::LastCell(_) => false,
-        Item::TimeBin(_) => false,
-        Item::Text(_) => false,
-        Item::StartEvent(_) => true,
-        Item::EndEvent(_) => false,
-        Item::ContinueEvent(_) => true,
-    }
+    matches!(item, Item::StartEvent(_) | Item::ContinueEvent(_))
 }
 
 fn is_end(item: Item) -> bool
     ensures { result ≡ ends_event (view_item item) }
 {
-    match item {
-        Item::Channel(_) => false,
-        Item::Histogram(_) => false,
-        Item::HitCount(_) => false,
-        Item::Sample(_) => false,
-        Item::Bin(_) => false,
-        Item::LastCell(_) => false,
-        Item::TimeBin(_) => false,
-        Item::Text(_) => false,
-        Item::StartEvent(_) => false,
-        Item::EndEvent(_) => true,
-        Item::ContinueEvent(_) => false,
-    }
+    matches!(item, Item::EndEvent(_))
 }
 
 // A Channel or a Histogram header of the chip and the channel. No frame has both.
@@ -88,20 +63,12 @@ fn is_header(item: Item, chip: u16, channel: u16) -> bool
     match item {
         Item::Channel(x) => (x.chip == chip) & (x.channel == channel),
         Item::Histogram(x) => (x.chip == chip) & (x.channel == channel),
-        Item::HitCount(_) => false,
-        Item::Sample(_) => false,
-        Item::Bin(_) => false,
-        Item::LastCell(_) => false,
-        Item::TimeBin(_) => false,
-        Item::Text(_) => false,
-        Item::StartEvent(_) => false,
-        Item::EndEvent(_) => false,
-        Item::ContinueEvent(_) => false,
+        _ => false,
     }
 }
 
 // Where event e of a data frame begins. From a Time bin's first word on, its items are of one word and begin or end no event.
-pub(crate) fn seek_event(s: &[u8], e: usize) -> Place
+pub(crate) fn seek_event(s: &[u8], e: usize) -> Option<usize>
     requires { Amid s.now data_kind 3 }
     ensures { EventSought s.now e result }
 {
@@ -114,30 +81,22 @@ pub(crate) fn seek_event(s: &[u8], e: usize) -> Place
             at += 1;
             continue;
         }
-        let standing = item_at(s, at);
-        match standing {
-            Standing::Item(x) => {
-                let item = x.item;
-                if is_opener(item) {
-                    if left == 0 {
-                        return Place::At(at);
-                    }
-                    left -= 1;
-                    at = x.next;
-                    continue;
-                }
-                at = x.next;
+        let x = item_at(s, at)?;
+        if is_opener(x.item) {
+            if left == 0 {
+                return Some(at);
             }
-            Standing::Nothing => {
-                return Place::Nothing;
-            }
+            left -= 1;
+            at = x.next;
+            continue;
         }
+        at = x.next;
     }
-    Place::Nothing
+    None
 }
 
 // The size that the first End event from here on gives, if there is one.
-pub(crate) fn end_size(s: &[u8], from: usize) -> Ended
+pub(crate) fn end_size(s: &[u8], from: usize) -> Option<u32>
     requires { Amid s.now data_kind from }
     ensures { view_ended result ≡ head_of (gather end_size (items_from s.now from)) }
 {
@@ -149,26 +108,17 @@ pub(crate) fn end_size(s: &[u8], from: usize) -> Ended
             at += 1;
             continue;
         }
-        let standing = item_at(s, at);
-        match standing {
-            Standing::Item(x) => {
-                let item = x.item;
-                if is_end(item) {
-                    let size = long(s, at + 1);
-                    return Ended::Here { size };
-                }
-                at = x.next;
-            }
-            Standing::Nothing => {
-                return Ended::Elsewhere;
-            }
+        let x = item_at(s, at)?;
+        if is_end(x.item) {
+            return Some(long(s, at + 1));
         }
+        at = x.next;
     }
-    Ended::Elsewhere
+    None
 }
 
 // Where the items behind a Channel header begin, of those before the first End event from here on.
-pub(crate) fn seek_channel(s: &[u8], from: usize, chip: u16, channel: u16) -> Place
+pub(crate) fn seek_channel(s: &[u8], from: usize, chip: u16, channel: u16) -> Option<usize>
     requires { Amid s.now data_kind from }
     ensures { ChannelSought s.now from chip channel result }
 {
@@ -183,33 +133,25 @@ pub(crate) fn seek_channel(s: &[u8], from: usize, chip: u16, channel: u16) -> Pl
         if Class::CHANNEL <= w {
             let x = Channel::of_word(w);
             if (x.chip == chip) & (x.channel == channel) {
-                return Place::At(at + 1);
+                return Some(at + 1);
             }
             at += 1;
             continue;
         }
-        let standing = item_at(s, at);
-        match standing {
-            Standing::Item(x) => {
-                let item = x.item;
-                if is_end(item) {
-                    return Place::Nothing;
-                }
-                if is_header(item, chip, channel) {
-                    return Place::At(x.next);
-                }
-                at = x.next;
-            }
-            Standing::Nothing => {
-                return Place::Nothing;
-            }
+        let x = item_at(s, at)?;
+        if is_end(x.item) {
+            return None;
         }
+        if is_header(x.item, chip, channel) {
+            return Some(x.next);
+        }
+        at = x.next;
     }
-    Place::Nothing
+    None
 }
 
 // Where the items behind a Histogram header begin, of a monitor frame's items. No Channel stands in such a frame, nor Samples and Hit counts.
-pub(crate) fn seek_histogram(s: &[u8], chip: u16, channel: u16) -> Place
+pub(crate) fn seek_histogram(s: &[u8], chip: u16, channel: u16) -> Option<usize>
     requires { Amid s.now monitor_kind 3 }
     ensures { HistogramSought s.now chip channel result }
 {
@@ -224,24 +166,16 @@ pub(crate) fn seek_histogram(s: &[u8], chip: u16, channel: u16) -> Place
         if Class::HISTOGRAM <= w {
             let x = Histogram::of_word(w);
             if (x.chip == chip) & (x.channel == channel) {
-                return Place::At(at + 1);
+                return Some(at + 1);
             }
             at += 1;
             continue;
         }
-        let standing = item_at(s, at);
-        match standing {
-            Standing::Item(x) => {
-                let item = x.item;
-                if is_header(item, chip, channel) {
-                    return Place::At(x.next);
-                }
-                at = x.next;
-            }
-            Standing::Nothing => {
-                return Place::Nothing;
-            }
+        let x = item_at(s, at)?;
+        if is_header(x.item, chip, channel) {
+            return Some(x.next);
         }
+        at = x.next;
     }
-    Place::Nothing
+    None
 }

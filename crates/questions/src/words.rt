@@ -7,18 +7,17 @@ ghost use Rattle.questions.specs.Views.{view_word};
 ghost use Rattle.questions.specs.Sought.{Amid, place_of, sample_word_in, bin_word_in};
 ghost use Rattle.questions.specs.Promises.{SampleWordAnswered, BinWordAnswered};
 
-use crate::answers::{Place, WordFound};
 use crate::counts::find_histogram;
 use crate::samples::find_channel;
 use crate::scan::word_in;
 use book::class::Class;
 use book::items::{Bin, TimeBin};
-use book::refusal::Refusal;
-use frame::reading::{Reading, read};
+use book::refusal::{Fault, Refusal};
+use frame::reading::read;
 use rules::state::Kind;
 
 // Where the Sample at a time stands, of the Samples and Time bins from here on.
-fn seek_sample(s: &[u8], from: usize, time: usize) -> Place
+fn seek_sample(s: &[u8], from: usize, time: usize) -> Option<usize>
     requires { On s.now from }
     ensures { place_of result ≡ sample_word time 0 from (items_from s.now from) }
 {
@@ -29,23 +28,23 @@ fn seek_sample(s: &[u8], from: usize, time: usize) -> Place
         let w = word_in(s, at);
         if w >> 12 == Class::SAMPLE >> 12 {
             if next == time {
-                return Place::At(at);
+                return Some(at);
             }
             next += 1;
             at += 1;
             continue;
         }
         if w >> 9 != Class::TIME_BIN >> 9 {
-            return Place::Nothing;
+            return None;
         }
         next = TimeBin::of_word(w).time as usize;
         at += 1;
     }
-    Place::Nothing
+    None
 }
 
 // Where the Bin of a number stands, of the Bins from here on.
-fn seek_bin(s: &[u8], from: usize, bin: u16) -> Place
+fn seek_bin(s: &[u8], from: usize, bin: u16) -> Option<usize>
     requires { On s.now from }
     ensures { place_of result ≡ bin_word bin from (items_from s.now from) }
 {
@@ -54,81 +53,50 @@ fn seek_bin(s: &[u8], from: usize, bin: u16) -> Place
     while at < last {
         let w = word_in(s, at);
         if w >> 12 != Class::BIN >> 12 {
-            return Place::Nothing;
+            return None;
         }
         if Bin::of_word(w) == bin {
-            return Place::At(at);
+            return Some(at);
         }
         at += 3;
     }
-    Place::Nothing
+    None
 }
 
 // Behind the header of a channel in event e.
-fn find_sample(s: &[u8], kind: Kind, e: usize, chip: u16, channel: u16, time: u16) -> Place
+fn find_sample(s: &[u8], kind: Kind, e: usize, chip: u16, channel: u16, time: u16) -> Option<usize>
     requires { Amid s.now (view_kind kind) 3 }
     ensures { present (place_of result) ≡ sample_word_in (items_from s.now 3) e chip channel time }
 {
-    let place = find_channel(s, kind, e, chip, channel);
-    match place {
-        Place::At(at) => seek_sample(s, at, time as usize),
-        Place::Nothing => Place::Nothing,
-    }
+    let at = find_channel(s, kind, e, chip, channel)?;
+    seek_sample(s, at, time as usize)
 }
 
 // Behind the header of a histogram.
-fn find_bin(s: &[u8], kind: Kind, chip: u16, channel: u16, bin: u16) -> Place
+fn find_bin(s: &[u8], kind: Kind, chip: u16, channel: u16, bin: u16) -> Option<usize>
     requires { Amid s.now (view_kind kind) 3 }
     ensures { present (place_of result) ≡ bin_word_in (items_from s.now 3) chip channel bin }
 {
-    let place = find_histogram(s, kind, chip, channel);
-    match place {
-        Place::At(at) => seek_bin(s, at, bin),
-        Place::Nothing => Place::Nothing,
-    }
-}
-
-// What was found, or 13.
-fn word_at(place: Place) -> WordFound
-    ensures { view_word result ≡ present (place_of place) }
-{
-    match place {
-        Place::At(at) => WordFound::Word(at),
-        Place::Nothing => WordFound::Refused(Refusal {
-            number: Refusal::ABSENT,
-            place: 0,
-        }),
-    }
+    let at = find_histogram(s, kind, chip, channel)?;
+    seek_bin(s, at, bin)
 }
 
 // The word index of the Sample at a time, of event e, from 0, and of a chip and a channel. Refuses as `read` does, then 13 where there is no such
 // event, no such channel in it, or no sample at that time.
-pub fn sample_word(s: &[u8], e: usize, chip: u16, channel: u16, time: u16) -> WordFound
+pub fn sample_word(s: &[u8], e: usize, chip: u16, channel: u16, time: u16) -> Result<usize, Refusal>
     ensures { SampleWordAnswered s.now e chip channel time result }
 {
-    let reading = read(s);
-    match reading {
-        Reading::Refused(r) => WordFound::Refused(r),
-        Reading::Accepted(frame) => {
-            let kind = frame.kind;
-            let place = find_sample(s, kind, e, chip, channel, time);
-            word_at(place)
-        }
-    }
+    let frame = read(s)?;
+    let at = find_sample(s, frame.kind, e, chip, channel, time).ok_or(Fault::Absent)?;
+    Ok(at)
 }
 
 // The word index of the Bin of a number, of the histogram of a chip and a channel. Refuses as `read` does, then 13 where there is no such histogram
 // or no such bin in it.
-pub fn bin_word(s: &[u8], chip: u16, channel: u16, bin: u16) -> WordFound
+pub fn bin_word(s: &[u8], chip: u16, channel: u16, bin: u16) -> Result<usize, Refusal>
     ensures { BinWordAnswered s.now chip channel bin result }
 {
-    let reading = read(s);
-    match reading {
-        Reading::Refused(r) => WordFound::Refused(r),
-        Reading::Accepted(frame) => {
-            let kind = frame.kind;
-            let place = find_bin(s, kind, chip, channel, bin);
-            word_at(place)
-        }
-    }
+    let frame = read(s)?;
+    let at = find_bin(s, frame.kind, chip, channel, bin).ok_or(Fault::Absent)?;
+    Ok(at)
 }
