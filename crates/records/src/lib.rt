@@ -43,16 +43,16 @@ fn judge_history_in(
     frame: &[u8],
     b: &[u8],
     version: u16,
-    record: Record,
+    x: Record,
     w: usize,
 ) -> Result<Judged, Refusal>
-    requires { Framed (format_for version) frame.now b.now record.count × (length frame.now ≤ length scratch.old) × (4096 ≤ length map.old) × ((i : ℕ) → get_or map.old i 0 ≡ 0) }
+    requires { Framed (format_for version) frame.now b.now x.count × (length frame.now ≤ length scratch.old) × (4096 ≤ length map.old) × ((i : ℕ) → get_or map.old i 0 ≡ 0) }
     ensures { view_judged result ≡ history_judged (format_for version) frame.now b.now (summary_of x) w }
 {
     let len = frame.len();
-    unwind(&mut scratch[..len], map, frame, b, version, record.count)?;
+    unwind(&mut scratch[..len], map, frame, b, version, x.count)?;
     let spot = spot_noted(frame, map, w);
-    Ok(Judged { record, spot })
+    Ok(Judged { record: x, spot })
 }
 
 // The most words of a frame.
@@ -63,15 +63,15 @@ fn judge_history(
     frame: &[u8],
     b: &[u8],
     version: u16,
-    record: Record,
+    x: Record,
     w: usize,
 ) -> Result<Judged, Refusal>
-    requires { Framed (format_for version) frame.now b.now record.count }
-    ensures { view_judged result ≡ history_judged (format_for version) frame.now b.now (summary_of record) w }
+    requires { Framed (format_for version) frame.now b.now x.count }
+    ensures { view_judged result ≡ history_judged (format_for version) frame.now b.now (summary_of x) w }
 {
     let mut map = [0u16; WORDS];
     let mut scratch = [0u8; MOST];
-    judge_history_in(&mut map, &mut scratch, frame, b, version, record, w)
+    judge_history_in(&mut map, &mut scratch, frame, b, version, x, w)
 }
 
 // The header and the frame of a record: refused, or its lengths and its entry count, with no entry tested. Both versions are judged here: the version
