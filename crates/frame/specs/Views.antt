@@ -1,6 +1,6 @@
 -- What the answers of this crate say in document 01.
 -- Assumes nothing.
-use Rattle.std.specs.Prelude.{ℕ, List, Result, Ok, Err, Unit}
+use Rattle.std.specs.Prelude.{ℕ, List, Result, Ok, Err}
 use Rattle.format.specs.Words.{pick, word_at}
 use Rattle.format.specs.Rules as rules
 use Rattle.format.specs.Answers.{Outcome, accepted, refused}
