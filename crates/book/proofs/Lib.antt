@@ -2,5 +2,6 @@ pub mod front
 pub mod Bits
 pub mod Unique
 pub mod FieldLaws
+pub mod Headers
 pub mod PageLaws
 pub mod Once

@@ -1,8 +1,11 @@
 -- T39: no second result, function by function. Each theorem is over the promise that the function's contract names (specs/Promises.antt), so that
 -- a contract made weaker is refused here.
 -- Assumes nothing.
-use Prim.Native.Nat.{ℕ, ◌%◌}
-use mathlib.Core.Path.{◌≡◌, refl}
+use Prim.Native.Nat.{ℕ, ◌%◌, ◌≤◌}
+use mathlib.Core.Path.{◌≡◌, refl, sym, ap, ◌∙◌}
+use native.Mathlib.Omega.{arith}
+use lib.Bits.{bit_or}
+use Rattle.std.specs.Prelude.{Result, Ok, Err}
 use mathlib.Core.Bool.{Bool}
 use mathlib.Core.List.{List}
 use lib.Seq.{sets}
@@ -10,6 +13,8 @@ use Rattle.format.specs.Words.{word_at, long_at, time_at}
 use Rattle.format.specs.Book.{class_of, row_of, after, text_words}
 use Rattle.format.specs.Items.{in_range, key}
 use Rattle.book.specs.declared.class.Class.{Class}
+use Rattle.book.specs.declared.class.NoClass.{NoClass}
+use Rattle.book.specs.declared.items.Header.{Header}
 use Rattle.book.specs.Fields.{Channel, Histogram}
 use Rattle.book.specs.declared.items.HitCount.{HitCount}
 use Rattle.book.specs.declared.items.Sample.{Sample}
@@ -18,11 +23,14 @@ use Rattle.book.specs.declared.items.LastCell.{LastCell}
 use Rattle.book.specs.declared.items.TimeBin.{TimeBin}
 use Rattle.book.specs.declared.items.Text.{Text}
 use Rattle.book.specs.declared.items.StartEvent.{StartEvent}
-use Rattle.book.specs.Fields.{channel_of, histogram_of, hits_of, bin_of, cell_of, type_of, channel_word, histogram_word, hits_word, sample_word, bin_word, cell_word, time_bin_word, text_word, start_word, channel_item, histogram_item, hits_item, sample_item, bin_item, cell_item, time_item, start_item}
+use Rattle.book.specs.declared.refusal.Fault.{Fault}
+use Rattle.book.specs.declared.refusal.Refusal.{Refusal}
+use Rattle.book.specs.Refusals.{number_of, AtStart}
+use Rattle.book.specs.Fields.{header_of, header_bits_cut, channel_of, histogram_of, hits_of, bin_of, cell_of, type_of, channel_word, histogram_word, hits_word, sample_word, bin_word, cell_word, time_bin_word, text_word, start_word, channel_item, histogram_item, hits_item, sample_item, bin_item, cell_item, time_item, start_item}
 use Rattle.book.specs.Page.{on_page, book_page}
 use Rattle.book.specs.Views.{view}
-use Rattle.book.specs.Promises.{Classified, PageTold, ClassifiedOn, RowTold, TextLong, WordsAfter, KeyTold, ChannelRead, ChannelWord, ChannelValid, HistogramRead, HistogramWord, HistogramValid, HitCountRead, HitCountWord, HitCountValid, SampleRead, SampleWord, SampleValid, BinRead, BinWord, BinValid, LastCellRead, LastCellWord, LastCellValid, TimeBinRead, TimeBinWord, TimeBinValid, TextRead, TextWord, StartEventRead, StartEventWord, StartEventValid, EndEventLow, ContinueEventLow, WordRead, LongRead, TimeRead, Copied}
-use Rattle.book.proofs.Unique.{one, undone, same_class, equal_once}
+use Rattle.book.specs.Promises.{Classified, PageTold, ClassifiedOn, RowTold, ClassOf, HeaderRead, HeaderWord, HeaderValid, FaultNumbered, Placed, TextLong, WordsAfter, KeyTold, ChannelRead, ChannelWord, ChannelValid, HistogramRead, HistogramWord, HistogramValid, HitCountRead, HitCountWord, HitCountValid, SampleRead, SampleWord, SampleValid, BinRead, BinWord, BinValid, LastCellRead, LastCellWord, LastCellValid, TimeBinRead, TimeBinWord, TimeBinValid, TextRead, TextWord, StartEventRead, StartEventWord, StartEventValid, EndEventLow, ContinueEventLow, WordRead, LongRead, TimeRead, Copied}
+use Rattle.book.proofs.Unique.{one, undone, same_class, same_row, row_most, equal_once}
 
 -- ---- the class of a word, and the words that come after it
 
@@ -38,6 +46,13 @@ classify_on_once page w = one view same_class (on_page page w)
 pub row_once : (c : Class) (r q : ℕ) → RowTold c r → RowTold c q → r ≡ q
 row_once c = equal_once (row_of (view c))
 
+-- `Class::try_from`: a row is one class's, and no class has a row above 15
+pub class_of_row_once : (n : ℕ) (r q : Result Class NoClass) → ClassOf n r → ClassOf n q → r ≡ q
+class_of_row_once n (Ok c) (Ok d) e f = ap Ok (same_row c d (sym e ∙ f))
+class_of_row_once n (Ok c) (Err x) e f = absurd (omega (arith, row_most c))
+class_of_row_once n (Err x) (Ok c) e f = absurd (omega (arith, row_most c))
+class_of_row_once n (Err x) (Err y) e f = refl
+
 pub text_words_once : (w r q : ℕ) → TextLong w r → TextLong w q → r ≡ q
 text_words_once w = equal_once (text_words w)
 
@@ -48,6 +63,17 @@ words_after_once w = equal_once (after (class_of w) w)
 
 pub key_once : (card chip channel r q : ℕ) → KeyTold card chip channel r → KeyTold card chip channel q → r ≡ q
 key_once card chip channel = equal_once (key card chip channel)
+
+pub header_read_once : (prefix w : ℕ) (r q : Header prefix) → HeaderRead prefix w r → HeaderRead prefix w q → r ≡ q
+header_read_once prefix w = equal_once (header_of w)
+
+pub header_word_once : (prefix : ℕ) (x : Header prefix) (r q : ℕ) → HeaderWord prefix x r → HeaderWord prefix x q → r ≡ q
+header_word_once prefix x = equal_once (bit_or (header_bits_cut x.card x.chip x.channel) prefix)
+
+pub header_valid_once : (prefix : ℕ) (x : Header prefix) (card : ℕ) (r q : Bool) → HeaderValid prefix x card r → HeaderValid prefix x card q → r ≡ q
+header_valid_once prefix x card r q e f = e.0 ∙ sym f.0
+
+-- the same at the two prefixes, where the general promise is the one of the Channel (proofs/Headers.antt) and of the Histogram
 
 pub channel_read_once : (w : ℕ) (r q : Channel) → ChannelRead w r → ChannelRead w q → r ≡ q
 channel_read_once w = equal_once (channel_of w)
@@ -132,6 +158,18 @@ low_bits_once w = equal_once (w % 16)
 
 pub continue_low_once : (w r q : ℕ) → ContinueEventLow w r → ContinueEventLow w q → r ≡ q
 continue_low_once w = equal_once (w % 512)
+
+-- ---- refusals
+
+pub fault_number_once : (f : Fault) (r q : ℕ) → FaultNumbered f r → FaultNumbered f q → r ≡ q
+fault_number_once f = equal_once (number_of f)
+
+pub placed_once : (f : Fault) (place : ℕ) (r q : Refusal) → Placed f place r → Placed f place q → r ≡ q
+placed_once f place = equal_once (record { fault = f; place = place })
+
+-- `Refusal::from`
+pub at_start_once : (f : Fault) (r q : Refusal) → AtStart f r → AtStart f q → r ≡ q
+at_start_once f = equal_once (record { fault = f; place = 0 })
 
 -- ---- words in bytes; `copy` answers nothing, its promise is of the list that it leaves, whole
 

@@ -1,16 +1,25 @@
 -- T40: what an answer says on paper fixes the answer, since each view is injective; and why a promise then has one answer (Once.antt).
 -- Assumes nothing.
-use Prim.Native.Nat.{ℕ}
+use Prim.Native.Nat.{ℕ, ◌≤◌}
 use mathlib.Core.Path.{◌≡◌, refl, sym, ap, ◌∙◌}
-use Rattle.format.specs.Answers.{Outcome, refused}
+use mathlib.Core.List.{List, [], ◌∷◌}
+use native.Mathlib.Omega.{arith}
+use lib.ListN.{get_or}
+use Rattle.std.specs.Prelude.{Option, Some, None, Result, Ok, Err}
+use Rattle.std.proofs.Math.Option as paper_option
+use Rattle.format.specs.Answers.{Outcome, accepted, refused}
 use Rattle.format.specs.Book as paper
+use Rattle.format.specs.Book.{row_of}
 use Rattle.format.specs.Items as items
 use Rattle.book.specs.declared.class.Class.{Class}
 use Rattle.book.specs.declared.class.Class.TheVariants.{Channel, Histogram, HitCount, Sample, Bin, LastCell, TimeBin, DataFrame, MonitorFrame, CommandFrame, Text, StartEvent, ContinueEvent, EndEvent, FrameEnd, Unassigned}
 use Rattle.book.specs.declared.items.Item.{Item}
 use Rattle.book.specs.declared.items.Item.TheVariants as item
+use Rattle.book.specs.declared.refusal.Fault.{Fault}
+use Rattle.book.specs.declared.refusal.Fault.TheVariants as fault
 use Rattle.book.specs.declared.refusal.Refusal.{Refusal}
-use Rattle.book.specs.Views.{view, view_item, refusal}
+use Rattle.book.specs.Refusals.{number_of}
+use Rattle.book.specs.Views.{view, view_item, refusal, view_result, view_option}
 
 -- a contract that is an equation, seen through an injective view, has one answer
 pub one : {A B : Type 0} (look : A → B) → ((r q : A) → look r ≡ look q → r ≡ q) → (b : B) (r q : A) → look r ≡ b → look q ≡ b → r ≡ q
@@ -62,6 +71,49 @@ class_back_lem Unassigned = refl
 pub same_class : (r q : Class) → view r ≡ view q → r ≡ q
 same_class = undone view class_back class_back_lem
 
+-- the way back from the rows
+abbrev row_back : ℕ → Class
+row_back n = get_or (Unassigned ∷ Channel ∷ Histogram ∷ HitCount ∷ Sample ∷ Bin ∷ LastCell ∷ TimeBin ∷ DataFrame ∷ MonitorFrame ∷ CommandFrame ∷ Text ∷ StartEvent ∷ EndEvent ∷ FrameEnd ∷ ContinueEvent ∷ []) n Unassigned
+
+row_back_lem : (r : Class) → row_back (row_of (view r)) ≡ r
+row_back_lem Channel = refl
+row_back_lem Histogram = refl
+row_back_lem HitCount = refl
+row_back_lem Sample = refl
+row_back_lem Bin = refl
+row_back_lem LastCell = refl
+row_back_lem TimeBin = refl
+row_back_lem DataFrame = refl
+row_back_lem MonitorFrame = refl
+row_back_lem CommandFrame = refl
+row_back_lem Text = refl
+row_back_lem StartEvent = refl
+row_back_lem ContinueEvent = refl
+row_back_lem EndEvent = refl
+row_back_lem FrameEnd = refl
+row_back_lem Unassigned = refl
+
+pub same_row : (r q : Class) → row_of (view r) ≡ row_of (view q) → r ≡ q
+same_row = undone (λ (r : Class). row_of (view r)) row_back row_back_lem
+
+pub row_most : (r : Class) → row_of (view r) ≤ 15
+row_most Channel = omega arith
+row_most Histogram = omega arith
+row_most HitCount = omega arith
+row_most Sample = omega arith
+row_most Bin = omega arith
+row_most LastCell = omega arith
+row_most TimeBin = omega arith
+row_most DataFrame = omega arith
+row_most MonitorFrame = omega arith
+row_most CommandFrame = omega arith
+row_most Text = omega arith
+row_most StartEvent = omega arith
+row_most ContinueEvent = omega arith
+row_most EndEvent = omega arith
+row_most FrameEnd = omega arith
+row_most Unassigned = omega arith
+
 -- the way back from document 01's items
 abbrev item_back : items.ItemOf ℕ → Item
 item_back (items.Channel a b c) = item.Channel (record { card = a; chip = b; channel = c })
@@ -92,18 +144,71 @@ item_back_lem (item.EndEvent x) = refl
 pub same_item : (r q : Item) → view_item r ≡ view_item q → r ≡ q
 same_item = undone view_item item_back item_back_lem
 
+-- the way back from the numbers of faults; those that name none give any
+abbrev faults : List Fault
+faults =
+    fault.Length ∷ fault.Length ∷ fault.Kind ∷ fault.Size ∷ fault.Sequence ∷ fault.End ∷ fault.Class ∷ fault.Cut ∷ fault.Place ∷ fault.Value ∷
+    fault.Order ∷ fault.Open ∷ fault.Room ∷ fault.Absent ∷ fault.NoStart ∷ fault.Link ∷ fault.Link ∷ fault.Link ∷ fault.Link ∷ fault.Link ∷
+    fault.Header ∷ fault.Entry ∷ fault.Target ∷ fault.NewValue ∷ fault.Signer ∷ fault.Full ∷ fault.NoEntry ∷ []
+
+abbrev fault_back : ℕ → Fault
+fault_back n = get_or faults n fault.Length
+
+fault_back_lem : (f : Fault) → fault_back (number_of f) ≡ f
+fault_back_lem fault.Length = refl
+fault_back_lem fault.Kind = refl
+fault_back_lem fault.Size = refl
+fault_back_lem fault.Sequence = refl
+fault_back_lem fault.End = refl
+fault_back_lem fault.Class = refl
+fault_back_lem fault.Cut = refl
+fault_back_lem fault.Place = refl
+fault_back_lem fault.Value = refl
+fault_back_lem fault.Order = refl
+fault_back_lem fault.Open = refl
+fault_back_lem fault.Room = refl
+fault_back_lem fault.Absent = refl
+fault_back_lem fault.NoStart = refl
+fault_back_lem fault.Link = refl
+fault_back_lem fault.Header = refl
+fault_back_lem fault.Entry = refl
+fault_back_lem fault.Target = refl
+fault_back_lem fault.NewValue = refl
+fault_back_lem fault.Signer = refl
+fault_back_lem fault.Full = refl
+fault_back_lem fault.NoEntry = refl
+
+pub same_fault : (f g : Fault) → number_of f ≡ number_of g → f ≡ g
+same_fault = undone number_of fault_back fault_back_lem
+
 module _ {A : Type 0} where
-  number_of : (n m p q : ℕ) → ◌≡◌ {A = Outcome A} (refused n p) (refused m q) → n ≡ m
-  number_of n m p q e = cc
-
-  place_of : (n m p q : ℕ) → ◌≡◌ {A = Outcome A} (refused n p) (refused m q) → p ≡ q
-  place_of n m p q e = cc
-
   pub same_refusal : (r q : Refusal) → refusal {A = A} r ≡ refusal q → r ≡ q
   same_refusal r q e =
-      let n = number_of r.number q.number r.place q.place e in
-      let p = place_of r.number q.number r.place q.place e in
-      λ i. record { number = n i; place = p i }
+      let n : number_of r.fault ≡ number_of q.fault = cc in
+      let p : r.place ≡ q.place = cc in
+      let f = same_fault r.fault q.fault n in
+      λ i. record { fault = f i; place = p i }
+
+-- THE GENERAL VIEWS: injective where `look` is
+
+module _ {A B : Type 0} (look : A → B) (same : (r q : A) → look r ≡ look q → r ≡ q) where
+  accepted_is : (a b : B) → ◌≡◌ {A = Outcome B} (accepted a) (accepted b) → a ≡ b
+  accepted_is a b e = cc
+
+  some_is : (a b : B) → ◌≡◌ {A = paper_option.Option B} (paper_option.some a) (paper_option.some b) → a ≡ b
+  some_is a b e = cc
+
+  pub same_result : (r q : Result A Refusal) → view_result look r ≡ view_result look q → r ≡ q
+  same_result (Ok x) (Ok y) e = ap Ok (same x y (accepted_is _ _ e))
+  same_result (Ok x) (Err f) e = let z : ◌≡◌ {A = ℕ} 0 1 = cc in absurd (omega arith)
+  same_result (Err f) (Ok x) e = let z : ◌≡◌ {A = ℕ} 0 1 = cc in absurd (omega arith)
+  same_result (Err f) (Err g) e = ap Err (same_refusal f g e)
+
+  pub same_option : (r q : Option A) → view_option look r ≡ view_option look q → r ≡ q
+  same_option (Some x) (Some y) e = ap Some (same x y (some_is _ _ e))
+  same_option (Some x) None e = let z : ◌≡◌ {A = ℕ} 0 1 = cc in absurd (omega arith)
+  same_option None (Some x) e = let z : ◌≡◌ {A = ℕ} 0 1 = cc in absurd (omega arith)
+  same_option None None e = refl
 
 -- an equation of the answer itself, of a number, a bool, a struct or a list, has one answer
 pub equal_once : {A : Type 0} (b r q : A) → r ≡ b → q ≡ b → r ≡ q

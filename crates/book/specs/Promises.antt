@@ -18,6 +18,9 @@ use Rattle.book.specs.declared.items.TimeBin.{TimeBin}
 use Rattle.book.specs.declared.items.Text.{Text}
 use Rattle.book.specs.declared.items.StartEvent.{StartEvent}
 use Rattle.book.specs.Fields.{Channel, Histogram, channel_of, histogram_of, header_of, header_bits_cut, channel_word, histogram_word, hits_of, bin_of, cell_of, type_of, hits_word, sample_word, bin_word, cell_word, time_bin_word, text_word, start_word, channel_item, histogram_item, hits_item, sample_item, bin_item, cell_item, time_item, start_item}
+use Rattle.book.specs.declared.refusal.Fault.{Fault}
+use Rattle.book.specs.declared.refusal.Refusal.{Refusal}
+use Rattle.book.specs.Refusals.{number_of}
 use Rattle.book.specs.Views.{view}
 use Rattle.book.specs.Page.{on_page, book_page}
 
@@ -152,6 +155,16 @@ EndEventLow w r = r ≡ w % 16
 -- the content of a Continue event's first word
 abbrev pub ContinueEventLow : ℕ → ℕ → Type 0
 ContinueEventLow w r = r ≡ w % 512
+
+-- ---- refusals
+
+-- a fault's number in the documents' tables
+abbrev pub FaultNumbered : Fault → ℕ → Type 0
+FaultNumbered f r = r ≡ number_of f
+
+-- the refusal for a fault, at a place
+abbrev pub Placed : Fault → ℕ → Refusal → Type 0
+Placed f place r = r ≡ record { fault = f; place = place }
 
 -- ---- words of 16, 32 and 48 bits in bytes; bytes copied to the start of others, as far as there is room
 

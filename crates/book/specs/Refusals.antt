@@ -32,9 +32,6 @@ number_of fault.Signer = 24
 number_of fault.Full = 25
 number_of fault.NoEntry = 26
 
-abbrev pub FaultNumbered : Fault → ℕ → Type 0
-FaultNumbered f r = r ≡ number_of f
-
 -- the follower's faults among them
 abbrev pub fault_of : SequenceError → Fault
 fault_of NoSequence = fault.Sequence

@@ -112,21 +112,13 @@ pub fn key(card: u16, chip: u16, channel: u16) -> u32
     card as u32 * 2048 + chip as u32 * 128 + channel as u32
 }
 
+// The limits of a Channel, and of a Histogram too. (In the generic impl each would be a call to the proof.)
 impl Channel {
     pub const LAST_CARD: u16 = LAST_CARD; // that a Channel may have
 
     pub const LAST_CHIP: u16 = 3; // two bits of a Channel's word
 
     pub const LAST: u16 = 78; // the last channel of a chip
-}
-
-// The limits of a Channel: every channel may have a histogram.
-impl Histogram {
-    pub const LAST_CARD: u16 = Channel::LAST_CARD;
-
-    pub const LAST_CHIP: u16 = Channel::LAST_CHIP;
-
-    pub const LAST: u16 = Channel::LAST;
 }
 
 impl<const PREFIX: u16> Header<PREFIX> {

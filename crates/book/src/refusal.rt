@@ -1,6 +1,7 @@
 // A refusal: what is wrong, by document 01's numbers, and the place that it gives.
 ghost use Rattle.std.specs.Prelude.{◌≡◌};
-ghost use Rattle.book.specs.Refusals.{FaultNumbered, AtStart, fault_of};
+ghost use Rattle.book.specs.Refusals.{AtStart, fault_of};
+ghost use Rattle.book.specs.Promises.{FaultNumbered, Placed};
 
 use follower::SequenceError;
 
@@ -47,7 +48,7 @@ impl Fault {
 
     // The refusal at a place.
     pub fn at(self, place: usize) -> Refusal
-        ensures { result ≡ record { fault = self; place = place } }
+        ensures { Placed self place result }
     {
         Refusal { fault: self, place }
     }
