@@ -1,7 +1,7 @@
 -- What each public function promises, under a name: its answer, or the whole of the bytes that it leaves. The functions' contracts and the theorems
 -- of proofs/Unique.antt are over these same names.
 -- Assumes nothing.
-use Rattle.std.specs.Prelude.{ℕ, ◌≡◌, ◌×◌, Bool, List, [], ◌∷◌, Option, Result, Ok, Err}
+use Rattle.std.specs.Prelude.{ℕ, ◌≡◌, Bool, List, [], ◌∷◌, Option, Result, Ok, Err}
 use Rattle.std.proofs.lemmas.List.Edits.{sets}
 use Rattle.format.specs.Words.{bytes}
 use Rattle.format.specs.Spots as spots
