@@ -4,7 +4,7 @@ ghost use Rattle.ledger.specs.Records.{frame_in};
 ghost use Rattle.ledger.specs.Calls.{edit_written};
 ghost use Rattle.ledger.specs.VersionTwo.{version_two};
 ghost use Rattle.ledger.specs.PlaneFrames.{plane_frames};
-ghost use Rattle.records.specs.Views.{view_spot, summary_of};
+ghost use Rattle.records.specs.Views.{view_spot_kind, view_spot, summary_of};
 ghost use Rattle.editor.specs.Views.{view_done, asked, item_tests};
 ghost use Rattle.editor.specs.Promises.{Edited};
 ghost use Rattle.editor.specs.Writes.{Known, Holds, Editable};
@@ -15,7 +15,7 @@ use book::items::Item;
 use book::refusal::{Fault, Refusal};
 use book::words::word;
 use cursor::standing::{FoundItem, item_at};
-use records::answers::{Entry, Record, Spot, Stamp};
+use records::answers::{Entry, Record, Spot, SpotKind, Stamp};
 use records::entries::put_entry;
 use records::history::signed;
 use records::judge;
@@ -34,11 +34,11 @@ pub struct Correction {
 }
 
 // The tests of an edit of an accepted record at an item of the kind with the value: 23, 24, 25, 12; to be read against the meaning's list of them.
-fn edit_tests(c: Correction, x: Record, kind: u16, value: u32, room: usize) -> Result<(), Refusal>
+fn edit_tests(c: Correction, x: Record, kind: SpotKind, value: u32, room: usize) -> Result<(), Refusal>
     requires { x.total < 65536 }
-    ensures { view_done result ≡ item_tests (asked c) (summary_of x) kind value room }
+    ensures { view_done result ≡ item_tests (asked c) (summary_of x) (view_spot_kind kind) value room }
 {
-    need(legal(kind, c.value) & (value != c.value), Fault::NewValue)?;
+    need(legal(kind as u16, c.value) & (value != c.value), Fault::NewValue)?;
     let named = signed(c.operator, c.reason);
     need(named & (c.time <= Entry::LAST_TIME), Fault::Signer)?;
     need(x.count < Record::MOST, Fault::Full)?;
@@ -46,13 +46,13 @@ fn edit_tests(c: Correction, x: Record, kind: u16, value: u32, room: usize) -> R
 }
 
 // An edit that may be made: the value, the two header words that change, and one entry.
-fn write_edit(buf: &mut [u8], c: Correction, x: Record, kind: u16, value: u32)
-    requires { Editable buf.old (summary_of x) (asked c) kind value }
+fn write_edit(buf: &mut [u8], c: Correction, x: Record, kind: SpotKind, value: u32)
+    requires { Editable buf.old (summary_of x) (asked c) (view_spot_kind kind) value }
     ensures { buf.new ≡ edit_written plane_frames version_two buf.old (asked c) }
 {
     let start = Record::HEADER;
     let end = start + x.length;
-    put_value(&mut buf[start..end], kind, c.word, c.value);
+    put_value(&mut buf[start..end], kind as u16, c.word, c.value);
     let count = (x.count + 1) as u16;
     let total = (x.total + Entry::SIZE) as u16;
     put_words(buf, 2 * Record::COUNT_WORD, &[count, total]);
@@ -62,7 +62,7 @@ fn write_edit(buf: &mut [u8], c: Correction, x: Record, kind: u16, value: u32)
     };
     let entry = Entry {
         word: c.word as u16,
-        kind,
+        kind: kind as u16,
         old: value,
         new: c.value,
         operator: c.operator as u16,
@@ -73,8 +73,8 @@ fn write_edit(buf: &mut [u8], c: Correction, x: Record, kind: u16, value: u32)
 }
 
 // An edit of an accepted record at an item of the kind with the value.
-fn edit_value(buf: &mut [u8], c: Correction, x: Record, kind: u16, value: u32) -> Result<(), Refusal>
-    requires { Known version_two buf.old (summary_of x) × Holds buf.old c.word kind value }
+fn edit_value(buf: &mut [u8], c: Correction, x: Record, kind: SpotKind, value: u32) -> Result<(), Refusal>
+    requires { Known version_two buf.old (summary_of x) × Holds buf.old c.word (view_spot_kind kind) value }
     ensures { Edited buf.old (asked c) (view_done result) buf.new }
 {
     edit_tests(c, x, kind, value, buf.len())?;
@@ -97,8 +97,8 @@ fn edit_item(buf: &mut [u8], c: Correction, x: Record, spot: Option<Spot>) -> Re
         return Err(Fault::Target.into());
     };
     match item {
-        Item::Sample(s) => edit_value(buf, c, x, Spot::SAMPLE, s.value as u32),
-        Item::Bin(s) => edit_value(buf, c, x, Spot::BIN, s.count),
+        Item::Sample(s) => edit_value(buf, c, x, SpotKind::Sample, s.value as u32),
+        Item::Bin(s) => edit_value(buf, c, x, SpotKind::Bin, s.count),
         _ => Err(Fault::Target.into()),
     }
 }
