@@ -20,9 +20,8 @@ use Rattle.format.proofs.items.PartLaws.{payload_bytes}
 use Rattle.format.proofs.reader.CursorLaws.{within_bytes, standing_in, standing_flawed}
 use Rattle.cursor.specs.Promises.{TextClosed}
 use Rattle.cursor.proofs.TextLoops.{closed_there}
+use Rattle.book.specs.Fields as fields
 use Rattle.book.specs.Fields.{channel_of, histogram_of, hits_of, cell_of, channel_item, histogram_item, hits_item, cell_item}
-use Rattle.book.specs.declared.items.Channel as ch
-use Rattle.book.specs.declared.items.Histogram as hi
 use Rattle.book.specs.declared.items.HitCount as hc
 use Rattle.book.specs.declared.items.LastCell as lc
 
@@ -35,14 +34,14 @@ module _ (s : List ℕ) (last at w : ℕ) (b : 3 ≤ at) (h : at < last) (q : la
       → shown_by (standing_by t (at + 1)) ≡ shown_by (standing_at s at)
   one c t k a z d = shows t (at + 1) (alone s (last_of s) at c t (k ∙ ap class_of e) a z (ap (λ (v : ℕ). token_for c (decode c v [])) (sym e) ∙ d))
 
-  pub channel_shown : (r : ch.Channel) → channel ≡ class_of w → r ≡ channel_of w → some (record { item = shown (channel_item r); next = at + 1 }) ≡ shown_by (standing_at s at)
+  pub channel_shown : (r : fields.Channel) → channel ≡ class_of w → r ≡ channel_of w → some (record { item = shown (channel_item r); next = at + 1 }) ≡ shown_by (standing_at s at)
   unfolding decode
-  channel_shown r k f = one channel (whole (channel_item r)) k refl refl (ap (λ (r : ch.Channel). whole (channel_item r)) (sym f))
+  channel_shown r k f = one channel (whole (channel_item r)) k refl refl (ap (λ (r : fields.Channel). whole (channel_item r)) (sym f))
 
-  pub histogram_shown : (r : hi.Histogram) → histogram ≡ class_of w → r ≡ histogram_of w
+  pub histogram_shown : (r : fields.Histogram) → histogram ≡ class_of w → r ≡ histogram_of w
       → some (record { item = shown (histogram_item r); next = at + 1 }) ≡ shown_by (standing_at s at)
   unfolding decode
-  histogram_shown r k f = one histogram (whole (histogram_item r)) k refl refl (ap (λ (r : hi.Histogram). whole (histogram_item r)) (sym f))
+  histogram_shown r k f = one histogram (whole (histogram_item r)) k refl refl (ap (λ (r : fields.Histogram). whole (histogram_item r)) (sym f))
 
   pub hit_shown : (r : hc.HitCount) → hit_count ≡ class_of w → r ≡ hits_of w → some (record { item = shown (hits_item r); next = at + 1 }) ≡ shown_by (standing_at s at)
   unfolding decode
