@@ -9,6 +9,16 @@ use lib.Dec.{ltb, eqb}
 use lib.ListN.{length}
 use borrow.Author.Tests.{eq-eqb, ne_eqb, ltb-true}
 use Rattle.follower.specs.Follow as follower
+use Rattle.follower.specs.Paper.{number_of}
+use Rattle.follower.specs.declared.SequenceError.{SequenceError}
+use Rattle.follower.specs.declared.SequenceError.TheVariants.{NoSequence, NoStart}
+use Rattle.book.specs.Refusals as refusals
+use Rattle.book.specs.Refusals.{fault_of}
+use denote.Enum.Bare.{sameb}
+use Rattle.rules.specs.contracts.state.Kind.{the_type}
+use Rattle.rules.specs.declared.state.Kind.{Kind}
+use Rattle.rules.specs.declared.state.Kind.TheVariants.{Data, Monitor, Command}
+use Rattle.rules.specs.Views.{view_kind}
 use Rattle.format.specs.Words.{pick, Bytes, long_at}
 use Rattle.format.specs.Answers.{Outcome, accepted, refused, and_then}
 use Rattle.format.specs.Steps.{Marks, ReaderState, open_in, Overview, read_of}
@@ -91,17 +101,16 @@ goes_on_open o s st number size key n e k z =
     (λ i. some (record { number = n i; size = e i; key = k i }))
     ∙ sym (ap (λ (b : Bool). pick b (some (record { number = o.number; size = o.size + item_bytes s; key = max o.key st.key })) (begun_by s st)) (eq-eqb st.marks.lead 0 z))
 
-pub some_sized : (o : Option Open) (p : Open) (s : List ℕ) (m : Marks) → o ≡ some p → sized_by o s m ≡ true → sized_by (some p) s m ≡ true
-some_sized o p s m e h = ap (λ (o : Option Open). sized_by o s m) (sym e) ∙ h
-
 pub none_open : (o : Option Open) (s : List ℕ) (st : ReaderState) (r : Option Open) → o ≡ none → r ≡ begun_by s st → r ≡ open_by o s st
 unfolding open_by
 none_open o s st r e b = b ∙ sym (ap (λ (o : Option Open). open_by o s st) e)
 
-pub some_open : (o : Option Open) (p : Open) (s : List ℕ) (st : ReaderState) (r : Option Open) → o ≡ some p → r ≡ open_by (some p) s st → r ≡ open_by o s st
-some_open o p s st r e b = b ∙ sym (ap (λ (o : Option Open). open_by o s st) e)
-
 -- ---- the step
+
+pub data_told : (k : Kind) → sameb the_type k Data ≡ is_data (view_kind k)
+data_told Data = refl
+data_told Monitor = refl
+data_told Command = refl
 
 pub sized_link : (o : Option Open) (lost : ℕ) (s : List ℕ) (m : Marks) (d l : Bool) → l ≡ linked_by o lost s m → d && l ≡ true → sized_by o s m ≡ true
 sized_link o lost s m d l e t = linked_sized o lost s m (sym e ∙ and_right d l t)
@@ -122,9 +131,14 @@ module _ (a : Assembler) (s : List ℕ) (v : Overview) (lost : ℕ) (st : follow
   link_refused t =
       sym (ap (λ (b : Bool). pick b (accepted (record { lost = lost; next = record { card = a.card; follower = st; event = open_by a.event s v.state } })) (refused 15 0)) (sym tests ∙ t))
 
-pub follow_refused : (a : Assembler) (s : List ℕ) (v : Overview) (o : follower.Answer) (n p : ℕ) → follower.refused n p ≡ o → refused n p ≡ linking_by a s v o
+same_number : (e : SequenceError) → refusals.number_of (fault_of e) ≡ number_of e
+same_number NoSequence = refl
+same_number NoStart = refl
+
+pub follow_refused : (a : Assembler) (s : List ℕ) (v : Overview) (o : follower.Answer) (e : SequenceError) → follower.refused (number_of e) 0 ≡ o
+    → refused (refusals.number_of (fault_of e)) 0 ≡ linking_by a s v o
 unfolding linking_by
-follow_refused a s v o n p e = ap (linking_by a s v) e
+follow_refused a s v o e f = ap (λ (n : ℕ). refused n 0) (same_number e) ∙ ap (linking_by a s v) f
 
 pub read_refused : (a : Assembler) (s : List ℕ) → Bytes s → (n p : ℕ) → refused n p ≡ read_of s → refused n p ≡ take a s
 unfolding take_by

@@ -5,8 +5,8 @@ use Rattle.assembler.specs.Views.{view_current}
 use Rattle.assembler.proofs.StepLaws.{none_linked, some_linked}
 use Rattle.assembler.proofs.links.linked.Goals as goal
 
-pub returns-in-Nothing : goal.returns-in-Nothing
-returns-in-Nothing c = none_linked _ _ _ _ _ (ap view_current c.in-Nothing.is) c.continues.ensures
+pub returns-in-None : goal.returns-in-None
+returns-in-None c = none_linked _ _ _ _ _ (ap view_current c.in-None.is) c.continues.ensures
 
-pub returns-in-Open : goal.returns-in-Open
-returns-in-Open c = some_linked _ _ _ _ _ _ (ap view_current c.in-Open.is) c.goes_on.ensures
+pub returns-in-Some : goal.returns-in-Some
+returns-in-Some c = some_linked _ _ _ _ _ _ (ap view_current c.in-Some.is) c.goes_on.ensures
