@@ -4,13 +4,6 @@ ghost use Rattle.std.proofs.lemmas.List.Edits.{sets};
 ghost use Rattle.format.specs.Words.{word_at};
 ghost use Rattle.book.specs.Promises.{WordRead, LongRead, TimeRead, Copied};
 
-// A byte, as a word. A function, so that the cast asks for no proof at each place that reads a byte.
-fn wide(x: u8) -> u16
-    ensures { (result ≡ x) × (result < 256) }
-{
-    x as u16
-}
-
 // The word at index i where it is not whole: the last byte alone, or nothing.
 fn end_word(s: &[u8], i: usize) -> u16
     requires { length s.now / 2 ≤ i }
@@ -22,7 +15,7 @@ fn end_word(s: &[u8], i: usize) -> u16
     if s.len() % 2 == 0 {
         return 0;
     }
-    wide(s[2 * i])
+    s[2 * i] as u16
 }
 
 // The word at index i.
@@ -30,9 +23,7 @@ pub fn word(s: &[u8], i: usize) -> u16
     ensures { WordRead s.now i result }
 {
     if i < s.len() / 2 {
-        let low = wide(s[2 * i]);
-        let high = wide(s[2 * i + 1]);
-        return low + 256 * high;
+        return u16::from_le_bytes([s[2 * i], s[2 * i + 1]]);
     }
     end_word(s, i)
 }
@@ -62,26 +53,10 @@ pub fn time(s: &[u8], i: usize) -> u64
     low + 4294967296 * high
 }
 
-// Copies src to the start of dst, where there is room for all of it.
-fn copy_all(src: &[u8], dst: &mut [u8])
-    requires { length src.now ≤ length dst.old }
-    ensures { dst.new ≡ sets dst.old 0 src.now }
-{
-    let mut i = 0;
-    while i < src.len() {
-        dst[i] = src[i];
-        i += 1;
-    }
-}
-
 // Copies src to the start of dst, as far as there is room.
 pub fn copy(src: &[u8], dst: &mut [u8])
     ensures { Copied src.now dst.old dst.new }
 {
-    let room = dst.len();
-    if src.len() <= room {
-        copy_all(src, dst);
-    } else {
-        copy_all(&src[..room], dst);
-    }
+    let room = src.len().min(dst.len());
+    dst[..room].copy_from_slice(&src[..room]);
 }
