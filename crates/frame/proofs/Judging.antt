@@ -4,6 +4,10 @@ use Prim.Native.Nat.{ℕ}
 use mathlib.Core.Path.{◌≡◌, refl, sym, ◌∙◌}
 use mathlib.Core.List.{List}
 use mathlib.Core.Bool.{Bool, true, false}
+use native.Mathlib.Omega.{arith}
+use Rattle.book.specs.declared.refusal.Fault.{Fault}
+use Rattle.book.specs.declared.refusal.Fault.TheVariants as fault
+use Rattle.book.specs.Refusals.{number_of}
 use Rattle.format.specs.Words.{pick, word_at}
 use Rattle.format.specs.Answers.{Outcome, accepted, refused}
 use Rattle.format.specs.Rules.{Kind}
@@ -11,6 +15,31 @@ use Rattle.format.specs.Frames.{last_of, head_fault, kind_in, card_in}
 use Rattle.format.specs.Steps.{ended_by, Summary, summed, read_of, Indexed, index_of}
 use Rattle.format.proofs.reader.JudgeLaws.{walk_refused, WalkedThrough, walked_through, still_open, all_read, read_index}
 use Rattle.frame.specs.Views.{ending_of}
+
+-- no fault has the number of none
+pub no_fault : (f : Fault) → number_of f ≡ 0 → ⊥
+no_fault fault.Length e = omega arith
+no_fault fault.Kind e = omega arith
+no_fault fault.Size e = omega arith
+no_fault fault.Sequence e = omega arith
+no_fault fault.End e = omega arith
+no_fault fault.Class e = omega arith
+no_fault fault.Cut e = omega arith
+no_fault fault.Place e = omega arith
+no_fault fault.Value e = omega arith
+no_fault fault.Order e = omega arith
+no_fault fault.Open e = omega arith
+no_fault fault.Room e = omega arith
+no_fault fault.Absent e = omega arith
+no_fault fault.NoStart e = omega arith
+no_fault fault.Link e = omega arith
+no_fault fault.Header e = omega arith
+no_fault fault.Entry e = omega arith
+no_fault fault.Target e = omega arith
+no_fault fault.NewValue e = omega arith
+no_fault fault.Signer e = omega arith
+no_fault fault.Full e = omega arith
+no_fault fault.NoEntry e = omega arith
 
 module _ (s : List ℕ) (n : ℕ) (e : 0 ≡ head_fault s) (kind : Kind) (card last : ℕ) (k : kind ≡ kind_in s) (c : card ≡ card_in s) (l : last ≡ last_of s)
     (o : Outcome Summary) (f : o ≡ summed kind card s last n) where

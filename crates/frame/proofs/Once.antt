@@ -4,25 +4,27 @@
 use Prim.Native.Nat.{ℕ}
 use mathlib.Core.Path.{◌≡◌, sym, ◌∙◌}
 use mathlib.Core.List.{List}
+use Rattle.std.specs.Prelude.{Result}
 use denote.Ref.{Bor}
 use denote.Slice.{shr_slice_vals}
 use Rattle.format.specs.Steps.{read_of}
 use Rattle.format.specs.PartialSteps.{partial_read_of}
 use Rattle.format.specs.Questions.{shown_at}
+use Rattle.book.specs.declared.refusal.Refusal.{Refusal}
 use Rattle.book.proofs.Unique.{one}
-use Rattle.frame.specs.declared.reading.Reading.{Reading}
-use Rattle.frame.specs.declared.items.Found.{Found}
-use Rattle.frame.specs.declared.begun.Partial.{Partial}
+use Rattle.frame.specs.declared.reading.Frame.{Frame}
+use Rattle.frame.specs.declared.items.IndexedItem.{IndexedItem}
+use Rattle.frame.specs.declared.begun.PartialFrame.{PartialFrame}
 use Rattle.frame.specs.Views.{view_reading, view_found}
 use Rattle.frame.specs.PartialViews.{view_partial}
 use Rattle.frame.specs.Promises.{ReadAs, ItemAnswered, TextAnswered, PartialRead}
 use Rattle.frame.proofs.Unique.{same_reading, same_found}
 use Rattle.frame.proofs.PartialUnique.{same_partial}
 
-pub read_once : (s : List ℕ) (r q : Reading) → ReadAs s r → ReadAs s q → r ≡ q
+pub read_once : (s : List ℕ) (r q : Result Frame Refusal) → ReadAs s r → ReadAs s q → r ≡ q
 read_once s = one view_reading same_reading (read_of s)
 
-pub item_once : (s : List ℕ) (n : ℕ) (r q : Found) → ItemAnswered s n r → ItemAnswered s n q → r ≡ q
+pub item_once : (s : List ℕ) (n : ℕ) (r q : Result IndexedItem Refusal) → ItemAnswered s n r → ItemAnswered s n q → r ≡ q
 item_once s n = one view_found same_found (shown_at s n)
 
 -- A reference has a place, the elements that stand there, and a name by which the logic tracks them, of which no program can tell: what is
@@ -34,5 +36,5 @@ text_once s n r q e f =
     let b : r.ref_ptr ≡ q.ref_ptr = e.1 ∙ sym f.1 in
     (a, b, (rw (a, b)))
 
-pub partial_once : (buf : List ℕ) (n : ℕ) (r q : Partial) → PartialRead buf n r → PartialRead buf n q → r ≡ q
+pub partial_once : (buf : List ℕ) (n : ℕ) (r q : Result PartialFrame Refusal) → PartialRead buf n r → PartialRead buf n q → r ≡ q
 partial_once buf n = one view_partial same_partial (partial_read_of buf n)

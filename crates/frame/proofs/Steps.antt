@@ -21,9 +21,7 @@ use Rattle.format.proofs.reader.TurnLaws.{step_at, stop_at, alone, no_class, not
 use Rattle.cursor.specs.Promises.{TextClosed}
 use Rattle.cursor.proofs.TextLoops.{closed_there}
 use Rattle.rules.specs.Views.{tested, continue_tested, end_tested, text_tested}
-use Rattle.book.specs.Fields.{channel_of, histogram_of, hits_of, cell_of, channel_item, histogram_item, hits_item, cell_item}
-use Rattle.book.specs.declared.items.Channel as ch
-use Rattle.book.specs.declared.items.Histogram as hi
+use Rattle.book.specs.Fields.{Channel, Histogram, channel_of, histogram_of, hits_of, cell_of, channel_item, histogram_item, hits_item, cell_item}
 use Rattle.book.specs.declared.items.HitCount as hc
 use Rattle.book.specs.declared.items.LastCell as lc
 
@@ -35,15 +33,15 @@ module _ (card : ℕ) (s : List ℕ) (last at w : ℕ) (st : ReaderState) (e : w
       q ∙ step_at card s last at st (whole x) (at + 1)
       (alone s last at c (whole x) (k ∙ ap class_of e) a z (ap (λ (v : ℕ). token_for c (decode c v [])) (sym e) ∙ d))
 
-  pub channel_step : (r : Stepped) (x : ch.Channel) → channel ≡ class_of w → x ≡ channel_of w
+  pub channel_step : (r : Stepped) (x : Channel) → channel ≡ class_of w → x ≡ channel_of w
       → r ≡ marked (at + 1) (check_by card 0 st (whole (channel_item x))) → r ≡ step_of card s last at st
   unfolding decode check_by
-  channel_step r x k f q = one channel r (channel_item x) k refl refl (ap (λ (x : ch.Channel). whole (channel_item x)) (sym f)) q
+  channel_step r x k f q = one channel r (channel_item x) k refl refl (ap (λ (x : Channel). whole (channel_item x)) (sym f)) q
 
-  pub histogram_step : (r : Stepped) (x : hi.Histogram) → histogram ≡ class_of w → x ≡ histogram_of w
+  pub histogram_step : (r : Stepped) (x : Histogram) → histogram ≡ class_of w → x ≡ histogram_of w
       → r ≡ marked (at + 1) (check_by card 0 st (whole (histogram_item x))) → r ≡ step_of card s last at st
   unfolding decode check_by
-  histogram_step r x k f q = one histogram r (histogram_item x) k refl refl (ap (λ (x : hi.Histogram). whole (histogram_item x)) (sym f)) q
+  histogram_step r x k f q = one histogram r (histogram_item x) k refl refl (ap (λ (x : Histogram). whole (histogram_item x)) (sym f)) q
 
   pub hit_step : (r : Stepped) (x : hc.HitCount) → hit_count ≡ class_of w → x ≡ hits_of w
       → r ≡ marked (at + 1) (check_by card 0 st (whole (hits_item x))) → r ≡ step_of card s last at st

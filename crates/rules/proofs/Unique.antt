@@ -1,19 +1,23 @@
 -- T40: what an answer says on paper fixes the answer, since each view is injective. So each promise has one answer (Once.antt).
 -- Assumes nothing.
+use Prim.Native.Nat.{ℕ}
 use mathlib.Core.Path.{◌≡◌, refl, ap}
+use mathlib.Core.List.{[], ◌∷◌}
+use lib.ListN.{get_or}
+use Rattle.std.specs.Prelude.{Result, Ok, Err}
 use Rattle.format.specs.Rules as rules
 use Rattle.format.specs.Steps as steps
 use Rattle.format.specs.Steps.{ReaderState, Stepped, moved, stopped}
-use Rattle.book.proofs.Unique.{undone}
+use Rattle.book.proofs.Unique.{undone, same_fault}
+use Rattle.book.specs.declared.refusal.Fault.{Fault}
 use Rattle.rules.specs.declared.state.Kind.{Kind}
 use Rattle.rules.specs.declared.state.Kind.TheVariants as kind
 use Rattle.rules.specs.declared.state.Mode.{Mode}
 use Rattle.rules.specs.declared.state.Mode.TheVariants as mode
 use Rattle.rules.specs.declared.state.Marks.{Marks}
 use Rattle.rules.specs.declared.state.State.{State}
-use Rattle.rules.specs.declared.steps.Step.{Step}
-use Rattle.rules.specs.declared.steps.Step.TheVariants as step
-use Rattle.rules.specs.Views.{view_kind, view_mode, view_state, view_step}
+use Rattle.rules.specs.declared.steps.Moved.{Moved}
+use Rattle.rules.specs.Views.{view_kind, number_of_kind, view_mode, view_state, view_step}
 
 abbrev pub kind_back : rules.Kind → Kind
 kind_back rules.data_kind = kind.Data
@@ -27,6 +31,18 @@ kind_back_lem kind.Command = refl
 
 pub same_kind : (r q : Kind) → view_kind r ≡ view_kind q → r ≡ q
 same_kind = undone view_kind kind_back kind_back_lem
+
+-- the way back from a kind's number
+abbrev number_back : ℕ → Kind
+number_back n = get_or (kind.Data ∷ kind.Data ∷ kind.Monitor ∷ kind.Command ∷ []) n kind.Data
+
+number_back_lem : (k : Kind) → number_back (number_of_kind k) ≡ k
+number_back_lem kind.Data = refl
+number_back_lem kind.Monitor = refl
+number_back_lem kind.Command = refl
+
+pub same_kind_number : (j k : Kind) → number_of_kind j ≡ number_of_kind k → j ≡ k
+same_kind_number = undone number_of_kind number_back number_back_lem
 
 abbrev mode_back : rules.ReaderMode → Mode
 mode_back rules.outside = mode.Outside
@@ -65,13 +81,21 @@ state_back_lem r = λ i. record { mode = mode_back_lem r.mode i; key = r.key; ne
 pub same_state : (r q : State) → view_state r ≡ view_state q → r ≡ q
 same_state = undone view_state state_back state_back_lem
 
-abbrev step_back : Stepped → Step
-step_back (moved st next) = step.Moved (state_back st) next
-step_back (stopped n) = step.Stopped n
+-- what a turn says fixes its parts
+moved_state : (s t : ReaderState) (n m : ℕ) → moved s n ≡ moved t m → s ≡ t
+moved_state s t n m e = cc
 
-step_back_lem : (r : Step) → step_back (view_step r) ≡ r
-step_back_lem (step.Moved st next) = ap (λ (s : State). step.Moved s next) (state_back_lem st)
-step_back_lem (step.Stopped n) = refl
+moved_next : (s t : ReaderState) (n m : ℕ) → moved s n ≡ moved t m → n ≡ m
+moved_next s t n m e = cc
 
-pub same_step : (r q : Step) → view_step r ≡ view_step q → r ≡ q
-same_step = undone view_step step_back step_back_lem
+stopped_number : (n m : ℕ) → stopped n ≡ stopped m → n ≡ m
+stopped_number n m e = cc
+
+pub same_step : (r q : Result Moved Fault) → view_step r ≡ view_step q → r ≡ q
+same_step (Ok x) (Ok y) e =
+    let s = same_state x.state y.state (moved_state _ _ _ _ e) in
+    let n = moved_next _ _ _ _ e in
+    λ i. Ok (record { state = s i; next = n i })
+same_step (Ok x) (Err g) e = cc
+same_step (Err f) (Ok y) e = cc
+same_step (Err f) (Err g) e = ap Err (same_fault f g (stopped_number _ _ e))

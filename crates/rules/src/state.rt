@@ -69,196 +69,85 @@ impl State {
     pub fn start(kind: Kind) -> State
         ensures { Started kind result }
     {
+        let mode = match kind {
+            Kind::Data => Mode::Fresh,
+            Kind::Monitor => Mode::Unheaded,
+            Kind::Command => Mode::Commands,
+        };
         let marks = Marks {
             opener: 0,
             first: 0,
             lead: 0,
         };
-        match kind {
-            Kind::Data => State {
-                mode: Mode::Fresh,
-                key: 0,
-                next: 0,
-                marks,
-            },
-            Kind::Monitor => State {
-                mode: Mode::Unheaded,
-                key: 0,
-                next: 0,
-                marks,
-            },
-            Kind::Command => State {
-                mode: Mode::Commands,
-                key: 0,
-                next: 0,
-                marks,
-            },
+        State {
+            mode,
+            key: 0,
+            next: 0,
+            marks,
         }
     }
 }
-
-// In the tests below every place has an arm of its own: an arm for several, or `_`, tells a proof only which tags are meant.
 
 // The items may end here: not after Channel or Time bin.
 pub fn may_end(mode: Mode) -> bool
     ensures { MayEnd mode result }
 {
-    match mode {
-        Mode::Outside => true,
-        Mode::Inside => true,
-        Mode::AfterChannel => false,
-        Mode::AfterTime => false,
-        Mode::AfterSample => true,
-        Mode::Unheaded => true,
-        Mode::Headed => true,
-        Mode::Commands => true,
-        Mode::Fresh => true,
-    }
+    !matches!(mode, Mode::AfterChannel | Mode::AfterTime)
 }
 
 pub fn may_start(mode: Mode) -> bool
     ensures { MayStart mode result }
 {
-    match mode {
-        Mode::Outside => true,
-        Mode::Inside => false,
-        Mode::AfterChannel => false,
-        Mode::AfterTime => false,
-        Mode::AfterSample => false,
-        Mode::Unheaded => false,
-        Mode::Headed => false,
-        Mode::Commands => false,
-        Mode::Fresh => true,
-    }
+    matches!(mode, Mode::Outside | Mode::Fresh)
 }
 
 // A Continue event is the first item of a data frame.
 pub fn may_continue(mode: Mode) -> bool
     ensures { MayContinue mode result }
 {
-    match mode {
-        Mode::Outside => false,
-        Mode::Inside => false,
-        Mode::AfterChannel => false,
-        Mode::AfterTime => false,
-        Mode::AfterSample => false,
-        Mode::Unheaded => false,
-        Mode::Headed => false,
-        Mode::Commands => false,
-        Mode::Fresh => true,
-    }
+    mode == Mode::Fresh
 }
 
 // Hit count, Last cell, Channel and End event stand in the same places.
 pub fn may_stand_inside(mode: Mode) -> bool
     ensures { MayStandInside mode result }
 {
-    match mode {
-        Mode::Outside => false,
-        Mode::Inside => true,
-        Mode::AfterChannel => false,
-        Mode::AfterTime => false,
-        Mode::AfterSample => true,
-        Mode::Unheaded => false,
-        Mode::Headed => false,
-        Mode::Commands => false,
-        Mode::Fresh => false,
-    }
+    matches!(mode, Mode::Inside | Mode::AfterSample)
 }
 
 pub fn may_time(mode: Mode) -> bool
     ensures { MayTime mode result }
 {
-    match mode {
-        Mode::Outside => false,
-        Mode::Inside => false,
-        Mode::AfterChannel => true,
-        Mode::AfterTime => false,
-        Mode::AfterSample => true,
-        Mode::Unheaded => false,
-        Mode::Headed => false,
-        Mode::Commands => false,
-        Mode::Fresh => false,
-    }
+    matches!(mode, Mode::AfterChannel | Mode::AfterSample)
 }
 
 pub fn may_sample(mode: Mode) -> bool
     ensures { MaySample mode result }
 {
-    match mode {
-        Mode::Outside => false,
-        Mode::Inside => false,
-        Mode::AfterChannel => false,
-        Mode::AfterTime => true,
-        Mode::AfterSample => true,
-        Mode::Unheaded => false,
-        Mode::Headed => false,
-        Mode::Commands => false,
-        Mode::Fresh => false,
-    }
+    matches!(mode, Mode::AfterTime | Mode::AfterSample)
 }
 
 pub fn may_histogram(mode: Mode) -> bool
     ensures { MayHistogram mode result }
 {
-    match mode {
-        Mode::Outside => false,
-        Mode::Inside => false,
-        Mode::AfterChannel => false,
-        Mode::AfterTime => false,
-        Mode::AfterSample => false,
-        Mode::Unheaded => true,
-        Mode::Headed => true,
-        Mode::Commands => false,
-        Mode::Fresh => false,
-    }
+    matches!(mode, Mode::Unheaded | Mode::Headed)
 }
 
 pub fn may_bin(mode: Mode) -> bool
     ensures { MayBin mode result }
 {
-    match mode {
-        Mode::Outside => false,
-        Mode::Inside => false,
-        Mode::AfterChannel => false,
-        Mode::AfterTime => false,
-        Mode::AfterSample => false,
-        Mode::Unheaded => false,
-        Mode::Headed => true,
-        Mode::Commands => false,
-        Mode::Fresh => false,
-    }
+    mode == Mode::Headed
 }
 
 pub fn may_text(mode: Mode) -> bool
     ensures { MayText mode result }
 {
-    match mode {
-        Mode::Outside => false,
-        Mode::Inside => false,
-        Mode::AfterChannel => false,
-        Mode::AfterTime => false,
-        Mode::AfterSample => false,
-        Mode::Unheaded => false,
-        Mode::Headed => false,
-        Mode::Commands => true,
-        Mode::Fresh => false,
-    }
+    mode == Mode::Commands
 }
 
 // A Time bin right after a Sample leaves a pause: it is later than the next sample would be.
 pub fn paused(mode: Mode, next: u32, time: u32) -> bool
     ensures { PausedFrom mode next time result }
 {
-    match mode {
-        Mode::Outside => true,
-        Mode::Inside => true,
-        Mode::AfterChannel => true,
-        Mode::AfterTime => true,
-        Mode::AfterSample => next < time,
-        Mode::Unheaded => true,
-        Mode::Headed => true,
-        Mode::Commands => true,
-        Mode::Fresh => true,
-    }
+    mode != Mode::AfterSample || next < time
 }

@@ -20,20 +20,20 @@ returns-then-n-gt-MOST c =
 
 pub returns-then-word-n : goal.returns-then-word-n
 returns-then-word-n c =
-    size_wrong c.args.s.now c.if-n-ne0.false c.if-n-lt-LEAST.false c.if-n-gt-MOST.false (ap start_fits (sym c.word.ensures) ∙ sym c.is_start.ensures ∙ c.if-is_start.true) (λ z. c.if-word-n.true (c.word-then-is_start.ensures ∙ z))
+    size_wrong c.args.s.now c.if-n-ne0.false c.if-n-lt-LEAST.false c.if-n-gt-MOST.false (ap start_fits (sym c.word.ensures) ∙ sym c.is_start.ensures ∙ c.if-not-is_start.false) (λ z. c.if-word-n.true (c.word-2.ensures ∙ z))
 
 pub returns-then-word-gt-LAST_SEQUENCE : goal.returns-then-word-gt-LAST_SEQUENCE
 returns-then-word-gt-LAST_SEQUENCE c =
-    sequence_wrong c.args.s.now c.if-n-ne0.false c.if-n-lt-LEAST.false c.if-n-gt-MOST.false (ap start_fits (sym c.word.ensures) ∙ sym c.is_start.ensures ∙ c.if-is_start.true) (sym c.word-then-is_start.ensures ∙ c.if-word-n.false) (omega (arith, c.word-then-is_start-2.ensures))
+    sequence_wrong c.args.s.now c.if-n-ne0.false c.if-n-lt-LEAST.false c.if-n-gt-MOST.false (ap start_fits (sym c.word.ensures) ∙ sym c.is_start.ensures ∙ c.if-not-is_start.false) (sym c.word-2.ensures ∙ c.if-word-n.false) (omega (arith, c.word-3.ensures))
 
 pub returns-then-word-ne-END : goal.returns-then-word-ne-END
 returns-then-word-ne-END c =
-    end_wrong c.args.s.now c.if-n-ne0.false c.if-n-lt-LEAST.false c.if-n-gt-MOST.false (ap start_fits (sym c.word.ensures) ∙ sym c.is_start.ensures ∙ c.if-is_start.true) (sym c.word-then-is_start.ensures ∙ c.if-word-n.false) (omega (arith, c.word-then-is_start-2.ensures)) (λ z. c.if-word-ne-END.true (c.word-then-is_start-3.ensures ∙ z))
-
-pub returns-then-is_start : goal.returns-then-is_start
-returns-then-is_start c =
-    head_right c.args.s.now c.if-n-ne0.false c.if-n-lt-LEAST.false c.if-n-gt-MOST.false (ap start_fits (sym c.word.ensures) ∙ sym c.is_start.ensures ∙ c.if-is_start.true) (sym c.word-then-is_start.ensures ∙ c.if-word-n.false) (omega (arith, c.word-then-is_start-2.ensures)) (sym c.word-then-is_start-3.ensures ∙ c.if-word-ne-END.false)
+    end_wrong c.args.s.now c.if-n-ne0.false c.if-n-lt-LEAST.false c.if-n-gt-MOST.false (ap start_fits (sym c.word.ensures) ∙ sym c.is_start.ensures ∙ c.if-not-is_start.false) (sym c.word-2.ensures ∙ c.if-word-n.false) (omega (arith, c.word-3.ensures)) (λ z. c.if-word-ne-END.true (c.word-4.ensures ∙ z))
 
 pub returns : goal.returns
 returns c =
-    start_wrong c.args.s.now c.if-n-ne0.false c.if-n-lt-LEAST.false c.if-n-gt-MOST.false (ap start_fits (sym c.word.ensures) ∙ sym c.is_start.ensures ∙ c.if-is_start.false)
+    head_right c.args.s.now c.if-n-ne0.false c.if-n-lt-LEAST.false c.if-n-gt-MOST.false (ap start_fits (sym c.word.ensures) ∙ sym c.is_start.ensures ∙ c.if-not-is_start.false) (sym c.word-2.ensures ∙ c.if-word-n.false) (omega (arith, c.word-3.ensures)) (sym c.word-4.ensures ∙ c.if-word-ne-END.false)
+
+pub returns-then-not-is_start : goal.returns-then-not-is_start
+returns-then-not-is_start c =
+    start_wrong c.args.s.now c.if-n-ne0.false c.if-n-lt-LEAST.false c.if-n-gt-MOST.false (ap start_fits (sym c.word.ensures) ∙ sym c.is_start.ensures ∙ c.if-not-is_start.true)

@@ -1,37 +1,40 @@
 -- `frame::partial::partial` meets its contract.
 -- Assumes nothing.
 use Prim.Native.Nat.{ℕ, ◌%◌}
-use mathlib.Core.Path.{ap, sym, ◌∙◌}
+use mathlib.Core.Path.{refl, ap, ◌∙◌}
 use native.Mathlib.Omega.{arith}
 use lib.Bits.{and_mask}
+use Rattle.std.proofs.lemmas.Result.{err_from_is_err_and}
 use Rattle.format.specs.Book.{class_of}
 use Rattle.format.specs.Frames.{start_fits, kind_of}
 use Rattle.format.proofs.reader.PartialJudging.{fault_refused, started}
-use Rattle.frame.specs.Views.{view_walk}
+use Rattle.frame.proofs.Judging.{no_fault}
 use Rattle.frame.proofs.PartialTurns.{stopped, ended}
 use Rattle.frame.proofs.partial.partial.Goals as goal
 
-pub returns-then-fault-ne0 : goal.returns-then-fault-ne0
-returns-then-fault-ne0 c = fault_refused c.args.buf.now c.args.n _ c.partial_fault-fault.ensures c.if-fault-ne0.true
+pub returns-in_err-partial_fault : goal.returns-in_err-partial_fault
+returns-in_err-partial_fault c =
+    let p = err_from_is_err_and c.from_residual.result c.from_residual.ensures.1 in
+    rw (p.1, p.2) (fault_refused c.args.buf.now c.args.n _ c.in_err-partial_fault.ensures (no_fault _))
 
 pub kind_of-kind-requires : goal.kind_of-kind-requires
-kind_of-kind-requires c =
-    ap start_fits c.word-w.ensures
-    ∙ (started c.args.buf.now _ (sym c.if-fault-ne0.false ∙ c.partial_fault-fault.ensures)).0
+kind_of-kind-requires c = ap start_fits c.word-w.ensures ∙ (started c.args.buf.now _ c.in_ok-partial_fault.ensures).0
 
-pub walk-walked-requires : goal.walk-walked-requires
-walk-walked-requires c =
-    let s = started c.args.buf.now _ (sym c.if-fault-ne0.false ∙ c.partial_fault-fault.ensures) in
+pub walk-requires : goal.walk-requires
+walk-requires c =
+    let s = started c.args.buf.now _ c.in_ok-partial_fault.ensures in
     omega (arith, s.1, s.2)
 
-pub returns-in-Refused : goal.returns-in-Refused
-returns-in-Refused c =
-    stopped c.args.buf.now c.args.n (sym c.if-fault-ne0.false ∙ c.partial_fault-fault.ensures) _ _
+pub returns-in_err-walked : goal.returns-in_err-walked
+returns-in_err-walked c =
+    let p = err_from_is_err_and c.from_residual-in_err-walked.result c.from_residual-in_err-walked.ensures.1 in
+    rw (p.1, p.2)
+    (stopped c.args.buf.now c.args.n c.in_ok-partial_fault.ensures _ _
     (c.kind_of-kind.ensures ∙ ap (λ (v : ℕ). kind_of (class_of v)) c.word-w.ensures)
-    (and_mask c.word-w.result 5 ∙ ap (λ (v : ℕ). v % 32) c.word-w.ensures) _ c.walk-walked.ensures _ _ (ap view_walk c.in-Refused.is)
+    (and_mask c.word-w.result 5 ∙ ap (λ (v : ℕ). v % 32) c.word-w.ensures) _ c.in_err-walked.ensures _ _ refl)
 
-pub returns-in-Ended : goal.returns-in-Ended
-returns-in-Ended c =
-    ended c.args.buf.now c.args.n (sym c.if-fault-ne0.false ∙ c.partial_fault-fault.ensures) _ _
+pub returns : goal.returns
+returns c =
+    ended c.args.buf.now c.args.n c.in_ok-partial_fault.ensures _ _
     (c.kind_of-kind.ensures ∙ ap (λ (v : ℕ). kind_of (class_of v)) c.word-w.ensures)
-    (and_mask c.word-w.result 5 ∙ ap (λ (v : ℕ). v % 32) c.word-w.ensures) _ c.walk-walked.ensures _ _ (ap view_walk c.in-Ended.is) c.word.ensures
+    (and_mask c.word-w.result 5 ∙ ap (λ (v : ℕ). v % 32) c.word-w.ensures) _ c.in_ok-walked.ensures _ _ refl c.word.ensures
