@@ -5,3 +5,4 @@ pub mod FieldLaws
 pub mod Headers
 pub mod PageLaws
 pub mod Once
+pub mod Named
