@@ -34,8 +34,19 @@ use Rattle.ledger.specs.PlaneFrames.{plane_frames, plane_frames_judge}
 use Rattle.ledger.proofs.records.Headers.{header_words}
 use Rattle.ledger.proofs.plane.VersionLaws.{limit_is, for_one, for_other, for_which, for_lawful}
 use Rattle.ledger.proofs.records.Judging.{verdict_parts, parts_verdict, frame_refused}
+use Rattle.std.proofs.Common.{Result, Ok, Err}
+use Rattle.std.specs.Prelude.{⊤, is_ok, IsErrAnd}
+use Rattle.book.specs.Refusals.{number_of}
+use Rattle.book.specs.declared.refusal.Refusal.{Refusal}
+use Rattle.book.specs.Views.{refusal}
 use Rattle.records.specs.Views.{unfit, framed_answer, history_judged}
 use Rattle.records.specs.Undoing.{Framed, Kept}
+
+-- ---- what a `?` passes on
+
+pub passed_on : {A : Type 0} (r : Result A Refusal) (e : Refusal) → IsErrAnd r (λ (q : Refusal). q ≡ e) → r ≡ Err e
+passed_on (Ok x) e i = absurd i
+passed_on (Err q) e i = ap Err i
 
 -- ---- the tests of the code, as the rules have them
 
@@ -274,18 +285,15 @@ module _ (F : Format) (b : List ℕ) (w : ℕ) where
   record_told o e = ap (λ (i : Outcome Judged). and_then i (λ j. accepted (lengths j))) e ∙ judged_told
 
 -- the walk back over the entries, and what stands at the word
-module _ (F : Format) (f b : List ℕ) (x : Summary) (w bad : ℕ) (e : unfit bad ≡ history_verdict plane_frames F f (entries_to F b x.count)) where
-  pub told_accepted : bad ≡ 0 → (o : Option Spot) → o ≡ plane_frames.spot f w → accepted (record { length = x.length; count = x.count; total = x.total; spot = o }) ≡ history_judged F f b x w
+module _ (F : Format) (f b : List ℕ) (x : Summary) (w : ℕ) where
+  pub told_accepted : accepted tt ≡ history_verdict plane_frames F f (entries_to F b x.count) → (o : Option Spot) → o ≡ plane_frames.spot f w
+      → accepted (record { length = x.length; count = x.count; total = x.total; spot = o }) ≡ history_judged F f b x w
   unfolding history_judged
-  told_accepted z o q =
-      let v : history_verdict plane_frames F f (entries_to F b x.count) ≡ accepted tt = sym e ∙ rw (eq-eqb bad 0 z) in
-      rw (v, q)
+  told_accepted e o q = rw (← e, q)
 
-  pub told_refused : (bad ≡ 0 → ⊥) → refused 21 bad ≡ history_judged F f b x w
+  pub told_refused : (n p : ℕ) → refused n p ≡ history_verdict plane_frames F f (entries_to F b x.count) → refused n p ≡ history_judged F f b x w
   unfolding history_judged
-  told_refused n =
-      let v : history_verdict plane_frames F f (entries_to F b x.count) ≡ refused 21 bad = sym e ∙ rw (ne_eqb bad 0 n) in
-      rw v
+  told_refused n p e = rw (← e)
 
 -- what an accepted record tells
 pub record RecordKnown (F : Format) (b : List ℕ) (x : Summary) : Type 0 where
@@ -406,40 +414,40 @@ module _ (F : Format) (b : List ℕ) (k : ℕ) (found : List ℕ) where
       go true p false q = rw (e, p, q)
       go true p true q = rw (e, p, q)
 
-module _ (b : List ℕ) (x : Summary) (f : FramedKnown (format_in b) b x) (k bad : ℕ) (found exit : List ℕ) (version : ℕ) (v : version ≡ word_at b 0)
-    (t : Kept (format_for version) (take (16 + x.length - 16) (drop 16 b)) b x.count k found bad exit) where
-  history : unfit bad ≡ history_verdict plane_frames (format_in b) (frame_in b) (entries_in (format_in b) b)
+module _ (b : List ℕ) (x : Summary) (f : FramedKnown (format_in b) b x) (k : ℕ) (found exit : List ℕ) (version : ℕ) (v : version ≡ word_at b 0)
+    (done : Result ⊤ Refusal) (t : Kept (format_for version) (take (16 + x.length - 16) (drop 16 b)) b x.count k found done exit) where
+  history : unfit done ≡ history_verdict plane_frames (format_in b) (frame_in b) (entries_in (format_in b) b)
   history =
       t.verdict
       ∙ ap₂ (λ (F : Format) (g : List ℕ). history_verdict plane_frames F g (entries_to F b x.count)) (ap format_for v) (frame_lent (format_in b) b x f)
       ∙ ap (λ (n : ℕ). history_verdict plane_frames (format_in b) (frame_in b) (entries_to (format_in b) b n)) f.count
 
-  verdict_is : record_verdict plane_frames (format_in b) b ≡ unfit bad
+  verdict_is : record_verdict plane_frames (format_in b) b ≡ unfit done
   verdict_is = parts_verdict plane_frames (format_in b) b f.header f.judged ∙ sym history
 
-  fits_all : bad ≡ 0 → record_verdict plane_frames (format_in b) b ≡ accepted tt
-  fits_all z = verdict_is ∙ ap (λ (n : ℕ). unfit n) z
+  fits_all : done ≡ Ok tt → record_verdict plane_frames (format_in b) b ≡ accepted tt
+  fits_all z = verdict_is ∙ ap unfit z
 
-  fits_not : (bad ≡ 0 → ⊥) → record_verdict plane_frames (format_in b) b ≡ refused 21 bad
-  fits_not n = let q : unfit bad ≡ refused 21 bad = rw (ne_eqb bad 0 n) in verdict_is ∙ q
+  fits_not : (r : Refusal) → done ≡ Err r → record_verdict plane_frames (format_in b) b ≡ refusal r
+  fits_not r z = verdict_is ∙ ap unfit z
 
-  pub kept_record : bad ≡ 0 → accepted x ≡ record_answer plane_frames (format_in b) b
+  pub kept_record : done ≡ Ok tt → accepted x ≡ record_answer plane_frames (format_in b) b
   unfolding record_answer
   kept_record z =
       let q : x ≡ record { length = length_in b; count = count_in b; total = total_in (format_in b) b } = (λ i. record { length = f.length i; count = f.count i; total = f.total i }) in
       rw (fits_all z) (ap accepted q)
 
-  pub kept_refused : (bad ≡ 0 → ⊥) → refused 21 bad ≡ record_answer plane_frames (format_in b) b
+  pub kept_refused : (r : Refusal) → done ≡ Err r → refusal r ≡ record_answer plane_frames (format_in b) b
   unfolding record_answer
-  kept_refused n = rw (fits_not n)
+  kept_refused r z = rw (fits_not r z)
 
-  told : exit ≡ pick ((eqb bad 0 && leb k (count_in b)) && leb (length_in b) (length found)) (sets found 0 (restored plane_frames (format_in b) b k)) found
+  told : exit ≡ pick ((is_ok done && leb k (count_in b)) && leb (length_in b) (length found)) (sets found 0 (restored plane_frames (format_in b) b k)) found
   unfolding restored
   told = rw (v, frame_lent (format_in b) b x f, f.count, (room (format_in b) b f.header).frame) at t.left
 
   pub kept_left : exit ≡ restore_exit plane_frames (format_in b) b k found
-  kept_left = go (eqb bad 0) refl
+  kept_left = go done refl
     where
-      go : (c : Bool) → eqb bad 0 ≡ c → exit ≡ restore_exit plane_frames (format_in b) b k found
-      go true q = rw q at told ∙ sym (restore_known (format_in b) b k found (fits_all (eqb-true bad 0 q)))
-      go false q = rw q at told ∙ restore_refused (format_in b) b k found 21 bad (fits_not (eqb-false bad 0 q))
+      go : (d : Result ⊤ Refusal) → done ≡ d → exit ≡ restore_exit plane_frames (format_in b) b k found
+      go (Ok u) q = rw q at told ∙ sym (restore_known (format_in b) b k found (fits_all q))
+      go (Err r) q = rw q at told ∙ restore_refused (format_in b) b k found (number_of r.fault) r.place (fits_not r q)

@@ -15,7 +15,7 @@ use lib.ListN.{length, get_or, take, drop, length-drop, length-append}
 use lib.Seq.{sets, length-take-le, take_at}
 use borrow.Author.Tests.{leb-true, eqb-true, eqb-false, eq-eqb, ne_eqb, lt-ltb, le-ltb, le-leb, lt-leb}
 use Rattle.format.specs.Words.{Bytes, bytes}
-use Rattle.format.specs.Answers.{Done, refused}
+use Rattle.format.specs.Answers.{Done, accepted, refused}
 use Rattle.format.specs.Items.{ItemOf, Item, Channel, Histogram, HitCount, Sample, Bin, LastCell, TimeBin, Text, StartEvent, ContinueEvent, EndEvent, words_of}
 use Rattle.format.specs.Frames.{last_of}
 use Rattle.format.specs.Cursor.{standing_at, shown_by}
@@ -42,7 +42,15 @@ use Rattle.ledger.proofs.records.Codecs.{numbered_suc}
 use Rattle.ledger.proofs.plane.VersionLaws.{for_which}
 use Rattle.ledger.proofs.records.Walking.{judge_none, judge_back, judge_stop, restore_done, restore_back}
 use Rattle.ledger.proofs.plane.PlaneFrames.{stands_there, plane_frames_lawful}
-use Rattle.records.specs.Views.{unfit}
+use Rattle.std.proofs.Common.{Result, Ok, Err}
+use Rattle.std.specs.Prelude.{⊤}
+use Rattle.book.specs.declared.refusal.Refusal.{Refusal}
+use Rattle.book.specs.Views.{refusal}
+use denote.Enum.Declared.{tag_of}
+use Rattle.records.specs.contracts.answers.SpotKind.{the_type}
+use Rattle.records.specs.declared.answers.SpotKind.{SpotKind}
+use Rattle.records.specs.declared.answers.SpotKind.TheVariants as kinds
+use Rattle.records.specs.Views.{view_spot_kind, unfit}
 use Rattle.records.specs.Sound.{sound_at, left_by}
 use Rattle.records.specs.Stored.{stored, Inside}
 use Rattle.records.specs.Undoing.{Heads, Undoing, Walked, Kept}
@@ -178,6 +186,11 @@ module _ (F : Format) (e : Entry) where
   unfolding sound_at
   kept_sound c named n q kept k s = k s ∙ sym (rw (ne_eqb e.old e.new c, sym n ∙ q))
 
+-- a kind as the code casts it
+pub kind_number : (k : SpotKind) → tag_of the_type k + 1 ≡ view_spot_kind k
+kind_number kinds.Sample = refl
+kind_number kinds.Bin = refl
+
 module _ (e : Entry) (kind value : ℕ) where
   pub other_kind : (kind ≡ e.kind → ⊥) → false ≡ left_by e kind value
   unfolding left_by
@@ -187,9 +200,9 @@ module _ (e : Entry) (kind value : ℕ) where
   unfolding left_by
   other_value q n = rw (eq-eqb kind e.kind q, ne_eqb value e.new n)
 
-  pub old_left : kind ≡ e.kind → value ≡ e.new → (t : Bool) → t ≡ legal_value kind e.old → t ≡ left_by e kind value
+  pub old_left : kind ≡ e.kind → value ≡ e.new → (t : Bool) → t ≡ legal_value e.kind e.old → t ≡ left_by e kind value
   unfolding left_by
-  old_left q w t l = l ∙ sym (rw (eq-eqb kind e.kind q, eq-eqb value e.new w, ← q))
+  old_left q w t l = l ∙ sym (rw (eq-eqb kind e.kind q, eq-eqb value e.new w))
 
 -- what an entry keeps: nothing in version 1, a time and desk 0 in version 2
 pub stamp_missing : (version : ℕ) (s : Spot) → eqb version 1 ≡ ((format_for version).good [] && (format_for version).suits [] s)
@@ -274,12 +287,12 @@ module _ (F : Format) (f b : List ℕ) (e : Entry) where
       let j : e ≡ numbered F b (suc p) = entry_from F b at e i v ∙ numbered_at F b p at (rw n at w) in
       rw (n, q, j) (sym (judge_back plane_frames F f b p (rw j at t)))
 
-  pub turn_stop : (m at : ℕ) → 0 < m → e ≡ entry_of F (take (length b - at) (drop at b)) → at ≤ length b → at ≡ 16 + length_in b + size F * (m - 1) → fits plane_frames F f e ≡ false → unfit m ≡ history_verdict plane_frames F f (entries_to F b m)
+  pub turn_stop : (m at : ℕ) → 0 < m → e ≡ entry_of F (take (length b - at) (drop at b)) → at ≤ length b → at ≡ 16 + length_in b + size F * (m - 1) → fits plane_frames F f e ≡ false → refused 21 m ≡ history_verdict plane_frames F f (entries_to F b m)
   turn_stop zero at l i v w t = absurd (omega arith)
   turn_stop (suc p) at l i v w t =
       let n : suc p - 1 ≡ p = omega arith in
       let j : e ≡ numbered F b (suc p) = entry_from F b at e i v ∙ numbered_at F b p at (rw n at w) in
-      rw (ne_eqb (suc p) 0 (λ z. omega arith)) (sym (judge_stop plane_frames F f b p (rw j at t)))
+      sym (judge_stop plane_frames F f b p (rw j at t))
 
   -- and what undoing gives, down to number k + 1
   pub turn_undone : (m at k : ℕ) → 0 < m → e ≡ entry_of F (take (length b - at) (drop at b)) → at ≤ length b → at ≡ 16 + length_in b + size F * (m - 1) → k < m → (g : List ℕ) → g ≡ before plane_frames f e
@@ -291,35 +304,35 @@ module _ (F : Format) (f b : List ℕ) (e : Entry) where
       rw (n, q, j) (sym (restore_back plane_frames F f b p k (omega arith)))
 
 module _ (F : Format) (map f b : List ℕ) (n k : ℕ) where
-  -- entry m does not fit
-  pub walked_stop : (m : ℕ) (g : List ℕ) → 0 < m → unfit m ≡ history_verdict plane_frames F f (entries_to F b n) → Walked F map f b n k m g
-  walked_stop m g l e = record {
-    stops = λ z. (let q : unfit m ≡ refused 21 m = rw (ne_eqb m 0 z) in sym e ∙ q);
-    goes_on = λ z. absurd (omega arith);
-    undoes = λ z. absurd (omega arith);
-    undoing = λ z. absurd (omega arith);
+  -- an entry does not fit
+  pub walked_stop : (r : Refusal) (g : List ℕ) → refusal r ≡ history_verdict plane_frames F f (entries_to F b n) → Walked F map f b n k (Err r) g
+  walked_stop r g e = record {
+    stops = λ q z. sym e ∙ same r q z;
+    goes_on = λ z. absurd (true≢false (sym z));
+    undoes = λ z. absurd (true≢false (sym z));
+    undoing = λ z. absurd (true≢false (sym z));
   }
+    where
+      same : (r q : Refusal) → ◌≡◌ {A = Result ⊤ Refusal} (Err r) (Err q) → ◌≡◌ {A = Done} (refusal r) (refusal q)
+      same r q z = cc
 
   -- all down to number k + 1 do
   pub walked_done : (m : ℕ) (g : List ℕ) → m ≡ k → history_verdict plane_frames F g (entries_to F b m) ≡ history_verdict plane_frames F f (entries_to F b n)
-      → undone plane_frames g (take (m - k) (entries_to F b m)) ≡ undone plane_frames f (take (n - k) (entries_to F b n)) → Undoing map g → Walked F map f b n k 0 g
+      → undone plane_frames g (take (m - k) (entries_to F b m)) ≡ undone plane_frames f (take (n - k) (entries_to F b n)) → Undoing map g → Walked F map f b n k (Ok tt) g
   walked_done m g z h d u = record {
-    stops = λ q. absurd (q refl);
+    stops = λ r q. cc;
     goes_on = λ q. rw z at h;
     undoes = λ q. sym (restore_done plane_frames F g b k) ∙ rw z at d;
     undoing = λ q. u;
   }
 
-  pub walked_bad : (bad : ℕ) (g : List ℕ) → Walked F map f b n k bad g → (bad ≡ 0 → ⊥) → unfit bad ≡ history_verdict plane_frames F f (entries_to F b n)
-  walked_bad bad g w z = let q : unfit bad ≡ refused 21 bad = rw (ne_eqb bad 0 z) in q ∙ sym (w.stops z)
+  pub walked_bad : (r : Refusal) (g : List ℕ) → Walked F map f b n k (Err r) g → refusal r ≡ history_verdict plane_frames F f (entries_to F b n)
+  walked_bad r g w = sym (w.stops r refl)
 
   -- no entry is left below number 0
-  pub walked_all : (bad : ℕ) (g : List ℕ) → k ≡ 0 → Walked F map f b n k bad g → unfit bad ≡ history_verdict plane_frames F f (entries_to F b n)
-  walked_all bad g z w = go (eqb bad 0) refl
-    where
-      go : (t : Bool) → eqb bad 0 ≡ t → unfit bad ≡ history_verdict plane_frames F f (entries_to F b n)
-      go true q = rw q (sym (judge_none plane_frames F g b) ∙ rw z at (w.goes_on (eqb-true bad 0 q)))
-      go false q = rw q (sym (w.stops (eqb-false bad 0 q)))
+  pub walked_all : (done : Result ⊤ Refusal) (g : List ℕ) → k ≡ 0 → Walked F map f b n k done g → unfit done ≡ history_verdict plane_frames F f (entries_to F b n)
+  walked_all (Ok u) g z w = sym (judge_none plane_frames F g b) ∙ rw z at (w.goes_on refl)
+  walked_all (Err r) g z w = walked_bad r g w
 
 -- ---- a copy of the frame
 
@@ -351,13 +364,17 @@ kept_frame F frame f g₀ kept kept' g b n k stop l e m d w u z =
 pub part_kept : (x y : List ℕ) (n : ℕ) → length x ≡ n → n ≤ length (x ++ y)
 part_kept x y n e = let l = length-append x y in omega arith
 
-module _ (F : Format) (frame b : List ℕ) (n k : ℕ) (found : List ℕ) (bad : ℕ) (v : unfit bad ≡ history_verdict plane_frames F frame (entries_to F b n)) where
-  pub kept_written : (exit x y : List ℕ) → ((eqb bad 0 && leb k n) && leb (length frame) (length found)) ≡ true → length x ≡ length frame
-      → (bad ≡ 0 → k ≤ n → x ≡ undone plane_frames frame (take (n - k) (entries_to F b n))) → exit ≡ sets found 0 (take (length frame) (x ++ y)) → Kept F frame b n k found bad exit
-  kept_written exit x y t l u e =
-      let a = and_left (eqb bad 0 && leb k n) (leb (length frame) (length found)) t in
-      let w = u (eqb-true bad 0 (and_left (eqb bad 0) (leb k n) a)) (leb-true k n (and_right (eqb bad 0) (leb k n) a)) in
-      record { verdict = v; left = rw t (e ∙ ap (λ (l : List ℕ). sets found 0 l) (take_at x y (length frame) l ∙ w)) }
+module _ (F : Format) (frame b : List ℕ) (n k : ℕ) (found : List ℕ) where
+  module _ (v : accepted tt ≡ history_verdict plane_frames F frame (entries_to F b n)) where
+    pub kept_written : (exit x y : List ℕ) → (leb k n && leb (length frame) (length found)) ≡ true → length x ≡ length frame
+        → (k ≤ n → x ≡ undone plane_frames frame (take (n - k) (entries_to F b n))) → exit ≡ sets found 0 (take (length frame) (x ++ y)) → Kept F frame b n k found (Ok tt) exit
+    kept_written exit x y t l u e =
+        let w = u (leb-true k n (and_left (leb k n) (leb (length frame) (length found)) t)) in
+        record { verdict = v; left = rw t (e ∙ ap (λ (l : List ℕ). sets found 0 l) (take_at x y (length frame) l ∙ w)) }
 
-  pub kept_none : ((eqb bad 0 && leb k n) && leb (length frame) (length found)) ≡ false → Kept F frame b n k found bad found
-  kept_none t = record { verdict = v; left = rw t }
+    pub kept_none : (leb k n && leb (length frame) (length found)) ≡ false → Kept F frame b n k found (Ok tt) found
+    kept_none t = record { verdict = v; left = rw t }
+
+  -- where an entry does not fit
+  pub kept_refused : (r : Refusal) → refusal r ≡ history_verdict plane_frames F frame (entries_to F b n) → (done : Result ⊤ Refusal) → done ≡ Err r → Kept F frame b n k found done found
+  kept_refused r v done e = record { verdict = ap unfit e ∙ v; left = rw e }

@@ -4,13 +4,14 @@ use Prim.Native.Nat.{ℕ}
 use mathlib.Core.Path.{◌≡◌, refl, sym, ap, ◌∙◌}
 use mathlib.Core.Bool.{Bool}
 use mathlib.Core.List.{List, [], ◌∷◌}
+use lib.ListN.{get_or}
 use lib.Seq.{sets}
 use Rattle.format.specs.Words.{bytes}
-use mathlib.Core.Option.{Option, none, some}
-use Rattle.format.specs.Answers.{Outcome, accepted, refused}
+use Rattle.std.proofs.Common.{Option, Some, None, Result, Ok, Err}
 use Rattle.format.specs.Spots as spots
 use Rattle.format.specs.Spots.{legal_value}
-use Rattle.book.proofs.Unique.{one, undone, equal_once}
+use Rattle.book.proofs.Unique.{one, undone, equal_once, same_result, same_option}
+use Rattle.book.specs.declared.refusal.Refusal.{Refusal}
 use Rattle.ledger.specs.Formats as formats
 use Rattle.ledger.specs.Records as ledger
 use Rattle.ledger.specs.Records.{entry_of, entry_bytes}
@@ -21,18 +22,14 @@ use Rattle.ledger.specs.VersionTwo.{version_two}
 use Rattle.ledger.specs.Versions.{format_for, format_in}
 use Rattle.ledger.specs.PlaneFrames.{plane_frames}
 use Rattle.records.specs.declared.answers.Header.{Header}
-use Rattle.records.specs.declared.answers.SpotFound.{SpotFound}
-use Rattle.records.specs.declared.answers.SpotFound.TheVariants as found
-use Rattle.records.specs.declared.answers.RecordFound.{RecordFound}
-use Rattle.records.specs.declared.answers.RecordFound.TheVariants as records
+use Rattle.records.specs.declared.answers.SpotKind.{SpotKind}
+use Rattle.records.specs.declared.answers.SpotKind.TheVariants as kind
+use Rattle.records.specs.declared.answers.Spot.{Spot}
+use Rattle.records.specs.declared.answers.Record.{Record}
 use Rattle.records.specs.declared.answers.Judged.{Judged}
-use Rattle.records.specs.declared.answers.Judged.TheVariants as judging
 use Rattle.records.specs.declared.answers.Stamp.{Stamp}
-use Rattle.records.specs.declared.answers.Stamp.TheVariants as stamps
 use Rattle.records.specs.declared.answers.Entry.{Entry}
-use Rattle.records.specs.declared.answers.EntryFound.{EntryFound}
-use Rattle.records.specs.declared.answers.EntryFound.TheVariants as entries
-use Rattle.records.specs.Views.{view_spot, view_record, view_judged, view_stamp, as_entry, view_entry}
+use Rattle.records.specs.Views.{view_spot_kind, view_found_spot, view_spot, summary_of, view_record, judged_of, view_judged, view_stamp, as_entry, view_entry}
 use Rattle.records.specs.Stored.{stored}
 use Rattle.records.specs.Promises.{SpotTold, Recorded, JudgedTo, EntryTold, RestoredTo, EntrySized, EntryRead, EntryPut, SignedBy, MayHold, WordPut, ValuePut}
 
@@ -41,86 +38,74 @@ use Rattle.records.specs.Promises.{SpotTold, Recorded, JudgedTo, EntryTold, Rest
 abbrev header_back : spots.Header → Header
 header_back h = record { card = h.card; chip = h.chip; channel = h.channel }
 
-abbrev spot_back : Option spots.Spot → SpotFound
-spot_back none = found.Nothing
-spot_back (some p) = found.Spot (record { kind = p.kind; value = p.value; header = header_back p.header })
+abbrev kind_back : ℕ → SpotKind
+kind_back n = get_or (kind.Bin ∷ kind.Sample ∷ kind.Bin ∷ []) n kind.Bin
 
-spot_back_lem : (r : SpotFound) → spot_back (view_spot r) ≡ r
-spot_back_lem (found.Spot p) = refl
-spot_back_lem found.Nothing = refl
+kind_back_lem : (k : SpotKind) → kind_back (view_spot_kind k) ≡ k
+kind_back_lem kind.Sample = refl
+kind_back_lem kind.Bin = refl
 
-pub same_spot : (r q : SpotFound) → view_spot r ≡ view_spot q → r ≡ q
-same_spot = undone view_spot spot_back spot_back_lem
+abbrev spot_back : spots.Spot → Spot
+spot_back p = record { kind = kind_back p.kind; value = p.value; header = header_back p.header }
 
-abbrev record_back : Outcome Summary → RecordFound
-record_back (accepted x) = records.Record (record { length = x.length; count = x.count; total = x.total })
-record_back (refused n p) = records.Refused (record { number = n; place = p })
+spot_back_lem : (p : Spot) → spot_back (view_found_spot p) ≡ p
+spot_back_lem p = ap (λ (k : SpotKind). record { kind = k; value = p.value; header = p.header }) (kind_back_lem p.kind)
 
-record_back_lem : (r : RecordFound) → record_back (view_record r) ≡ r
-record_back_lem (records.Record x) = refl
-record_back_lem (records.Refused x) = refl
+pub same_spot : (r q : Option Spot) → view_spot r ≡ view_spot q → r ≡ q
+same_spot = same_option view_found_spot (undone view_found_spot spot_back spot_back_lem)
 
-pub same_record : (r q : RecordFound) → view_record r ≡ view_record q → r ≡ q
-same_record = undone view_record record_back record_back_lem
+abbrev record_back : Summary → Record
+record_back x = record { length = x.length; count = x.count; total = x.total }
 
-abbrev judged_back : Outcome judged.Judged → Judged
-judged_back (accepted x) = judging.Accepted (record { length = x.length; count = x.count; total = x.total }) (spot_back x.spot)
-judged_back (refused n p) = judging.Refused (record { number = n; place = p })
+pub same_record : (r q : Result Record Refusal) → view_record r ≡ view_record q → r ≡ q
+same_record = same_result summary_of (undone summary_of record_back (λ r. refl))
 
-judged_back_lem : (r : Judged) → judged_back (view_judged r) ≡ r
-judged_back_lem (judging.Accepted x (found.Spot p)) = refl
-judged_back_lem (judging.Accepted x found.Nothing) = refl
-judged_back_lem (judging.Refused x) = refl
+same_judgement : (r q : Judged) → judged_of r ≡ judged_of q → r ≡ q
+same_judgement r q e =
+    let s : r.spot ≡ q.spot = same_spot r.spot q.spot (ap (λ (x : judged.Judged). x.spot) e) in
+    λ i. record { «record» = record { length = (e i).length; count = (e i).count; total = (e i).total }; spot = s i }
 
-pub same_judged : (r q : Judged) → view_judged r ≡ view_judged q → r ≡ q
-same_judged = undone view_judged judged_back judged_back_lem
+pub same_judged : (r q : Result Judged Refusal) → view_judged r ≡ view_judged q → r ≡ q
+same_judged = same_result judged_of same_judgement
 
-abbrev stamp_back : List ℕ → Stamp
-stamp_back [] = stamps.Missing
-stamp_back (t ∷ []) = stamps.Missing
-stamp_back (t ∷ d ∷ x) = stamps.Given t d
+abbrev stamp_back : List ℕ → Option Stamp
+stamp_back [] = None
+stamp_back (t ∷ []) = None
+stamp_back (t ∷ d ∷ x) = Some (record { time = t; desk = d })
 
-stamp_back_lem : (r : Stamp) → stamp_back (view_stamp r) ≡ r
-stamp_back_lem stamps.Missing = refl
-stamp_back_lem (stamps.Given t d) = refl
+stamp_back_lem : (r : Option Stamp) → stamp_back (view_stamp r) ≡ r
+stamp_back_lem None = refl
+stamp_back_lem (Some x) = refl
 
 abbrev plain_back : formats.Entry → Entry
 plain_back e = record { word = e.word; kind = e.kind; old = e.old; new = e.new; operator = e.operator; reason = e.reason; stamp = stamp_back e.extra }
 
 plain_back_lem : (e : Entry) → plain_back (as_entry e) ≡ e
 plain_back_lem e =
-    ap (λ (s : Stamp). record { word = e.word; kind = e.kind; old = e.old; new = e.new; operator = e.operator; reason = e.reason; stamp = s }) (stamp_back_lem e.stamp)
-
-abbrev entry_back : Outcome formats.Entry → EntryFound
-entry_back (accepted e) = entries.Entry (plain_back e)
-entry_back (refused n p) = entries.Refused (record { number = n; place = p })
-
-entry_back_lem : (r : EntryFound) → entry_back (view_entry r) ≡ r
-entry_back_lem (entries.Entry e) = ap entries.Entry (plain_back_lem e)
-entry_back_lem (entries.Refused x) = refl
-
-pub same_entry : (r q : EntryFound) → view_entry r ≡ view_entry q → r ≡ q
-same_entry = undone view_entry entry_back entry_back_lem
+    ap (λ (s : Option Stamp). record { word = e.word; kind = e.kind; old = e.old; new = e.new; operator = e.operator; reason = e.reason; stamp = s }) (stamp_back_lem e.stamp)
 
 pub same_plain : (r q : Entry) → as_entry r ≡ as_entry q → r ≡ q
 same_plain = undone as_entry plain_back plain_back_lem
 
+pub same_entry : (r q : Result Entry Refusal) → view_entry r ≡ view_entry q → r ≡ q
+same_entry = same_result as_entry same_plain
+
 -- T39: no second result, function by function; each is over the promise that the function's contract names (specs/Promises.antt). `spot`,
 -- `record`, `judge` and `entry` lend no memory to write
 
-pub spot_once : (f : List ℕ) (w : ℕ) (r q : SpotFound) → SpotTold f w r → SpotTold f w q → r ≡ q
+pub spot_once : (f : List ℕ) (w : ℕ) (r q : Option Spot) → SpotTold f w r → SpotTold f w q → r ≡ q
 spot_once f w = one view_spot same_spot (spots.spot f w)
 
-pub record_once : (b : List ℕ) (r q : RecordFound) → Recorded b r → Recorded b q → r ≡ q
+pub record_once : (b : List ℕ) (r q : Result Record Refusal) → Recorded b r → Recorded b q → r ≡ q
 record_once b = one view_record same_record (record_answer plane_frames (format_in b) b)
 
-pub judge_once : (b : List ℕ) (w : ℕ) (r q : Judged) → JudgedTo b w r → JudgedTo b w q → r ≡ q
+pub judge_once : (b : List ℕ) (w : ℕ) (r q : Result Judged Refusal) → JudgedTo b w r → JudgedTo b w q → r ≡ q
 judge_once b w = one view_judged same_judged (judged.judged_at plane_frames (format_in b) b w)
 
-pub entry_once : (b : List ℕ) (j : ℕ) (r q : EntryFound) → EntryTold b j r → EntryTold b j q → r ≡ q
+pub entry_once : (b : List ℕ) (j : ℕ) (r q : Result Entry Refusal) → EntryTold b j r → EntryTold b j q → r ≡ q
 entry_once b j = one view_entry same_entry (entry_answer plane_frames (format_in b) b j)
 
-pub restored_to_once : (b : List ℕ) (k : ℕ) (found : List ℕ) (r q : RecordFound) (e g : List ℕ) → RestoredTo b k found r e → RestoredTo b k found q g → (r ≡ q) × (e ≡ g)
+pub restored_to_once : (b : List ℕ) (k : ℕ) (found : List ℕ) (r q : Result Record Refusal) (e g : List ℕ) → RestoredTo b k found r e → RestoredTo b k found q g → (r ≡ q) × (e ≡ g)
 restored_to_once b k found r q e g x y = (same_record r q (x.answered ∙ sym y.answered), x.left ∙ sym y.left)
 
 pub entry_size_once : (version r q : ℕ) → EntrySized version r → EntrySized version q → r ≡ q

@@ -54,8 +54,10 @@ fn stamp_fits(stamp: Option<Stamp>, version: u16) -> bool
 {
     match stamp {
         None => version == Record::FIRST_VERSION,
-        Some(Stamp { time, desk }) => {
-            (version != Record::FIRST_VERSION) & (time <= Entry::LAST_TIME) & (desk == Entry::DESK)
+        Some(x) => {
+            (version != Record::FIRST_VERSION)
+                & (x.time <= Entry::LAST_TIME)
+                & (x.desk == Entry::DESK)
         }
     }
 }

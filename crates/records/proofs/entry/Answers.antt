@@ -8,18 +8,15 @@ use lib.Dec.{leb}
 use lib.ListN.{length}
 use Rattle.format.specs.Words.{word_at}
 use Rattle.format.specs.Answers.{Outcome, accepted}
+use Rattle.book.specs.Views.{refusal}
 use Rattle.ledger.specs.Formats.{size}
 use Rattle.ledger.specs.Calls.{Summary, record_answer}
 use Rattle.ledger.specs.PlaneFrames.{plane_frames}
 use Rattle.ledger.specs.Versions.{format_for, format_in}
-use Rattle.records.specs.Views.{summary_of, view_record}
-use Rattle.records.proofs.RecordLaws.{RecordKnown, record_known, few_entries, product_small, numbers, entry_refused, entry_inside, entry_none, entry_numbered}
+use Rattle.records.specs.Views.{summary_of, view_entry}
+use Rattle.records.proofs.RecordLaws.{passed_on, RecordKnown, record_known, few_entries, product_small, numbers, entry_refused, entry_inside, entry_none, entry_numbered}
 use native.Mathlib.Omega.{arith}
 use Rattle.records.proofs.entry.Goals as goal
-
--- what an accepted record tells
-tells : (b : List ℕ) (o : Outcome Summary) (x : Summary) → o ≡ accepted x → o ≡ record_answer plane_frames (format_in b) b → RecordKnown (format_in b) b x
-tells b o x e q = record_known (format_in b) b x (sym e ∙ q)
 
 -- the entry lies in the buffer, and its number is small
 inside : (b : List ℕ) (x : Summary) → RecordKnown (format_in b) b x → (j version s : ℕ) → (leb 1 j && leb j x.count) ≡ true → version ≡ word_at b 0 → s ≡ size (format_for version)
@@ -33,8 +30,8 @@ inside b x k j version s t v z =
 
 pub overflow_add-at : goal.overflow_add-at
 overflow_add-at c =
-    let k = tells c.args.buf.now _ (summary_of c.in-Record.x) (ap view_record c.in-Record.is) c.record-found.ensures in
-    let n = numbers c.args.j c.in-Record.x.count c.if-j-x.true in
+    let k = record_known (format_in c.args.buf.now) c.args.buf.now (summary_of c.in_ok-x.x) c.in_ok-x.ensures in
+    let n = numbers c.args.j c.in_ok-x.x.count c.if-j-x.true in
     omega (arith, entry_inside _ _ _ k c.args.j n.0 n.1)
 
 pub overflow_sub-at : goal.overflow_sub-at
@@ -42,32 +39,32 @@ overflow_sub-at c = (numbers _ _ c.if-j-x.true).0
 
 pub overflow_mul-at : goal.overflow_mul-at
 overflow_mul-at c =
-    let k = tells c.args.buf.now _ (summary_of c.in-Record.x) (ap view_record c.in-Record.is) c.record-found.ensures in
+    let k = record_known (format_in c.args.buf.now) c.args.buf.now (summary_of c.in_ok-x.x) c.in_ok-x.ensures in
     omega (arith, product_small _ _ _ c.entry_size.ensures (inside _ _ k c.args.j c.word-version.result c.entry_size.result c.if-j-x.true c.word-version.ensures c.entry_size.ensures).1)
 
 pub overflow_add-at-then-j-x : goal.overflow_add-at-then-j-x
 overflow_add-at-then-j-x c =
-    let k = tells c.args.buf.now _ (summary_of c.in-Record.x) (ap view_record c.in-Record.is) c.record-found.ensures in
+    let k = record_known (format_in c.args.buf.now) c.args.buf.now (summary_of c.in_ok-x.x) c.in_ok-x.ensures in
     omega (arith, (inside _ _ k c.args.j c.word-version.result c.entry_size.result c.if-j-x.true c.word-version.ensures c.entry_size.ensures).0)
 
 pub slice_bounds-entry_of-count : goal.slice_bounds-entry_of-count
 slice_bounds-entry_of-count c =
-    let k = tells c.args.buf.now _ (summary_of c.in-Record.x) (ap view_record c.in-Record.is) c.record-found.ensures in
+    let k = record_known (format_in c.args.buf.now) c.args.buf.now (summary_of c.in_ok-x.x) c.in_ok-x.ensures in
     omega (arith, (inside _ _ k c.args.j c.word-version.result c.entry_size.result c.if-j-x.true c.word-version.ensures c.entry_size.ensures).0)
 
 pub slice_bounds-entry_of-start : goal.slice_bounds-entry_of-start
 slice_bounds-entry_of-start c =
-    let k = tells c.args.buf.now _ (summary_of c.in-Record.x) (ap view_record c.in-Record.is) c.record-found.ensures in
+    let k = record_known (format_in c.args.buf.now) c.args.buf.now (summary_of c.in_ok-x.x) c.in_ok-x.ensures in
     omega (arith, (inside _ _ k c.args.j c.word-version.result c.entry_size.result c.if-j-x.true c.word-version.ensures c.entry_size.ensures).0)
 
 pub returns-then-j-x : goal.returns-then-j-x
 returns-then-j-x c =
-    let k = tells c.args.buf.now _ (summary_of c.in-Record.x) (ap view_record c.in-Record.is) c.record-found.ensures in
+    let k = record_known (format_in c.args.buf.now) c.args.buf.now (summary_of c.in_ok-x.x) c.in_ok-x.ensures in
     entry_numbered _ _ k _ _ _ _ c.if-j-x.true c.word-version.ensures c.entry_size.ensures c.entry_of.ensures (inside _ _ k c.args.j c.word-version.result c.entry_size.result c.if-j-x.true c.word-version.ensures c.entry_size.ensures).0
 
-pub returns-in-Refused : goal.returns-in-Refused
-returns-in-Refused c = entry_refused _ _ _ _ (sym (ap view_record c.in-Refused.is) ∙ c.record-found.ensures) _
+pub returns-in_err-x : goal.returns-in_err-x
+returns-in_err-x c = ap view_entry (passed_on _ _ c.from_residual.ensures.1) ∙ entry_refused _ _ _ _ c.in_err-x.ensures _
 
-pub returns-else-j-x : goal.returns-else-j-x
-returns-else-j-x c =
-    entry_none _ _ _ (tells c.args.buf.now _ (summary_of c.in-Record.x) (ap view_record c.in-Record.is) c.record-found.ensures) _ c.if-j-x.false
+pub returns : goal.returns
+returns c =
+    ap refusal c.into.ensures ∙ entry_none _ _ _ (record_known (format_in c.args.buf.now) c.args.buf.now (summary_of c.in_ok-x.x) c.in_ok-x.ensures) _ c.if-j-x.false

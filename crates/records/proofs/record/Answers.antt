@@ -1,12 +1,12 @@
 -- `records::record` meets its contract.
 -- Assumes nothing.
-use mathlib.Core.Path.{ap, sym, ◌∙◌}
-use Rattle.records.specs.Views.{view_judged}
-use Rattle.records.proofs.RecordLaws.{record_told}
+use mathlib.Core.Path.{ap, ◌∙◌}
+use Rattle.records.specs.Views.{view_record}
+use Rattle.records.proofs.RecordLaws.{passed_on, record_told}
 use Rattle.records.proofs.record.Goals as goal
 
-pub returns-in-Refused : goal.returns-in-Refused
-returns-in-Refused c = record_told _ _ _ _ (sym (ap view_judged c.in-Refused.is) ∙ c.judge-judged.ensures)
+pub returns-in_err-judged : goal.returns-in_err-judged
+returns-in_err-judged c = ap view_record (passed_on _ _ c.from_residual.ensures.1) ∙ record_told _ _ _ _ c.in_err-judged.ensures
 
-pub returns-in-Accepted : goal.returns-in-Accepted
-returns-in-Accepted c = record_told _ _ _ _ (sym (ap view_judged c.in-Accepted.is) ∙ c.judge-judged.ensures)
+pub returns : goal.returns
+returns c = record_told _ _ _ _ c.in_ok-judged.ensures

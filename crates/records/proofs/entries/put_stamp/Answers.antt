@@ -3,8 +3,8 @@
 use mathlib.Core.Path.{◌∙◌}
 use Rattle.records.proofs.entries.put_stamp.Goals as goal
 
-pub returns-in-Missing : goal.returns-in-Missing
-returns-in-Missing c = c.put_time.ensures ∙ rw c.in-Missing.is
+pub returns-in-None : goal.returns-in-None
+returns-in-None c = c.put_time.ensures ∙ rw c.in-None.is
 
-pub returns-in-Given : goal.returns-in-Given
-returns-in-Given c = c.put_time-in-Given.ensures ∙ rw c.in-Given.is
+pub returns-in-Some : goal.returns-in-Some
+returns-in-Some c = c.put_time-in-Some.ensures ∙ rw c.in-Some.is

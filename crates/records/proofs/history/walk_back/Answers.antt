@@ -1,10 +1,11 @@
 -- `records::history::walk_back` meets its contract: what the entries left do to the frame at hand is what all of them do to the first.
 -- Assumes nothing.
 use Prim.Native.Nat.{ℕ, ◌+◌, ◌-◌, ◌*◌, ◌≤◌, ◌<◌}
-use mathlib.Core.Path.{◌≡◌, refl, sym, ◌∙◌}
+use mathlib.Core.Path.{◌≡◌, refl, sym, ap, ◌∙◌}
 use mathlib.Core.List.{List}
 use lib.ListN.{length}
 use native.Mathlib.Omega.{arith}
+use Rattle.book.specs.Views.{refusal}
 use Rattle.ledger.specs.Formats.{size}
 use Rattle.ledger.specs.Records.{length_in}
 use Rattle.ledger.specs.Versions.{format_for}
@@ -69,7 +70,7 @@ returns-else-entry_fits c =
     let l = c.loop-m in
     let i = l.invariant in
     let w = low c.args.version _ _ _ l.m _ i.3 i.4 i.5 (omega arith) i.1 in
-    walked_stop _ _ _ _ _ _ _ _ (omega arith) (turn_stop _ _ _ _ l.m _ (omega arith) c.entry_in-e.ensures (omega (arith, w.whole)) w.begins (sym c.entry_fits.ensures ∙ c.if-entry_fits.false) ∙ i.6)
+    walked_stop _ _ _ _ _ _ _ _ (ap refusal c.at.ensures ∙ turn_stop _ _ _ _ l.m _ (omega arith) c.entry_in-e.ensures (omega (arith, w.whole)) w.begins (sym c.entry_fits.ensures ∙ c.if-entry_fits.false) ∙ i.6)
 
 pub shape_of-f : goal.shape_of-f
 shape_of-f c = c.loop-m.invariant.2

@@ -98,7 +98,7 @@ shape_of-map-in_default c = c.loop-map.invariant.1
 
 pub returns-in_default : goal.returns-in_default
 returns-in_default c =
-    note_end _ _ _ _ c.loop-map.invariant.0 (sym (ap view_standing c.in_default.is) ∙ c.item_at-standing.ensures)
+    note_end _ _ _ _ c.loop-map.invariant.0 c.in_default.ensures
 
 pub overflow_cast-at : goal.overflow_cast-at
 overflow_cast-at c = let g = c.loop-map.invariant.0 in omega (arith, g.few, g.within)
@@ -111,10 +111,10 @@ bounds-map-at-in-loop-map c = let g = c.loop-map.invariant.0 in omega (arith, g.
 
 pub loop-map-smaller : goal.loop-map-smaller
 loop-map-smaller c =
-    let n = note_item _ _ _ _ c.loop-map.invariant.0 _ _ (sym (ap view_standing c.in-Item.is) ∙ c.item_at-standing.ensures) _ c.head_behind-head.ensures in
+    let n = note_item _ _ _ _ c.loop-map.invariant.0 _ _ c.in-Some.ensures _ c.head_behind-head.ensures in
     omega (arith, n.0, n.1)
 
 pub loop-map-preserved : goal.loop-map-preserved
 loop-map-preserved c =
     let v = c.loop-map.invariant in
-    ((note_item _ _ _ _ v.0 _ _ (sym (ap view_standing c.in-Item.is) ∙ c.item_at-standing.ensures) _ c.head_behind-head.ensures).2, rw length-set v.1)
+    ((note_item _ _ _ _ v.0 _ _ c.in-Some.ensures _ c.head_behind-head.ensures).2, rw length-set v.1)

@@ -3,34 +3,33 @@
 use Prim.Native.Nat.{◌-◌}
 use mathlib.Core.Path.{refl, ap, sym, ◌∙◌}
 use native.Mathlib.Omega.{arith}
-use Rattle.cursor.specs.Views.{view_standing}
+use Rattle.records.specs.Views.{view_spot}
 use Rattle.records.proofs.Scanning.{seek_start, seek_found, seek_next, seek_end}
 use Rattle.records.proofs.scan.spot_in.Goals as goal
 
 pub loop-at-init : goal.loop-at-init
 loop-at-init c = seek_start _ _ c.requires
 
-pub returns-in_default : goal.returns-in_default
-returns-in_default c =
-    seek_end _ _ _ _ c.loop-at.invariant (sym (ap view_standing c.in_default.is) ∙ c.item_at-standing.ensures) c.loop-at-test.true
+pub returns-in_err-found : goal.returns-in_err-found
+returns-in_err-found c = ap view_spot c.from_residual.ensures ∙ seek_end _ _ _ _ c.loop-at.invariant c.in_err-found.ensures c.loop-at-test.true
 
 pub returns-then-at-w : goal.returns-then-at-w
 returns-then-at-w c =
-    seek_found _ _ _ _ c.loop-at.invariant _ _ (sym (ap view_standing c.in-Item.is) ∙ c.item_at-standing.ensures) c.if-at-w.true _ _ c.header_at.ensures c.spot_of.ensures
+    seek_found _ _ _ _ c.loop-at.invariant _ _ c.in_ok-found.ensures c.if-at-w.true _ _ c.header_at.ensures c.spot_of.ensures
 
 pub overflow_cast-at : goal.overflow_cast-at
 overflow_cast-at c =
-    let n = seek_next _ _ _ _ c.loop-at.invariant _ _ (sym (ap view_standing c.in-Item.is) ∙ c.item_at-standing.ensures) c.if-at-w.false c.loop-at-test.true _ refl in
+    let n = seek_next _ _ _ _ c.loop-at.invariant _ _ c.in_ok-found.ensures c.if-at-w.false c.loop-at-test.true _ refl in
     omega (arith, c.loop-at.invariant.few, n.0, n.1)
 
 pub loop-at-smaller : goal.loop-at-smaller
 loop-at-smaller c =
-    let n = seek_next _ _ _ _ c.loop-at.invariant _ _ (sym (ap view_standing c.in-Item.is) ∙ c.item_at-standing.ensures) c.if-at-w.false c.loop-at-test.true _ c.head_behind-head.ensures in
+    let n = seek_next _ _ _ _ c.loop-at.invariant _ _ c.in_ok-found.ensures c.if-at-w.false c.loop-at-test.true _ c.head_behind-head.ensures in
     omega (arith, n.0, n.1)
 
 pub loop-at-preserved : goal.loop-at-preserved
 loop-at-preserved c =
-    (seek_next _ _ _ _ c.loop-at.invariant _ _ (sym (ap view_standing c.in-Item.is) ∙ c.item_at-standing.ensures) c.if-at-w.false c.loop-at-test.true _ c.head_behind-head.ensures).2
+    (seek_next _ _ _ _ c.loop-at.invariant _ _ c.in_ok-found.ensures c.if-at-w.false c.loop-at-test.true _ c.head_behind-head.ensures).2
 
 pub returns : goal.returns
 returns c = sym (c.loop-at.invariant.passed c.loop-at-test.false)

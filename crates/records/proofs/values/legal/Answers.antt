@@ -1,14 +1,16 @@
 -- `records::values::legal` meets its contract.
 -- Assumes nothing.
+use mathlib.Core.Path.{ap, ◌∙◌}
 use native.Mathlib.Omega.{arith}
+use Rattle.records.specs.Views.{view_spot_kind}
 use Rattle.records.proofs.RecordLaws.{legal_sample, legal_bin, legal_none}
 use Rattle.records.proofs.values.legal.Goals as goal
 
-pub returns-then-kind-eq-SAMPLE : goal.returns-then-kind-eq-SAMPLE
-returns-then-kind-eq-SAMPLE c = legal_sample _ _ (omega arith)
+pub returns-in-Ok-Sample : goal.returns-in-Ok-Sample
+returns-in-Ok-Sample c = legal_sample _ _ (c.in-Ok-Sample.ensures ∙ ap view_spot_kind c.in-Ok-Sample.field-0-is)
 
-pub returns-then-kind-eq-BIN : goal.returns-then-kind-eq-BIN
-returns-then-kind-eq-BIN c = legal_bin _ _ (omega arith) (omega arith)
+pub returns-in-Ok-Bin : goal.returns-in-Ok-Bin
+returns-in-Ok-Bin c = legal_bin _ _ (c.in-Ok-Bin.ensures ∙ ap view_spot_kind c.in-Ok-Bin.field-0-is) (omega arith)
 
-pub returns : goal.returns
-returns c = legal_none _ _ (λ e. omega arith) (λ e. omega arith)
+pub returns-in-Err : goal.returns-in-Err
+returns-in-Err c = legal_none _ _ c.in-Err.ensures.0 c.in-Err.ensures.1

@@ -13,8 +13,8 @@ overflow_mul-w c = omega (arith, c.requires.0.sample (omega arith))
 pub word_put-requires : goal.word_put-requires
 word_put-requires c = omega (arith, c.requires.0.sample (omega arith))
 
-pub returns-then-kind-eq-SAMPLE : goal.returns-then-kind-eq-SAMPLE
-returns-then-kind-eq-SAMPLE c =
+pub returns-then-kind : goal.returns-then-kind
+returns-then-kind c =
     sample_stored _ _ _ _ c.requires.1 (omega arith) _ _ c.word.ensures c.word_put.ensures
 
 pub overflow_mul-w-2 : goal.overflow_mul-w-2

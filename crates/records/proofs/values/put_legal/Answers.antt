@@ -7,8 +7,8 @@ use Rattle.records.proofs.values.put_legal.Goals as goal
 pub overflow_cast-x : goal.overflow_cast-x
 overflow_cast-x c = omega (arith, sample_fits _ _ c.requires.1 (omega arith))
 
-pub returns-then-kind-eq-SAMPLE : goal.returns-then-kind-eq-SAMPLE
-returns-then-kind-eq-SAMPLE c =
+pub returns-then-kind : goal.returns-then-kind
+returns-then-kind c =
     sample_stored _ _ _ _ c.requires.1 (omega arith) _ _ c.word.ensures c.put_word.ensures
 
 pub put_long-requires : goal.put_long-requires
