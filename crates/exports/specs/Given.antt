@@ -1,6 +1,6 @@
 -- What is handed to the exports flat: a follower, an assembler, the kind of a frame, an item.
 -- Assumes nothing.
-use Rattle.std.specs.Prelude.{ℕ, List, eqb}
+use Rattle.std.specs.Prelude.{ℕ, List, eqb, Result, Ok, Err}
 use Rattle.std.proofs.Math.Option.{Option, none, some}
 use Rattle.format.specs.Words.{pick}
 use Rattle.format.specs.Answers.{Outcome, refused}
@@ -11,12 +11,13 @@ use Rattle.format.specs.Writing as writing
 use Rattle.format.specs.Writing.{begin_answer, begin_left}
 use Rattle.follower.specs.Follow.{State, idle, expecting}
 use Rattle.runs.specs.Assembly.{Open, Assembler}
+use Rattle.book.specs.declared.items.Item.{Item}
+use Rattle.book.specs.declared.refusal.Fault.{Fault}
+use Rattle.book.specs.Refusals.{number_of}
 use Rattle.book.specs.Views.{view_item}
 use Rattle.exports.specs.declared.answers.PlaneItem.{PlaneItem}
 use Rattle.exports.specs.declared.answers.PlaneFollower.{PlaneFollower}
 use Rattle.exports.specs.declared.answers.PlaneAssembler.{PlaneAssembler}
-use Rattle.exports.specs.declared.writing.Given.{Given}
-use Rattle.exports.specs.declared.writing.Given.TheVariants as given
 
 abbrev pub follower_of : PlaneFollower → State
 follower_of x = pick (eqb x.expecting 0) idle (expecting x.number)
@@ -65,6 +66,6 @@ said x unassigned = flawed 6
 unfoldable pub token_of : PlaneItem → Token
 token_of x = said x (class_at x.item_class)
 
-abbrev pub view_given : Given → Token
-view_given (given.Item x) = writing.given (view_item x)
-view_given (given.Flawed n) = flawed n
+abbrev pub view_given : Result Item Fault → Token
+view_given (Ok x) = writing.given (view_item x)
+view_given (Err f) = flawed (number_of f)

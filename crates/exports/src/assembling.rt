@@ -1,85 +1,70 @@
 // The assembler of events over several frames.
 ghost use Rattle.std.specs.Prelude.{◌≡◌};
-ghost use Rattle.assembler.specs.Views.{view_current, view_assembler, view_taken};
+ghost use Rattle.assembler.specs.Views.{view_assembler, view_taken};
 ghost use Rattle.exports.specs.Flat.{flat_assembler, flat_taken};
-ghost use Rattle.exports.specs.Given.{current_of, assembler_of};
+ghost use Rattle.exports.specs.Given.{assembler_of};
 ghost use Rattle.exports.specs.Promises.{AssemblerMade, TakeTold, GivenUpTold};
 
 use crate::answers::{PlaneAssembler, PlaneTaken};
-use crate::following::{flat_follower, follower_of};
-use assembler::{Assembler, Current, OpenEvent, Taken};
+use assembler::{Assembler, OpenEvent, Taken};
+use book::refusal::Refusal;
 
-fn current_of(x: PlaneAssembler) -> Current
-    ensures { view_current result ≡ current_of x }
-{
-    if x.open == 0 {
-        return Current::Nothing;
-    }
-    Current::Open(OpenEvent {
-        number: x.number,
-        size: x.size,
-        key: x.key,
-    })
-}
+impl From<PlaneAssembler> for Assembler {
+    ghost from_gives = { λ x a. view_assembler a ≡ assembler_of x };
 
-fn assembler_of(x: PlaneAssembler) -> Assembler
-    ensures { view_assembler result ≡ assembler_of x }
-{
-    let given = x.follower;
-    let follower = follower_of(given);
-    let event = current_of(x);
-    Assembler {
-        card: x.card,
-        follower,
-        event,
+    fn from(x: PlaneAssembler) -> Assembler {
+        let open = OpenEvent {
+            number: x.number,
+            size: x.size,
+            key: x.key,
+        };
+        Assembler {
+            card: x.card,
+            follower: x.follower.into(),
+            event: if x.open == 0 { None } else { Some(open) },
+        }
     }
 }
 
-fn flat_assembler(a: Assembler) -> PlaneAssembler
-    ensures { result ≡ flat_assembler (view_assembler a) }
-{
-    let state = a.follower;
-    let follower = flat_follower(state);
-    let event = a.event;
-    match event {
-        Current::Nothing => PlaneAssembler {
+impl From<Assembler> for PlaneAssembler {
+    ghost from_gives = { λ a x. x ≡ flat_assembler (view_assembler a) };
+
+    #[tactic(auto, unfolding(crate::specs::Flat::flat_assembler))]
+    fn from(a: Assembler) -> PlaneAssembler {
+        let none = PlaneAssembler {
             card: a.card,
-            open: 0,
-            follower,
-            number: 0,
-            size: 0,
-            key: 0,
-        },
-        Current::Open(o) => PlaneAssembler {
-            card: a.card,
-            open: 1,
-            follower,
-            number: o.number,
-            size: o.size,
-            key: o.key,
-        },
+            follower: a.follower.into(),
+            ..PlaneAssembler::default()
+        };
+        match a.event {
+            None => none,
+            Some(o) => PlaneAssembler {
+                open: 1,
+                number: o.number,
+                size: o.size,
+                key: o.key,
+                ..none
+            },
+        }
     }
 }
 
 // The answer, where the assembler was asked as `given`.
-fn flat_taken(given: PlaneAssembler, taken: Taken) -> PlaneTaken
+#[tactic(auto, unfolding(crate::specs::Flat::flat_taken))]
+fn flat_taken(given: PlaneAssembler, taken: Result<Taken, Refusal>) -> PlaneTaken
     ensures { result ≡ flat_taken given (view_taken taken) }
 {
     match taken {
-        Taken::Accepted { lost, next } => {
-            let flat = flat_assembler(next);
-            PlaneTaken {
-                refused: 0,
-                place: 0,
-                lost,
-                next: flat,
-            }
-        }
-        Taken::Refused(r) => PlaneTaken {
-            refused: r.number,
+        Ok(x) => PlaneTaken {
+            lost: x.lost,
+            next: x.next.into(),
+            ..PlaneTaken::default()
+        },
+        Err(r) => PlaneTaken {
+            refused: r.fault.number(),
             place: r.place,
-            lost: 0,
             next: given,
+            ..PlaneTaken::default()
         },
     }
 }
@@ -88,14 +73,14 @@ fn flat_taken(given: PlaneAssembler, taken: Taken) -> PlaneTaken
 pub fn plane_new_assembler(card: u16) -> PlaneAssembler
     ensures { AssemblerMade card result }
 {
-    flat_assembler(Assembler::new(card))
+    Assembler::new(card).into()
 }
 
 // The next frame of the run: `Assembler::take`.
 pub fn plane_take(assembler: PlaneAssembler, frame: &[u8]) -> PlaneTaken
     ensures { TakeTold assembler frame.now result }
 {
-    let state = assembler_of(assembler);
+    let state = Assembler::from(assembler);
     flat_taken(assembler, state.take(frame))
 }
 
@@ -103,6 +88,6 @@ pub fn plane_take(assembler: PlaneAssembler, frame: &[u8]) -> PlaneTaken
 pub fn plane_give_up(assembler: PlaneAssembler) -> PlaneAssembler
     ensures { GivenUpTold assembler result }
 {
-    let state = assembler_of(assembler);
-    flat_assembler(state.give_up())
+    let state = Assembler::from(assembler);
+    state.give_up().into()
 }

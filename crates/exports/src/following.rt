@@ -6,51 +6,48 @@ ghost use Rattle.exports.specs.Given.{follower_of};
 ghost use Rattle.exports.specs.Promises.{FollowTold};
 
 use crate::answers::{PlaneFollowed, PlaneFollower};
-use follower::{Followed, Follower};
+use follower::{Followed, Follower, SequenceError};
 
-pub(crate) fn follower_of(x: PlaneFollower) -> Follower
-    ensures { state_of result ≡ follower_of x }
-{
-    if x.expecting == 0 {
-        return Follower::Idle;
+impl From<PlaneFollower> for Follower {
+    ghost from_gives = { λ x f. state_of f ≡ follower_of x };
+
+    fn from(x: PlaneFollower) -> Follower {
+        if x.expecting == 0 {
+            return Follower::Idle;
+        }
+        Follower::Expecting(x.number)
     }
-    Follower::Expecting(x.number)
 }
 
-pub(crate) fn flat_follower(follower: Follower) -> PlaneFollower
-    ensures { result ≡ flat_follower (state_of follower) }
-{
-    match follower {
-        Follower::Idle => PlaneFollower {
-            expecting: 0,
-            number: 0,
-        },
-        Follower::Expecting(number) => PlaneFollower {
-            expecting: 1,
-            number,
-        },
+impl From<Follower> for PlaneFollower {
+    ghost from_gives = { λ f x. x ≡ flat_follower (state_of f) };
+
+    fn from(follower: Follower) -> PlaneFollower {
+        match follower {
+            Follower::Idle => PlaneFollower::default(),
+            Follower::Expecting(number) => PlaneFollower {
+                expecting: 1,
+                number,
+            },
+        }
     }
 }
 
 // The answer, where the follower was asked as `given`.
-fn flat_followed(given: PlaneFollower, followed: Followed) -> PlaneFollowed
+#[tactic(auto, unfolding(crate::specs::Flat::flat_followed))]
+fn flat_followed(given: PlaneFollower, followed: Result<Followed, SequenceError>) -> PlaneFollowed
     ensures { result ≡ flat_followed given (view followed) }
 {
     match followed {
-        Followed::Accepted { lost, next } => {
-            let flat = flat_follower(next);
-            PlaneFollowed {
-                refused: 0,
-                place: 0,
-                lost,
-                next: flat,
-            }
-        }
-        Followed::Refused { number, place } => PlaneFollowed {
-            refused: number,
-            place,
-            lost: 0,
+        Ok(x) => PlaneFollowed {
+            lost: x.lost,
+            next: x.next.into(),
+            ..PlaneFollowed::default()
+        },
+        Err(e) => PlaneFollowed {
+            refused: e as u32,
             next: given,
+            ..PlaneFollowed::default()
         },
     }
 }
@@ -59,6 +56,6 @@ fn flat_followed(given: PlaneFollower, followed: Followed) -> PlaneFollowed
 pub fn plane_follow(follower: PlaneFollower, word: u16) -> PlaneFollowed
     ensures { FollowTold follower word result }
 {
-    let state = follower_of(follower);
+    let state = Follower::from(follower);
     flat_followed(follower, state.follow(word))
 }

@@ -1,17 +1,17 @@
 // The class of a word, and the questions on a frame and its items.
 ghost use Rattle.std.specs.Prelude.{◌≡◌};
-ghost use Rattle.book.specs.Views.{view_item};
-ghost use Rattle.rules.specs.Views.{view_kind};
+ghost use Rattle.format.specs.Book.{row_of};
+ghost use Rattle.book.specs.Views.{view, view_item};
 ghost use Rattle.frame.specs.Views.{view_reading, view_found};
-ghost use Rattle.exports.specs.Flat.{kind_number, row, blank, flat_item, flat_frame, flat_found};
+ghost use Rattle.exports.specs.Flat.{row, flat_item, flat_frame, flat_found};
 ghost use Rattle.exports.specs.Promises.{ClassNumbered, FrameTold, ItemTold, TextPart};
 
 use crate::answers::{PlaneFound, PlaneFrame, PlaneItem, PlaneText};
 use book::class::{Class, classify};
 use book::items::Item;
-use frame::items::{Found, item};
-use frame::reading::{Reading, read};
-use rules::state::Kind;
+use book::refusal::Refusal;
+use frame::items::{IndexedItem, item};
+use frame::reading::{Frame, read};
 
 // The row of a word's class in document 01's word book, from 1 on; 0 where it has none.
 pub fn plane_classify(word: u16) -> u32
@@ -20,39 +20,25 @@ pub fn plane_classify(word: u16) -> u32
     classify(word).row()
 }
 
-fn kind_number(kind: Kind) -> u16
-    ensures { result ≡ kind_number (view_kind kind) }
-{
-    match kind {
-        Kind::Data => 1,
-        Kind::Monitor => 2,
-        Kind::Command => 3,
-    }
-}
+impl From<Result<Frame, Refusal>> for PlaneFrame {
+    ghost from_gives = { λ reading x. x ≡ flat_frame (view_reading reading) };
 
-fn flat_frame(reading: Reading) -> PlaneFrame
-    ensures { result ≡ flat_frame (view_reading reading) }
-{
-    match reading {
-        Reading::Accepted(frame) => {
-            let kind = frame.kind;
-            PlaneFrame {
-                refused: 0,
-                place: 0,
-                kind: kind_number(kind),
+    #[tactic(auto, unfolding(crate::specs::Flat::flat_frame))]
+    fn from(reading: Result<Frame, Refusal>) -> PlaneFrame {
+        match reading {
+            Ok(frame) => PlaneFrame {
+                kind: frame.kind as u16,
                 card: frame.card,
                 sequence: frame.sequence,
                 items: frame.items,
-            }
+                ..PlaneFrame::default()
+            },
+            Err(r) => PlaneFrame {
+                refused: r.fault.number(),
+                place: r.place,
+                ..PlaneFrame::default()
+            },
         }
-        Reading::Refused(r) => PlaneFrame {
-            refused: r.number,
-            place: r.place,
-            kind: 0,
-            card: 0,
-            sequence: 0,
-            items: 0,
-        },
     }
 }
 
@@ -60,115 +46,91 @@ fn flat_frame(reading: Reading) -> PlaneFrame
 pub fn plane_read(frame: &[u8]) -> PlaneFrame
     ensures { FrameTold frame.now result }
 {
-    flat_frame(read(frame))
+    read(frame).into()
 }
 
-// An item of a class, all its fields 0.
-fn blank_item(class: u32) -> PlaneItem
-    ensures { result ≡ blank class }
+// An item of a chip: Channel, Histogram, Hit count and Last cell. (A struct laid out in each arm of the items takes the prover far longer.)
+fn chip_item(class: Class, card: u16, chip: u16, channel: u16, hits: u16, cell: u16) -> PlaneItem
+    ensures { result ≡ row (row_of (view class)) card chip channel hits 0 0 cell 0 0 0 0 0 0 0 }
 {
     PlaneItem {
-        item_class: class,
-        card: 0,
-        chip: 0,
-        channel: 0,
-        hits: 0,
-        value: 0,
-        bin: 0,
-        cell: 0,
-        time: 0,
-        length: 0,
-        kind: 0,
-        count: 0,
-        number: 0,
-        size: 0,
-        timestamp: 0,
-    }
-}
-
-// An item of a chip: Channel, Histogram, Hit count and Last cell. (A struct laid out in each arm of `flat_item` takes the prover far longer.)
-fn chip_item(class: u32, card: u16, chip: u16, channel: u16, hits: u16, cell: u16) -> PlaneItem
-    ensures { result ≡ row class card chip channel hits 0 0 cell 0 0 0 0 0 0 0 }
-{
-    PlaneItem {
+        item_class: class.row(),
         card,
         chip,
         channel,
         hits,
         cell,
-        ..blank_item(class)
+        ..PlaneItem::default()
     }
 }
 
 // An item of values: Sample, Bin, Time bin and Text.
-fn value_item(class: u32, value: u16, bin: u16, count: u32, time: u16, length: u16) -> PlaneItem
-    ensures { result ≡ row class 0 0 0 0 value bin 0 time length 0 count 0 0 0 }
+fn value_item(class: Class, value: u16, bin: u16, count: u32, time: u16, length: u16) -> PlaneItem
+    ensures { result ≡ row (row_of (view class)) 0 0 0 0 value bin 0 time length 0 count 0 0 0 }
 {
     PlaneItem {
+        item_class: class.row(),
         value,
         bin,
         count,
         time,
         length,
-        ..blank_item(class)
+        ..PlaneItem::default()
     }
 }
 
 // An item of an event: Start, Continue and End event.
-fn event_item(class: u32, kind: u16, timestamp: u64, number: u32, size: u32) -> PlaneItem
-    ensures { result ≡ row class 0 0 0 0 0 0 0 0 0 kind 0 number size timestamp }
+fn event_item(class: Class, kind: u16, timestamp: u64, number: u32, size: u32) -> PlaneItem
+    ensures { result ≡ row (row_of (view class)) 0 0 0 0 0 0 0 0 0 kind 0 number size timestamp }
 {
     PlaneItem {
+        item_class: class.row(),
         kind,
         timestamp,
         number,
         size,
-        ..blank_item(class)
+        ..PlaneItem::default()
     }
 }
 
-fn flat_item(item: Item) -> PlaneItem
-    ensures { result ≡ flat_item (view_item item) }
-{
-    match item {
-        Item::Channel(x) => chip_item(Class::ROW_CHANNEL, x.card, x.chip, x.channel, 0, 0),
-        Item::Histogram(x) => chip_item(Class::ROW_HISTOGRAM, x.card, x.chip, x.channel, 0, 0),
-        Item::HitCount(x) => chip_item(Class::ROW_HIT_COUNT, x.card, x.chip, 0, x.count, 0),
-        Item::Sample(x) => value_item(Class::ROW_SAMPLE, x.value, 0, 0, 0, 0),
-        Item::Bin(x) => value_item(Class::ROW_BIN, 0, x.bin, x.count, 0, 0),
-        Item::LastCell(x) => chip_item(Class::ROW_LAST_CELL, 0, x.chip, 0, 0, x.cell),
-        Item::TimeBin(x) => value_item(Class::ROW_TIME_BIN, 0, 0, 0, x.time, 0),
-        Item::Text(x) => value_item(Class::ROW_TEXT, 0, 0, 0, 0, x.length),
-        Item::StartEvent(x) => event_item(Class::ROW_START_EVENT, x.kind, x.timestamp, x.number, 0),
-        Item::EndEvent(x) => event_item(Class::ROW_END_EVENT, 0, 0, 0, x.size),
-        Item::ContinueEvent(x) => event_item(Class::ROW_CONTINUE_EVENT, 0, 0, x.number, 0),
+impl From<Item> for PlaneItem {
+    ghost from_gives = { λ item x. x ≡ flat_item (view_item item) };
+
+    #[tactic(auto, unfolding(crate::specs::Flat::flat_item))]
+    fn from(item: Item) -> PlaneItem {
+        match item {
+            Item::Channel(x) => chip_item(Class::Channel, x.card, x.chip, x.channel, 0, 0),
+            Item::Histogram(x) => chip_item(Class::Histogram, x.card, x.chip, x.channel, 0, 0),
+            Item::HitCount(x) => chip_item(Class::HitCount, x.card, x.chip, 0, x.count, 0),
+            Item::Sample(x) => value_item(Class::Sample, x.value, 0, 0, 0, 0),
+            Item::Bin(x) => value_item(Class::Bin, 0, x.bin, x.count, 0, 0),
+            Item::LastCell(x) => chip_item(Class::LastCell, 0, x.chip, 0, 0, x.cell),
+            Item::TimeBin(x) => value_item(Class::TimeBin, 0, 0, 0, x.time, 0),
+            Item::Text(x) => value_item(Class::Text, 0, 0, 0, 0, x.length),
+            Item::StartEvent(x) => event_item(Class::StartEvent, x.kind, x.timestamp, x.number, 0),
+            Item::EndEvent(x) => event_item(Class::EndEvent, 0, 0, 0, x.size),
+            Item::ContinueEvent(x) => event_item(Class::ContinueEvent, 0, 0, x.number, 0),
+        }
     }
 }
 
-fn flat_found(found: Found) -> PlaneFound
-    ensures { result ≡ flat_found (view_found found) }
-{
-    match found {
-        Found::Item(x) => {
-            let item = x.item;
-            let flat = flat_item(item);
-            PlaneFound {
-                refused: 0,
-                place: 0,
+impl From<Result<IndexedItem, Refusal>> for PlaneFound {
+    ghost from_gives = { λ found x. x ≡ flat_found (view_found found) };
+
+    #[tactic(auto, unfolding(crate::specs::Flat::flat_found))]
+    fn from(found: Result<IndexedItem, Refusal>) -> PlaneFound {
+        match found {
+            Ok(x) => PlaneFound {
                 index: x.index,
                 next: x.next,
-                item: flat,
-            }
-        }
-        Found::Refused(r) => {
-            let flat = blank_item(Class::ROW_NONE);
-            PlaneFound {
-                refused: r.number,
+                item: x.item.into(),
+                ..PlaneFound::default()
+            },
+            Err(r) => PlaneFound {
+                refused: r.fault.number(),
                 place: r.place,
-                index: 0,
-                next: 0,
-                item: flat,
-            }
+                ..PlaneFound::default()
+            },
         }
     }
 }
@@ -177,7 +139,7 @@ fn flat_found(found: Found) -> PlaneFound
 pub fn plane_item(frame: &[u8], n: usize) -> PlaneFound
     ensures { ItemTold frame.now n result }
 {
-    flat_found(item(frame, n))
+    item(frame, n).into()
 }
 
 // Where the bytes of the text that is item n lie, without the final zero, in the frame itself: right after the text's word. An export cannot answer
@@ -185,14 +147,10 @@ pub fn plane_item(frame: &[u8], n: usize) -> PlaneFound
 pub fn plane_text(frame: &[u8], n: usize) -> PlaneText
     ensures { TextPart frame.now n result }
 {
-    let found = flat_found(item(frame, n));
-    let flat = found.item;
-    let count = flat.length as usize;
+    let found = PlaneFound::from(item(frame, n));
+    let count = found.item.length as usize;
     if count < 1 {
-        return PlaneText {
-            offset: 0,
-            length: 0,
-        };
+        return PlaneText::default();
     }
     PlaneText {
         offset: 2 * (found.next - (count + 1) / 2),

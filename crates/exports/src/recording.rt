@@ -1,39 +1,38 @@
 // The calls on a record.
 ghost use Rattle.std.specs.Prelude.{◌≡◌, map};
-ghost use Rattle.ledger.specs.VersionTwo.{time_in};
-ghost use Rattle.records.specs.Views.{view_record, view_stamp, view_entry};
+ghost use Rattle.records.specs.Views.{view_record, view_entry};
 ghost use Rattle.editor.specs.Views.{view_done, asked};
 ghost use Rattle.corrections.specs.Views.{view_corrected};
-ghost use Rattle.exports.specs.Flat.{flat_done, flat_record, time_kept, flat_entry, flat_stopped};
+ghost use Rattle.exports.specs.Flat.{flat_done, flat_record, flat_entry, flat_stopped};
 ghost use Rattle.exports.specs.Promises.{RecordTold, EntryTold, Opened, Edited, EditedAll, Restored};
 
 use crate::answers::{PlaneDone, PlaneEntry, PlaneRecord, PlaneStopped};
-use corrections::{Corrected, edit_all};
-use editor::answers::Done;
+use book::refusal::Refusal;
+use corrections::{Stopped, edit_all};
 use editor::editing::{Correction, edit};
 use editor::opening::open;
 use editor::restoring::restore;
-use records::answers::{EntryFound, RecordFound, Stamp};
+use records::answers::{Entry, Record};
 use records::{entry, record};
 
-fn flat_record(found: RecordFound) -> PlaneRecord
-    ensures { result ≡ flat_record (view_record found) }
-{
-    match found {
-        RecordFound::Record(x) => PlaneRecord {
-            refused: 0,
-            place: 0,
-            length: x.length,
-            count: x.count,
-            total: x.total,
-        },
-        RecordFound::Refused(r) => PlaneRecord {
-            refused: r.number,
-            place: r.place,
-            length: 0,
-            count: 0,
-            total: 0,
-        },
+impl From<Result<Record, Refusal>> for PlaneRecord {
+    ghost from_gives = { λ found x. x ≡ flat_record (view_record found) };
+
+    #[tactic(auto, unfolding(crate::specs::Flat::flat_record))]
+    fn from(found: Result<Record, Refusal>) -> PlaneRecord {
+        match found {
+            Ok(x) => PlaneRecord {
+                length: x.length,
+                count: x.count,
+                total: x.total,
+                ..PlaneRecord::default()
+            },
+            Err(r) => PlaneRecord {
+                refused: r.fault.number(),
+                place: r.place,
+                ..PlaneRecord::default()
+            },
+        }
     }
 }
 
@@ -41,57 +40,33 @@ fn flat_record(found: RecordFound) -> PlaneRecord
 pub fn plane_record(buffer: &[u8]) -> PlaneRecord
     ensures { RecordTold buffer.now result }
 {
-    flat_record(record(buffer))
+    record(buffer).into()
 }
 
-// Whether an entry keeps a time, and which; the desk is 0 in every record that is accepted.
-#[derive(Clone, Copy)]
-struct Kept {
-    timed: u8,
-    time: u64,
-}
+// Of an entry's stamp its time is told; the desk is 0 in every record that is accepted.
+impl From<Result<Entry, Refusal>> for PlaneEntry {
+    ghost from_gives = { λ found x. x ≡ flat_entry (view_entry found) };
 
-fn kept_of(stamp: Stamp) -> Kept
-    ensures { (result.timed ≡ time_kept (view_stamp stamp)) × (result.time ≡ time_in (view_stamp stamp)) }
-{
-    match stamp {
-        Stamp::Missing => Kept { timed: 0, time: 0 },
-        Stamp::Given(time, _desk) => Kept { timed: 1, time },
-    }
-}
-
-fn flat_entry(found: EntryFound) -> PlaneEntry
-    ensures { result ≡ flat_entry (view_entry found) }
-{
-    match found {
-        EntryFound::Entry(x) => {
-            let stamp = x.stamp;
-            let kept = kept_of(stamp);
-            PlaneEntry {
-                refused: 0,
-                place: 0,
+    #[tactic(auto, unfolding(crate::specs::Flat::flat_entry))]
+    fn from(found: Result<Entry, Refusal>) -> PlaneEntry {
+        match found {
+            Ok(x) => PlaneEntry {
                 word: x.word,
                 kind: x.kind,
                 old_value: x.old,
                 new_value: x.new,
                 operator_id: x.operator,
                 reason: x.reason,
-                timed: kept.timed,
-                time: kept.time,
-            }
+                timed: x.stamp.is_some() as u8,
+                time: x.stamp.map_or(0, |stamp| stamp.time),
+                ..PlaneEntry::default()
+            },
+            Err(r) => PlaneEntry {
+                refused: r.fault.number(),
+                place: r.place,
+                ..PlaneEntry::default()
+            },
         }
-        EntryFound::Refused(r) => PlaneEntry {
-            refused: r.number,
-            place: r.place,
-            word: 0,
-            kind: 0,
-            old_value: 0,
-            new_value: 0,
-            operator_id: 0,
-            reason: 0,
-            timed: 0,
-            time: 0,
-        },
     }
 }
 
@@ -99,21 +74,20 @@ fn flat_entry(found: EntryFound) -> PlaneEntry
 pub fn plane_entry(buffer: &[u8], n: usize) -> PlaneEntry
     ensures { EntryTold buffer.now n result }
 {
-    flat_entry(entry(buffer, n))
+    entry(buffer, n).into()
 }
 
-fn flat_done(done: Done) -> PlaneDone
-    ensures { result ≡ flat_done (view_done done) }
-{
-    match done {
-        Done::Accepted => PlaneDone {
-            refused: 0,
-            place: 0,
-        },
-        Done::Refused(r) => PlaneDone {
-            refused: r.number,
-            place: r.place,
-        },
+impl From<Result<(), Refusal>> for PlaneDone {
+    ghost from_gives = { λ done x. x ≡ flat_done (view_done done) };
+
+    fn from(done: Result<(), Refusal>) -> PlaneDone {
+        match done {
+            Ok(()) => PlaneDone::default(),
+            Err(r) => PlaneDone {
+                refused: r.fault.number(),
+                place: r.place,
+            },
+        }
     }
 }
 
@@ -121,30 +95,29 @@ fn flat_done(done: Done) -> PlaneDone
 pub fn plane_open(buffer: &mut [u8], frame: &[u8]) -> PlaneDone
     ensures { Opened frame.now buffer.old result buffer.new }
 {
-    flat_done(open(buffer, frame))
+    open(buffer, frame).into()
 }
 
 // Edits the record in the buffer: `editor::edit`.
 pub fn plane_edit(buffer: &mut [u8], correction: Correction) -> PlaneDone
     ensures { Edited buffer.old (asked correction) result buffer.new }
 {
-    flat_done(edit(buffer, correction))
+    edit(buffer, correction).into()
 }
 
-fn flat_stopped(answer: Corrected) -> PlaneStopped
-    ensures { result ≡ flat_stopped (view_corrected answer) }
-{
-    match answer {
-        Corrected::Done => PlaneStopped {
-            refused: 0,
-            place: 0,
-            position: 0,
-        },
-        Corrected::Stopped(i, r) => PlaneStopped {
-            refused: r.number,
-            place: r.place,
-            position: i,
-        },
+impl From<Result<(), Stopped>> for PlaneStopped {
+    ghost from_gives = { λ answer x. x ≡ flat_stopped (view_corrected answer) };
+
+    #[tactic(auto, unfolding(crate::specs::Flat::flat_stopped))]
+    fn from(answer: Result<(), Stopped>) -> PlaneStopped {
+        match answer {
+            Ok(()) => PlaneStopped::default(),
+            Err(x) => PlaneStopped {
+                refused: x.refusal.fault.number(),
+                place: x.refusal.place,
+                position: x.position,
+            },
+        }
     }
 }
 
@@ -152,12 +125,12 @@ fn flat_stopped(answer: Corrected) -> PlaneStopped
 pub fn plane_edit_all(buffer: &mut [u8], corrections: &[Correction]) -> PlaneStopped
     ensures { EditedAll buffer.old (map asked corrections.now) result buffer.new }
 {
-    flat_stopped(edit_all(buffer, corrections))
+    edit_all(buffer, corrections).into()
 }
 
 // Restores the frame of a record as it stood after its first k edits, to the start of `out`: `editor::restore`.
 pub fn plane_restore(buffer: &[u8], k: usize, out: &mut [u8]) -> PlaneDone
     ensures { Restored buffer.now k out.old result out.new }
 {
-    flat_done(restore(buffer, k, out))
+    restore(buffer, k, out).into()
 }

@@ -2,6 +2,7 @@
 ghost use Rattle.std.specs.Prelude.{◌≡◌};
 ghost use Rattle.format.specs.Items.{flawed};
 ghost use Rattle.format.specs.Writing.{add_answer};
+ghost use Rattle.book.specs.Refusals.{number_of};
 ghost use Rattle.writer.specs.Views.{view_written};
 ghost use Rattle.exports.specs.Flat.{flat_written};
 ghost use Rattle.exports.specs.Given.{view_given, token_of};
@@ -13,27 +14,27 @@ use book::items::{
     Bin, Channel, ContinueEvent, EndEvent, Histogram, HitCount, Item, LastCell, Sample, StartEvent,
     Text, TimeBin,
 };
-use book::refusal::Refusal;
-use frame::begun::Partial;
+use book::refusal::{Fault, Refusal};
 use frame::partial::partial;
 use rules::state::Kind;
-use writer::answers::Written;
 use writer::calls::{add, add_text, begin, close};
 
-fn flat_written(written: Written) -> PlaneWritten
-    ensures { result ≡ flat_written (view_written written) }
-{
-    match written {
-        Written::Length(length) => PlaneWritten {
-            refused: 0,
-            place: 0,
-            length,
-        },
-        Written::Refused(r) => PlaneWritten {
-            refused: r.number,
-            place: r.place,
-            length: 0,
-        },
+impl From<Result<usize, Refusal>> for PlaneWritten {
+    ghost from_gives = { λ written x. x ≡ flat_written (view_written written) };
+
+    #[tactic(auto, unfolding(crate::specs::Flat::flat_written))]
+    fn from(written: Result<usize, Refusal>) -> PlaneWritten {
+        match written {
+            Ok(length) => PlaneWritten {
+                length,
+                ..PlaneWritten::default()
+            },
+            Err(r) => PlaneWritten {
+                refused: r.fault.number(),
+                place: r.place,
+                ..PlaneWritten::default()
+            },
+        }
     }
 }
 
@@ -41,101 +42,82 @@ fn flat_written(written: Written) -> PlaneWritten
 pub fn plane_begin(buffer: &mut [u8], kind: u16, card: u16, sequence: u16) -> PlaneWritten
     ensures { Begun buffer.old kind card sequence result buffer.new }
 {
-    match kind {
-        1 => flat_written(begin(buffer, Kind::Data, card, sequence)),
-        2 => flat_written(begin(buffer, Kind::Monitor, card, sequence)),
-        3 => flat_written(begin(buffer, Kind::Command, card, sequence)),
-        _ => PlaneWritten {
-            refused: Refusal::KIND,
-            place: 0,
-            length: 0,
+    match Kind::try_from(kind) {
+        Ok(kind) => begin(buffer, kind, card, sequence).into(),
+        Err(_) => PlaneWritten {
+            refused: Fault::Kind.number(),
+            ..PlaneWritten::default()
         },
     }
 }
 
-// What a flat item says: an item, or the number that its class is refused by.
-#[derive(Clone, Copy)]
-enum Given {
-    Item(Item),
-    Flawed(u32),
+// What a flat item says: an item, or what its class is refused by. Frame starts and Frame end are never items: 8. A number that no class has is 6.
+impl TryFrom<PlaneItem> for Item {
+    type Error = Fault;
+
+    ghost try_from_gives = { λ x given. view_given given ≡ token_of x };
+
+    #[tactic(auto, unfolding(crate::specs::Given::token_of))]
+    fn try_from(x: PlaneItem) -> Result<Item, Fault> {
+        let class = Class::try_from(x.item_class).map_err(|_| Fault::Class)?;
+        match class {
+            Class::Channel => Ok(Item::Channel(Channel {
+                card: x.card,
+                chip: x.chip,
+                channel: x.channel,
+            })),
+            Class::Histogram => Ok(Item::Histogram(Histogram {
+                card: x.card,
+                chip: x.chip,
+                channel: x.channel,
+            })),
+            Class::HitCount => Ok(Item::HitCount(HitCount {
+                card: x.card,
+                chip: x.chip,
+                count: x.hits,
+            })),
+            Class::Sample => Ok(Item::Sample(Sample { value: x.value })),
+            Class::Bin => Ok(Item::Bin(Bin {
+                bin: x.bin,
+                count: x.count,
+            })),
+            Class::LastCell => Ok(Item::LastCell(LastCell {
+                chip: x.chip,
+                cell: x.cell,
+            })),
+            Class::TimeBin => Ok(Item::TimeBin(TimeBin { time: x.time })),
+            Class::DataFrame => Err(Fault::Place),
+            Class::MonitorFrame => Err(Fault::Place),
+            Class::CommandFrame => Err(Fault::Place),
+            Class::Text => Ok(Item::Text(Text { length: x.length })),
+            Class::StartEvent => Ok(Item::StartEvent(StartEvent {
+                kind: x.kind,
+                timestamp: x.timestamp,
+                number: x.number,
+            })),
+            Class::EndEvent => Ok(Item::EndEvent(EndEvent { size: x.size })),
+            Class::FrameEnd => Err(Fault::Place),
+            Class::ContinueEvent => Ok(Item::ContinueEvent(ContinueEvent { number: x.number })),
+            Class::Unassigned => Err(Fault::Class),
+        }
+    }
 }
 
-// Frame starts and Frame end are never items: 8. A number that no class has is 6.
-fn item_given(x: PlaneItem) -> Given
-    ensures { view_given result ≡ token_of x }
+// The answer where no item was handed over: what is wrong with the partial frame, then the fault, at the word where the item would start.
+fn refuse_item(buffer: &[u8], length: usize, fault: Fault) -> Result<usize, Refusal>
+    ensures { view_written result ≡ add_answer buffer.now length (flawed (number_of fault)) }
 {
-    let class = x.item_class;
-    match class {
-        Class::ROW_CHANNEL => Given::Item(Item::Channel(Channel {
-            card: x.card,
-            chip: x.chip,
-            channel: x.channel,
-        })),
-        Class::ROW_HISTOGRAM => Given::Item(Item::Histogram(Histogram {
-            card: x.card,
-            chip: x.chip,
-            channel: x.channel,
-        })),
-        Class::ROW_HIT_COUNT => Given::Item(Item::HitCount(HitCount {
-            card: x.card,
-            chip: x.chip,
-            count: x.hits,
-        })),
-        Class::ROW_SAMPLE => Given::Item(Item::Sample(Sample { value: x.value })),
-        Class::ROW_BIN => Given::Item(Item::Bin(Bin {
-            bin: x.bin,
-            count: x.count,
-        })),
-        Class::ROW_LAST_CELL => Given::Item(Item::LastCell(LastCell {
-            chip: x.chip,
-            cell: x.cell,
-        })),
-        Class::ROW_TIME_BIN => Given::Item(Item::TimeBin(TimeBin { time: x.time })),
-        Class::ROW_DATA_FRAME => Given::Flawed(Refusal::PLACE),
-        Class::ROW_MONITOR_FRAME => Given::Flawed(Refusal::PLACE),
-        Class::ROW_COMMAND_FRAME => Given::Flawed(Refusal::PLACE),
-        Class::ROW_TEXT => Given::Item(Item::Text(Text { length: x.length })),
-        Class::ROW_START_EVENT => Given::Item(Item::StartEvent(StartEvent {
-            kind: x.kind,
-            timestamp: x.timestamp,
-            number: x.number,
-        })),
-        Class::ROW_END_EVENT => Given::Item(Item::EndEvent(EndEvent { size: x.size })),
-        Class::ROW_FRAME_END => Given::Flawed(Refusal::PLACE),
-        Class::ROW_CONTINUE_EVENT => Given::Item(Item::ContinueEvent(ContinueEvent {
-            number: x.number,
-        })),
-        _ => Given::Flawed(Refusal::CLASS),
-    }
-}
-
-// The answer where no item was handed over: what is wrong with the partial frame, then the number, at the word where the item would start.
-fn refuse_item(buffer: &[u8], length: usize, number: u32) -> PlaneWritten
-    ensures { result ≡ flat_written (add_answer buffer.now length (flawed number)) }
-{
-    let judged = partial(buffer, length);
-    match judged {
-        Partial::Refused(r) => PlaneWritten {
-            refused: r.number,
-            place: r.place,
-            length: 0,
-        },
-        Partial::Accepted(_frame) => PlaneWritten {
-            refused: number,
-            place: length / 2,
-            length: 0,
-        },
-    }
+    partial(buffer, length)?;
+    Err(fault.at(length / 2))
 }
 
 // Adds an item to the partial frame in the first `length` bytes: `writer::add`.
 pub fn plane_add(buffer: &mut [u8], length: usize, item: PlaneItem) -> PlaneWritten
     ensures { Added buffer.old length item result buffer.new }
 {
-    let said = item_given(item);
-    match said {
-        Given::Item(x) => flat_written(add(buffer, length, x)),
-        Given::Flawed(number) => refuse_item(buffer, length, number),
+    match Item::try_from(item) {
+        Ok(x) => add(buffer, length, x).into(),
+        Err(fault) => refuse_item(buffer, length, fault).into(),
     }
 }
 
@@ -143,12 +125,12 @@ pub fn plane_add(buffer: &mut [u8], length: usize, item: PlaneItem) -> PlaneWrit
 pub fn plane_add_text(buffer: &mut [u8], length: usize, text: &[u8]) -> PlaneWritten
     ensures { AddedText buffer.old length text.now result buffer.new }
 {
-    flat_written(add_text(buffer, length, text))
+    add_text(buffer, length, text).into()
 }
 
 // Closes the partial frame in the first `length` bytes: `writer::close`.
 pub fn plane_close(buffer: &mut [u8], length: usize) -> PlaneWritten
     ensures { Closed buffer.old length result buffer.new }
 {
-    flat_written(close(buffer, length))
+    close(buffer, length).into()
 }

@@ -1,9 +1,0 @@
--- `exports::asking::flat_filled` meets its contract.
--- Assumes nothing.
-use Rattle.exports.proofs.asking.flat_filled.Goals as goal
-
-pub returns-in-Done : goal.returns-in-Done
-returns-in-Done c = rw c.in-Done.is
-
-pub returns-in-Refused : goal.returns-in-Refused
-returns-in-Refused c = rw c.in-Refused.is

@@ -1,8 +1,0 @@
--- `exports::asking::plane_sample_word` meets its contract.
--- Assumes nothing.
-use mathlib.Core.Path.{ap, ◌∙◌}
-use Rattle.exports.specs.Flat.{flat_word}
-use Rattle.exports.proofs.asking.plane_sample_word.Goals as goal
-
-pub returns : goal.returns
-returns c = c.flat_word.ensures ∙ ap flat_word c.sample_word.ensures

@@ -1,6 +1,0 @@
--- `exports::reading::value_item` meets its contract.
--- Assumes nothing.
-use Rattle.exports.proofs.reading.value_item.Goals as goal
-
-pub returns : goal.returns
-returns c = rw c.blank_item.ensures
