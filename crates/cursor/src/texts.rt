@@ -11,10 +11,8 @@ pub fn no_zero(s: &[u8]) -> bool
     ensures { ZeroFree s.now result }
 {
     let mut good = true;
-    let mut i: usize = 0;
-    while i < s.len() {
-        good = good & (s[i] != 0);
-        i += 1;
+    for &x in s {
+        good &= x != 0;
     }
     good
 }
