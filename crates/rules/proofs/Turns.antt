@@ -34,39 +34,27 @@ pub whole_turn : (card at next : ℕ) (st : ReaderState) (x : Item) (r : Stepped
 unfolding check_by
 whole_turn card at next st x r e p v o s = e ∙ same_tested next p v o s
 
+-- what holds in each place holds in any
+pub in_every : (P : ReaderMode → Type 0) → P outside → P inside → P after_channel → P after_time → P after_sample → P unheaded → P headed → P commands → P fresh → (m : ReaderMode) → P m
+in_every P a b c d e f g h i outside = a
+in_every P a b c d e f g h i inside = b
+in_every P a b c d e f g h i after_channel = c
+in_every P a b c d e f g h i after_time = d
+in_every P a b c d e f g h i after_sample = e
+in_every P a b c d e f g h i unheaded = f
+in_every P a b c d e f g h i headed = g
+in_every P a b c d e f g h i commands = h
+in_every P a b c d e f g h i fresh = i
+
 -- Hit count, Last cell and End event stand where a Channel may
-pub hit_inside : (m : ReaderMode) → among channel (allowed m) ≡ among hit_count (allowed m)
-hit_inside outside = refl
-hit_inside inside = refl
-hit_inside after_channel = refl
-hit_inside after_time = refl
-hit_inside after_sample = refl
-hit_inside unheaded = refl
-hit_inside headed = refl
-hit_inside commands = refl
-hit_inside fresh = refl
+hit_inside : (m : ReaderMode) → among channel (allowed m) ≡ among hit_count (allowed m)
+hit_inside = in_every (λ m. among channel (allowed m) ≡ among hit_count (allowed m)) refl refl refl refl refl refl refl refl refl
 
-pub cell_inside : (m : ReaderMode) → among channel (allowed m) ≡ among last_cell (allowed m)
-cell_inside outside = refl
-cell_inside inside = refl
-cell_inside after_channel = refl
-cell_inside after_time = refl
-cell_inside after_sample = refl
-cell_inside unheaded = refl
-cell_inside headed = refl
-cell_inside commands = refl
-cell_inside fresh = refl
+cell_inside : (m : ReaderMode) → among channel (allowed m) ≡ among last_cell (allowed m)
+cell_inside = in_every (λ m. among channel (allowed m) ≡ among last_cell (allowed m)) refl refl refl refl refl refl refl refl refl
 
-pub end_inside : (m : ReaderMode) → among channel (allowed m) ≡ among end_event (allowed m)
-end_inside outside = refl
-end_inside inside = refl
-end_inside after_channel = refl
-end_inside after_time = refl
-end_inside after_sample = refl
-end_inside unheaded = refl
-end_inside headed = refl
-end_inside commands = refl
-end_inside fresh = refl
+end_inside : (m : ReaderMode) → among channel (allowed m) ≡ among end_event (allowed m)
+end_inside = in_every (λ m. among channel (allowed m) ≡ among end_event (allowed m)) refl refl refl refl refl refl refl refl refl
 
 -- the eleven items, each from the answers to its tests
 module _ (next : ℕ) (st : ReaderState) (r : Stepped) where
@@ -133,16 +121,3 @@ module _ (next : ℕ) (st : ReaderState) (r : Stepped) where
       → p ≡ place_by st text → r ≡ marked next (text_tested st closed)
   unfolding text_tested
   text_turn closed e f = e ∙ same_front next true (record { mode = commands; key = 0; next = 0; marks = st.marks }) {v = closed} {v' = closed} f refl
-
--- an even size, halved
-pub half : (n k : ℕ) → n % 2 ≡ 0 → 6 ≤ n → eqb (n / 2 - 3) k ≡ eqb n (2 * k + 6)
-half n k e h = go (eqb (n / 2 - 3) k) refl
-  where
-    go : (b : Bool) → eqb (n / 2 - 3) k ≡ b → eqb (n / 2 - 3) k ≡ eqb n (2 * k + 6)
-    go true q = q ∙ sym (eq-eqb n (2 * k + 6) (omega (arith, eqb-true (n / 2 - 3) k q)))
-    go false q = q ∙ sym (ne_eqb n (2 * k + 6) (λ i. eqb-false (n / 2 - 3) k q (omega arith)))
-
-pub half_none : (n a b : ℕ) → n % 2 ≡ 0 → 6 ≤ n → a < b → eqb (n / 2 - 3) 0 ≡ eqb n (2 * (a - b) + 6)
-half_none n a b e h l =
-    let z : 0 ≡ a - b = omega arith in
-    half n 0 e h ∙ ap (λ (k : ℕ). eqb n (2 * k + 6)) z

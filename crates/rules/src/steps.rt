@@ -23,13 +23,7 @@ pub struct Moved {
 
 // The first of place, value and order that does not hold, else the state after the item. Every class hands over its three tests and the state, worked out:
 // one law then makes the turn of all eleven classes.
-fn judged(
-    place: bool,
-    value: bool,
-    order: bool,
-    state: State,
-    next: usize,
-) -> Result<Moved, Fault>
+fn judged(place: bool, value: bool, order: bool, state: State, next: usize) -> Result<Moved, Fault>
     ensures { view_step result ≡ marked next (tested place value order (view_state state)) }
 {
     if !place {
@@ -48,42 +42,34 @@ fn judged(
 fn first_of(opener: usize, first: u32, n: u32) -> u32
     ensures { result ≡ pick (eqb opener 0 && eqb first 0) n first }
 {
-    if (opener == 0) & (first == 0) {
-        return n;
-    }
-    first
+    if opener == 0 && first == 0 { n } else { first }
 }
 
 // The index of the leading part's End event, with an End event at hand.
 fn lead_of(opener: usize, lead: usize, at: usize) -> usize
     ensures { result ≡ pick (eqb opener 0) at lead }
 {
-    if opener == 0 {
-        return at;
-    }
-    lead
+    if opener == 0 { at } else { lead }
 }
 
 pub fn channel(card: u16, st: State, x: Channel, next: usize) -> Result<Moved, Fault>
     ensures { ChannelStep card st x next result }
 {
-    let mode = st.mode;
     let k = key(x.card, x.chip, x.channel);
     let above = k + 1;
     let m = st.marks;
     let marks = Marks {
-        opener: m.opener,
         first: first_of(m.opener, m.first, above),
-        lead: m.lead,
+        ..m
     };
     let after = State {
         mode: Mode::AfterChannel,
         key: above,
-        next: st.next,
         marks,
+        ..st
     };
     judged(
-        may_stand_inside(mode),
+        may_stand_inside(st.mode),
         x.valid(card),
         st.key <= k,
         after,
@@ -94,63 +80,56 @@ pub fn channel(card: u16, st: State, x: Channel, next: usize) -> Result<Moved, F
 pub fn histogram(card: u16, st: State, x: Histogram, next: usize) -> Result<Moved, Fault>
     ensures { HistogramStep card st x next result }
 {
-    let mode = st.mode;
     let k = key(x.card, x.chip, x.channel);
     let above = k + 1;
-    let marks = st.marks;
     let after = State {
         mode: Mode::Headed,
         key: above,
         next: 0,
-        marks,
+        ..st
     };
-    judged(may_histogram(mode), x.valid(card), st.key <= k, after, next)
+    judged(
+        may_histogram(st.mode),
+        x.valid(card),
+        st.key <= k,
+        after,
+        next,
+    )
 }
 
 pub fn hit_count(card: u16, st: State, x: HitCount, next: usize) -> Result<Moved, Fault>
     ensures { HitCountStep card st x next result }
 {
-    let mode = st.mode;
-    let marks = st.marks;
     let after = State {
         mode: Mode::Inside,
-        key: st.key,
-        next: st.next,
-        marks,
+        ..st
     };
-    judged(may_stand_inside(mode), x.valid(card), true, after, next)
+    judged(may_stand_inside(st.mode), x.valid(card), true, after, next)
 }
 
 pub fn last_cell(st: State, x: LastCell, next: usize) -> Result<Moved, Fault>
     ensures { LastCellStep st x next result }
 {
-    let mode = st.mode;
-    let marks = st.marks;
     let after = State {
         mode: Mode::Inside,
-        key: st.key,
-        next: st.next,
-        marks,
+        ..st
     };
-    judged(may_stand_inside(mode), x.valid(), true, after, next)
+    judged(may_stand_inside(st.mode), x.valid(), true, after, next)
 }
 
 pub fn time_bin(st: State, x: TimeBin, next: usize) -> Result<Moved, Fault>
     ensures { TimeBinStep st x next result }
 {
-    let mode = st.mode;
     let time = x.time as u32;
-    let marks = st.marks;
     let after = State {
         mode: Mode::AfterTime,
-        key: st.key,
         next: time,
-        marks,
+        ..st
     };
     judged(
-        may_time(mode),
+        may_time(st.mode),
         x.valid(),
-        paused(mode, st.next, time),
+        paused(st.mode, st.next, time),
         after,
         next,
     )
@@ -161,24 +140,22 @@ fn later(time: u32) -> u32
     ensures { (time ≤ 511 → result ≡ time + 1) × (511 < time → result ≡ 0) }
 {
     if time <= TimeBin::LAST as u32 {
-        return time + 1;
+        time + 1
+    } else {
+        0
     }
-    0
 }
 
 pub fn sample(st: State, x: Sample, next: usize) -> Result<Moved, Fault>
     ensures { SampleStep st x next result }
 {
-    let mode = st.mode;
-    let marks = st.marks;
     let after = State {
         mode: Mode::AfterSample,
-        key: st.key,
         next: later(st.next),
-        marks,
+        ..st
     };
     judged(
-        may_sample(mode),
+        may_sample(st.mode),
         x.valid(),
         st.next <= TimeBin::LAST as u32,
         after,
@@ -189,50 +166,40 @@ pub fn sample(st: State, x: Sample, next: usize) -> Result<Moved, Fault>
 pub fn bin(st: State, x: Bin, next: usize) -> Result<Moved, Fault>
     ensures { BinStep st x next result }
 {
-    let mode = st.mode;
     let number = x.bin as u32;
-    let marks = st.marks;
     let after = State {
         mode: Mode::Headed,
-        key: st.key,
         next: number + 1,
-        marks,
+        ..st
     };
-    judged(may_bin(mode), x.valid(), st.next <= number, after, next)
+    judged(may_bin(st.mode), x.valid(), st.next <= number, after, next)
 }
 
 pub fn start_event(at: usize, st: State, x: StartEvent, next: usize) -> Result<Moved, Fault>
     ensures { StartEventStep at st x next result }
 {
-    let mode = st.mode;
-    let m = st.marks;
     let marks = Marks {
         opener: at,
-        first: m.first,
-        lead: m.lead,
+        ..st.marks
     };
     let after = State {
         mode: Mode::Inside,
         key: 0,
-        next: st.next,
         marks,
+        ..st
     };
-    judged(may_start(mode), x.valid(), true, after, next)
+    judged(may_start(st.mode), x.valid(), true, after, next)
 }
 
 // An event that began in another frame goes on; the content of the item's first word is zero.
 pub fn continue_event(st: State, low: u16, next: usize) -> Result<Moved, Fault>
     ensures { ContinueEventStep st low next result }
 {
-    let mode = st.mode;
-    let marks = st.marks;
     let after = State {
         mode: Mode::Inside,
-        key: st.key,
-        next: st.next,
-        marks,
+        ..st
     };
-    judged(may_continue(mode), low == 0, true, after, next)
+    judged(may_continue(st.mode), low == 0, true, after, next)
 }
 
 // The words of the event so far, and three for its End event, are half of its size. The size is halved and the words are not doubled, since
@@ -243,38 +210,26 @@ fn sized(at: usize, opener: usize, size: u32) -> bool
     if opener == 0 {
         return true;
     }
-    if size % 2 != 0 {
-        return false;
-    }
-    if size < 6 {
-        return false;
-    }
-    let words = (size / 2 - 3) as usize;
-    if at < opener {
-        return words == 0;
-    }
-    words == at - opener
+    let words = at.saturating_sub(opener);
+    size % 2 == 0 && 6 <= size && (size / 2 - 3) as usize == words
 }
 
 // The low bits of the item's first word are a value rule of their own. The opener stays: a constant in its place made the whole walk dearer.
 pub fn end_event(at: usize, st: State, x: EndEvent, low: u16, next: usize) -> Result<Moved, Fault>
     ensures { EndEventStep at st x low next result }
 {
-    let mode = st.mode;
     let before = st.marks;
     let marks = Marks {
-        opener: before.opener,
-        first: before.first,
         lead: lead_of(before.opener, before.lead, at),
+        ..before
     };
     let after = State {
         mode: Mode::Outside,
-        key: st.key,
-        next: st.next,
         marks,
+        ..st
     };
     let value = (low == 0) & sized(at, before.opener, x.size);
-    judged(may_stand_inside(mode), value, true, after, next)
+    judged(may_stand_inside(st.mode), value, true, after, next)
 }
 
 // A text whose bytes passed their test, or did not. Key and next, which a command frame has no use for, are 0 behind each text as at the start: so no
@@ -282,13 +237,11 @@ pub fn end_event(at: usize, st: State, x: EndEvent, low: u16, next: usize) -> Re
 pub fn text(st: State, closed: bool, next: usize) -> Result<Moved, Fault>
     ensures { TextStep st closed next result }
 {
-    let mode = st.mode;
-    let marks = st.marks;
     let after = State {
         mode: Mode::Commands,
         key: 0,
         next: 0,
-        marks,
+        ..st
     };
-    judged(may_text(mode), closed, true, after, next)
+    judged(may_text(st.mode), closed, true, after, next)
 }
