@@ -287,12 +287,13 @@ module _ (F : Format) (f b : List ℕ) (e : Entry) where
       let j : e ≡ numbered F b (suc p) = entry_from F b at e i v ∙ numbered_at F b p at (rw n at w) in
       rw (n, q, j) (sym (judge_back plane_frames F f b p (rw j at t)))
 
-  pub turn_stop : (m at : ℕ) → 0 < m → e ≡ entry_of F (take (length b - at) (drop at b)) → at ≤ length b → at ≡ 16 + length_in b + size F * (m - 1) → fits plane_frames F f e ≡ false → refused 21 m ≡ history_verdict plane_frames F f (entries_to F b m)
-  turn_stop zero at l i v w t = absurd (omega arith)
-  turn_stop (suc p) at l i v w t =
+  pub turn_stop : (m at : ℕ) → 0 < m → e ≡ entry_of F (take (length b - at) (drop at b)) → at ≤ length b → at ≡ 16 + length_in b + size F * (m - 1) → fits plane_frames F f e ≡ false
+      → (number : ℕ) → number ≡ m → refused 21 number ≡ history_verdict plane_frames F f (entries_to F b m)
+  turn_stop zero at l i v w t number k = absurd (omega arith)
+  turn_stop (suc p) at l i v w t number k =
       let n : suc p - 1 ≡ p = omega arith in
       let j : e ≡ numbered F b (suc p) = entry_from F b at e i v ∙ numbered_at F b p at (rw n at w) in
-      sym (judge_stop plane_frames F f b p (rw j at t))
+      rw k (sym (judge_stop plane_frames F f b p (rw j at t)))
 
   -- and what undoing gives, down to number k + 1
   pub turn_undone : (m at k : ℕ) → 0 < m → e ≡ entry_of F (take (length b - at) (drop at b)) → at ≤ length b → at ≡ 16 + length_in b + size F * (m - 1) → k < m → (g : List ℕ) → g ≡ before plane_frames f e

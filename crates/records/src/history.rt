@@ -142,16 +142,13 @@ fn walk_back(
     ensures { Walked (format_for version) map.now f.old b.now n k result f.new }
 {
     let size = entry_size(version);
-    let mut m = n;
-    while k < m {
-        let at = h + size * (m - 1);
+    for m in (k..n).rev() {
+        let at = h + size * m;
         let e = entry_in(&b[at..], version);
-        if entry_fits(f, map, e, version) {
-            put_in(f, e.kind, e.word as usize, e.old);
-            m -= 1;
-        } else {
-            return Err(Fault::Entry.at(m));
+        if !entry_fits(f, map, e, version) {
+            return Err(Fault::Entry.at(m + 1));
         }
+        put_in(f, e.kind, e.word as usize, e.old);
     }
     Ok(())
 }

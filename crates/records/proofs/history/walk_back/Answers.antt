@@ -41,7 +41,7 @@ entry_fits-requires c = c.loop-m.invariant.0
 pub put_in-requires : goal.put_in-requires
 put_in-requires c =
     let i = c.loop-m.invariant in
-    let t = sym c.entry_fits.ensures ∙ c.if-entry_fits.true in
+    let t = sym c.entry_fits.ensures ∙ c.if-not-entry_fits.false in
     (undo_inside _ _ i.0.frame _ t, undo_legal _ _ i.0.frame _ t)
 
 pub loop-m-preserved : goal.loop-m-preserved
@@ -49,7 +49,7 @@ loop-m-preserved c =
     let l = c.loop-m in
     let i = l.invariant in
     let w = low c.args.version _ _ _ l.m _ i.3 i.4 i.5 (omega arith) i.1 in
-    let t = sym c.entry_fits.ensures ∙ c.if-entry_fits.true in
+    let t = sym c.entry_fits.ensures ∙ c.if-not-entry_fits.false in
     let g = c.put_in.ensures ∙ stored_before _ _ i.0.frame _ t in (
       undoing_next _ _ i.0.frame _ t _ _ i.0 g,
       omega arith,
@@ -62,15 +62,15 @@ loop-m-preserved c =
       turn_undone _ _ _ _ l.m _ _ (omega arith) c.entry_in-e.ensures (omega (arith, w.whole)) w.begins (omega arith) _ g ∙ i.8,
     )
 
-pub shape_of-f-else-entry_fits : goal.shape_of-f-else-entry_fits
-shape_of-f-else-entry_fits c = c.loop-m.invariant.2
+pub shape_of-f-then-not-entry_fits : goal.shape_of-f-then-not-entry_fits
+shape_of-f-then-not-entry_fits c = c.loop-m.invariant.2
 
-pub returns-else-entry_fits : goal.returns-else-entry_fits
-returns-else-entry_fits c =
+pub returns-then-not-entry_fits : goal.returns-then-not-entry_fits
+returns-then-not-entry_fits c =
     let l = c.loop-m in
     let i = l.invariant in
     let w = low c.args.version _ _ _ l.m _ i.3 i.4 i.5 (omega arith) i.1 in
-    walked_stop _ _ _ _ _ _ _ _ (ap refusal c.at.ensures ∙ turn_stop _ _ _ _ l.m _ (omega arith) c.entry_in-e.ensures (omega (arith, w.whole)) w.begins (sym c.entry_fits.ensures ∙ c.if-entry_fits.false) ∙ i.6)
+    walked_stop _ _ _ _ _ _ _ _ (ap refusal c.at.ensures ∙ turn_stop _ _ _ _ l.m _ (omega arith) c.entry_in-e.ensures (omega (arith, w.whole)) w.begins (sym c.entry_fits.ensures ∙ c.if-not-entry_fits.true) _ (omega arith) ∙ i.6)
 
 pub shape_of-f : goal.shape_of-f
 shape_of-f c = c.loop-m.invariant.2
