@@ -6,10 +6,11 @@
 ghost use Rattle.std.specs.Prelude.{◌<◌};
 
 use book::items::{Bin, Histogram, Item};
+use book::refusal::Refusal;
 use book::words::word;
 use rules::state::{Kind, State};
+use std::io;
 use std::io::Read;
-use writer::answers::{Put, Written};
 use writer::calls::{begin, close};
 use writer::steps::put;
 
@@ -18,9 +19,12 @@ const CARD: u16 = 5;
 // How many items of a frame are one histogram: its header and 455 bins.
 const EACH: u32 = 456;
 
+// More histograms than a frame holds.
+const HISTOGRAMS: u32 = 11;
+
 // The k-th item of the n-th histogram, the header being the first: chips in order, 79 channels each.
 fn item_at(n: u32, k: u32, round: u16) -> Item
-    requires { (n < 5000) × (k < 456) }
+    requires { (n < 11) × (k < 456) }
 {
     if k == 0 {
         return Item::Histogram(Histogram {
@@ -36,108 +40,68 @@ fn item_at(n: u32, k: u32, round: u16) -> Item
     })
 }
 
-// Which item of a histogram comes after item k.
-fn after(k: u32) -> u32
-    ensures { result < 456 }
-{
-    if k < EACH - 1 {
-        return k + 1;
-    }
-    0
-}
-
 // Histograms of a monitor frame, by the step, up to the first item that does not fit; the length reached.
 fn put_items(buf: &mut [u8], begun: usize, round: u16) -> usize {
     let mut reached = begun;
-    let mut st = State::start(Kind::Monitor);
-    let mut i: u32 = 0;
-    let mut k: u32 = 0;
-    while i < 5000 {
-        let answer = put(buf, reached, CARD, st, item_at(i / EACH, k, round));
-        match answer {
-            Put::Reached(length, state) => {
-                reached = length;
-                st = state;
-            }
-            Put::Refused(_) => {
+    let mut state = State::start(Kind::Monitor);
+    for n in 0..HISTOGRAMS {
+        for k in 0..EACH {
+            let Ok(next) = put(buf, reached, CARD, state, item_at(n, k, round)) else {
                 return reached;
-            }
+            };
+            reached = next.length;
+            state = next.state;
         }
-        i += 1;
-        k = after(k);
     }
     reached
 }
 
-fn put_frame(buf: &mut [u8], round: u16) -> usize {
-    let answer = begin(buf, Kind::Monitor, CARD, round % 256);
-    match answer {
-        Written::Refused(_) => 0,
-        Written::Length(length) => put_items(buf, length, round),
+// The length of a frame, which is closed where that is asked for.
+fn put_frame(buf: &mut [u8], round: u16, closed: bool) -> Result<usize, Refusal> {
+    let begun = begin(buf, Kind::Monitor, CARD, round % 256)?;
+    let length = put_items(buf, begun, round);
+    if closed {
+        return close(buf, length);
     }
+    Ok(length)
 }
 
-fn closed(buf: &mut [u8], length: usize) -> usize {
-    let answer = close(buf, length);
-    match answer {
-        Written::Refused(_) => 0,
-        Written::Length(n) => n,
-    }
-}
-
-fn one_frame(buf: &mut [u8], round: u16, each: bool) -> usize {
-    let length = put_frame(buf, round);
-    if each {
-        return closed(buf, length);
-    }
-    length
-}
-
-// The length of the last of some frames, which is closed, and of each where that is asked for.
+// The length of the last of some frames, which is closed, and of each where that is asked for; 0 where it is refused.
 fn fill(buf: &mut [u8], rounds: u16, each: bool) -> usize {
-    let mut reached: usize = 0;
-    let mut round: u16 = 0;
-    while round < rounds {
-        reached = one_frame(buf, round, each);
-        round += 1;
+    let mut reached = 0;
+    for round in 0..rounds {
+        reached = put_frame(buf, round, each).unwrap_or(0);
     }
     if each {
         return reached;
     }
-    closed(buf, reached)
-}
-
-fn mixed(sum: u64, x: u8) -> u64 {
-    (sum % 4294967296 * 31 + x as u64) % 4294967291
+    close(buf, reached).unwrap_or(0)
 }
 
 fn sum_of(s: &[u8]) -> u64 {
-    let mut sum: u64 = 0;
-    let mut i: usize = 0;
-    while i < s.len() {
-        sum = mixed(sum, s[i]);
-        i += 1;
-    }
-    sum
+    s.iter()
+        .fold(0, |sum, &x| (sum % 4294967296 * 31 + x as u64) % 4294967291)
 }
 
 // Fills frames in a buffer of that length, and tells of the last.
-fn run(rt: &impl Print, buf: &mut [u8], rounds: u16, each: bool) {
+fn run(rt: &impl Print, buf: &mut [u8], rounds: u16, each: bool) -> io::Result<()> {
     let length = fill(buf, rounds, each);
-    if length <= buf.len() {
-        let sum = sum_of(&buf[0..length]);
-        let _ = println!(rt; "{length} {sum}");
+    if let Some(frame) = buf.get(..length) {
+        let sum = sum_of(frame);
+        println!(rt; "{length} {sum}")?;
     }
+    Ok(())
 }
 
-fn main(rt: HostRuntime) {
+fn main(rt: HostRuntime) -> io::Result<()> {
     let mut buf = [0u8; 8192];
     let mut head = [0u8; 6];
+    // What does not come is 0.
     let _ = rt.stdin().read_exact(&mut head);
     let rounds = word(&head, 0);
     let each = word(&head, 2) == 1;
-    let size = word(&head, 1) as usize;
-    if size <= 8192 {
-        run(&rt, &mut buf[0..size], rounds, each);
-    }
+    let Some(part) = buf.get_mut(..word(&head, 1) as usize) else {
+        return Ok(());
+    };
+    run(&rt, part, rounds, each)
 }

@@ -7,17 +7,21 @@ ghost use Rattle.listing.specs.Writes.{Put, Known};
 ghost use Rattle.listing.specs.Promises.{Listed};
 ghost use Rattle.listing.specs.Views.{view_listing};
 
-pub mod answers;
 mod pieces;
 mod rows;
 
-use answers::Listing;
-use book::refusal::Refusal;
+use book::refusal::{Fault, Refusal};
 use book::words::{copy, word};
-use frame::reading::{Reading, read};
-use records::answers::{Record, RecordFound};
+use frame::reading::read;
+use records::answers::Record;
 use records::record;
 use rows::{end_line, entry_lines, frame_line, refused_line};
+
+// The most bytes of a line: at most 40 of text and seven numbers of 20 digits.
+pub const LINE: usize = 180;
+
+// The most bytes of a listing: the frame's line, one line an entry, the last line. Lent so many, `listing` never refuses (proofs/Room.antt).
+pub const MOST: usize = (Record::MOST + 2) * LINE;
 
 // The lines of an accepted record of that frame length and entry count, in room for 514 of the longest.
 fn record_lines(lines: &mut [u8], buf: &[u8], size: usize, count: usize) -> usize
@@ -25,18 +29,14 @@ fn record_lines(lines: &mut [u8], buf: &[u8], size: usize, count: usize) -> usiz
     ensures { Put 92520 lines.old 0 (listings.listing buf.now) lines.new result }
 {
     let end = Record::HEADER + size;
-    let reading = read(&buf[Record::HEADER..end]);
-    match reading {
-        // Never taken: an accepted record's frame is accepted.
-        Reading::Refused(_r) => 0,
-        Reading::Accepted(f) => {
-            let kind = f.kind;
-            let first = frame_line(lines, kind, f.card, f.sequence, size, f.items);
-            let version = word(buf, Record::VERSION_WORD);
-            let next = entry_lines(lines, first, buf, version, end, count);
-            end_line(lines, next, count)
-        }
-    }
+    let Ok(f) = read(&buf[Record::HEADER..end]) else {
+        // An accepted record's frame is accepted.
+        unreachable!();
+    };
+    let first = frame_line(lines, f.kind, f.card, f.sequence, size, f.items);
+    let version = word(buf, Record::VERSION_WORD);
+    let next = entry_lines(lines, first, buf, version, end, count);
+    end_line(lines, next, count)
 }
 
 // All lines of a buffer.
@@ -44,36 +44,31 @@ fn all_lines(lines: &mut [u8], buf: &[u8]) -> usize
     requires { 92520 ≤ length lines.old }
     ensures { Put 92520 lines.old 0 (listings.listing buf.now) lines.new result }
 {
-    let found = record(buf);
-    match found {
-        RecordFound::Refused(r) => refused_line(lines, r),
-        RecordFound::Record(x) => record_lines(lines, buf, x.length, x.count),
+    match record(buf) {
+        Ok(x) => record_lines(lines, buf, x.length, x.count),
+        Err(r) => refused_line(lines, r),
     }
 }
 
 // The listing by way of a scratch that holds any: nothing is written where it does not fit. Its length is known only when it is made, and to make it
 // twice would cost more than the copy.
-fn listing_in(scratch: &mut [u8], buf: &[u8], out: &mut [u8]) -> Listing
+fn listing_in(scratch: &mut [u8], buf: &[u8], out: &mut [u8]) -> Result<usize, Refusal>
     requires { 92520 ≤ length scratch.old }
     ensures { Listed buf.now out.old (view_listing result) out.new }
 {
     let n = all_lines(scratch, buf);
-    if n <= out.len() {
-        copy(&scratch[..n], out);
-        return Listing::Length(n);
+    if out.len() < n {
+        return Err(Fault::Room.into());
     }
-    Listing::Refused(Refusal {
-        number: Refusal::ROOM,
-        place: 0,
-    })
+    copy(&scratch[..n], out);
+    Ok(n)
 }
 
 // Writes the listing of a buffer to the start of another, and answers its length; nothing beyond is written. A record that is refused is
-// listed as its refusal. Refuses by 12 where the second buffer is shorter than the listing, and then it is as found; `Listing::MOST` bytes hold
-// any.
-pub fn listing(buf: &[u8], out: &mut [u8]) -> Listing
+// listed as its refusal. Refuses by 12 where the second buffer is shorter than the listing, and then it is as found; `MOST` bytes hold any.
+pub fn listing(buf: &[u8], out: &mut [u8]) -> Result<usize, Refusal>
     ensures { Listed buf.now out.old (view_listing result) out.new }
 {
-    let mut scratch = [0u8; Listing::MOST];
+    let mut scratch = [0u8; MOST];
     listing_in(&mut scratch, buf, out)
 }

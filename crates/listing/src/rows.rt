@@ -4,6 +4,7 @@ ghost use Rattle.format.specs.Words.{word_at};
 ghost use Rattle.ledger.specs.Formats.{size};
 ghost use Rattle.ledger.specs.Records.{length_in, entry_of};
 ghost use Rattle.ledger.specs.Versions.{format_for};
+ghost use Rattle.book.specs.Refusals.{number_of};
 ghost use Rattle.rules.specs.Views.{view_kind};
 ghost use Rattle.records.specs.Views.{view_stamp};
 ghost use Rattle.listing.specs.Ascii.{ascii};
@@ -13,7 +14,7 @@ ghost use Rattle.listing.specs.Writes.{Put};
 
 use crate::pieces::{field, hex, text};
 use book::refusal::Refusal;
-use records::answers::{Spot, Stamp};
+use records::answers::{SpotKind, Stamp};
 use records::entries::{entry_of, entry_size};
 use rules::state::Kind;
 
@@ -55,7 +56,7 @@ fn old_value(line: &mut [u8], at: usize, kind: u16, old: u32) -> usize
     requires { at + 28 ≤ length line.old }
     ensures { Put 28 line.old at (kind_text kind ++ decimal old) line.new result }
 {
-    if kind == Spot::SAMPLE {
+    if kind == SpotKind::Sample as u16 {
         return field(line, at, b" sample ", old as u64);
     }
     field(line, at, b" bin ", old as u64)
@@ -73,18 +74,18 @@ fn change(line: &mut [u8], at: usize, j: usize, w: u16, kind: u16, old: u32, new
 }
 
 // When it was changed, where the entry keeps that; the desk is 0 and is not listed.
-fn stamp_time(line: &mut [u8], at: usize, stamp: Stamp) -> usize
+fn stamp_time(line: &mut [u8], at: usize, stamp: Option<Stamp>) -> usize
     requires { at + 24 ≤ length line.old }
     ensures { Put 24 line.old at (time_text (view_stamp stamp)) line.new result }
 {
     match stamp {
-        Stamp::Missing => at,
-        Stamp::Given(time, _desk) => field(line, at, b" at ", time),
+        None => at,
+        Some(x) => field(line, at, b" at ", x.time),
     }
 }
 
 // Who changed it, why and when, and the end of the line.
-fn signer(line: &mut [u8], at: usize, operator: u16, reason: u16, stamp: Stamp) -> usize
+fn signer(line: &mut [u8], at: usize, operator: u16, reason: u16, stamp: Option<Stamp>) -> usize
     requires { at + 77 ≤ length line.old }
     ensures { Put 77 line.old at (signer_text operator reason (view_stamp stamp)) line.new result }
 {
@@ -101,8 +102,7 @@ fn entry_line(line: &mut [u8], at: usize, j: usize, e: &[u8], version: u16) -> u
 {
     let x = entry_of(e, version);
     let next = change(line, at, j, x.word, x.kind, x.old, x.new);
-    let stamp = x.stamp;
-    signer(line, next, x.operator, x.reason, stamp)
+    signer(line, next, x.operator, x.reason, x.stamp)
 }
 
 // The lines of a record's entries, from the oldest; the history begins at byte `history` of the buffer, and each entry where the older one ends.
@@ -120,11 +120,9 @@ pub(crate) fn entry_lines(
     let size = entry_size(version);
     let mut from = history;
     let mut next = at;
-    let mut j = 0;
-    while j < count {
+    for j in 0..count {
         next = entry_line(line, next, j + 1, &buf[from..], version);
         from += size;
-        j += 1;
     }
     next
 }
@@ -141,9 +139,9 @@ pub(crate) fn end_line(line: &mut [u8], at: usize, count: usize) -> usize
 // A refusal's line, at the start.
 pub(crate) fn refused_line(line: &mut [u8], r: Refusal) -> usize
     requires { 180 ≤ length line.old }
-    ensures { Put 180 line.old 0 (refused_line r.number r.place) line.new result }
+    ensures { Put 180 line.old 0 (refused_line (number_of r.fault) r.place) line.new result }
 {
-    let at_place = field(line, 0, b"refused ", r.number as u64);
+    let at_place = field(line, 0, b"refused ", r.fault.number() as u64);
     let at_end = field(line, at_place, b" at ", r.place as u64);
     text(line, at_end, b"\n")
 }
