@@ -6,3 +6,4 @@ pub mod Headers
 pub mod PageLaws
 pub mod Once
 pub mod Named
+pub mod Mapped

@@ -2,7 +2,7 @@
 -- an answer of the code.
 -- Assumes nothing.
 use Prim.Native.Nat.{ℕ, zero, suc, ◌+◌, ◌%◌}
-use mathlib.Core.Path.{◌≡◌, refl, ap, ◌∙◌}
+use mathlib.Core.Path.{◌≡◌, refl, ap, ap₂, ◌∙◌}
 use mathlib.Core.List.{List, [], ◌∷◌}
 use mathlib.Core.Bool.{Bool, true, false, ◌&&◌}
 use mathlib.Core.Logic.{◌⊎◌, inl, inr}
@@ -23,6 +23,7 @@ use Rattle.book.specs.declared.refusal.Fault.{Fault}
 use Rattle.book.specs.declared.refusal.Fault.TheVariants as fault
 use Rattle.book.specs.declared.refusal.Refusal.{Refusal}
 use Rattle.book.specs.Refusals.{number_of}
+use Rattle.book.specs.Refuses.{Refuses}
 use Rattle.book.specs.Views.{view_result}
 
 abbrev pub Numbered : ℕ → Type 0
@@ -36,6 +37,15 @@ Named (refused n p) = Numbered n
 pub answer_for : {A : Type 0} (o : Outcome A) → Named o → (r : Result A Refusal) × (view_result (λ x. x) r ≡ o)
 answer_for (accepted x) h = (Ok x, refl)
 answer_for (refused n p) (f, e) = (Err (record { fault = f; place = p }), ap (λ (k : ℕ). refused k p) e)
+
+-- an answer is a refusal where what it says on paper is one
+module _ {A B : Type 0} (look : A → B) where
+  pub refuses_told : (r : Result A Refusal) (n p : ℕ) → Refuses r n p → view_result look r ≡ refused n p
+  refuses_told r n p (q, e, i, j) = ap (view_result look) e ∙ ap₂ (λ (k m : ℕ). refused k m) i j
+
+  pub told_refuses : (r : Result A Refusal) (n p : ℕ) → view_result look r ≡ refused n p → Refuses r n p
+  told_refuses (Ok x) n p e = let z : ◌≡◌ {A = ℕ} 0 1 = cc in absurd (omega arith)
+  told_refuses (Err q) n p e = (q, refl, cc, cc)
 
 -- ---- answers put together
 
@@ -76,12 +86,12 @@ behind_rules n o h k = go (eqb n 0) refl h
 
 -- ---- the walk
 
-abbrev Fair : Token → Type 0
+abbrev pub Fair : Token → Type 0
 Fair (whole x) = Unit {0}
 Fair (broken c) = Unit {0}
 Fair (flawed n) = Numbered n
 
-abbrev Checks : {A : Type 0} → Checked A → Type 0
+abbrev pub Checks : {A : Type 0} → Checked A → Type 0
 Checks (good x) = Unit {0}
 Checks (bad n) = Numbered n
 
@@ -95,7 +105,7 @@ placed : (place : Bool) → Checks {A = List Item} (pick place (bad 9) (bad 8))
 placed true = (fault.Value, refl)
 placed false = (fault.Place, refl)
 
-checks : (kind : Kind) (card : ℕ) (p : List Item) (t : Token) → Fair t → Checks (check kind card p t)
+pub checks : (kind : Kind) (card : ℕ) (p : List Item) (t : Token) → Fair t → Checks (check kind card p t)
 unfolding check
 checks kind card p (whole x) h = tested (place kind p (class_for x)) (value card p x) (order p x) (x ∷ p)
 checks kind card p (broken c) h = placed (place kind p c)

@@ -3,3 +3,4 @@ pub mod Refusals
 pub mod Fields
 pub mod Page
 pub mod Promises
+pub mod Refuses

@@ -1,10 +1,9 @@
 -- What the answers of this crate say in document 01, and what an edit asks.
 -- Assumes nothing.
-use Rattle.std.specs.Prelude.{ℕ, ◌+◌, [], ◌∷◌, not, ◌&&◌, leb, ltb, eqb, ◌≡◌, Result, Err}
+use Rattle.std.specs.Prelude.{ℕ, ◌+◌, [], ◌∷◌, not, ◌&&◌, leb, ltb, eqb, Result}
 use Rattle.format.specs.Answers as answers
 use Rattle.format.specs.Answers.{need, first_of}
 use Rattle.book.specs.declared.refusal.Refusal.{Refusal}
-use Rattle.book.specs.Refusals.{number_of}
 use Rattle.book.specs.Views.{view_result}
 use Rattle.ledger.specs.Formats as formats
 use Rattle.ledger.specs.Records.{signed}
@@ -19,10 +18,6 @@ Answer = Result (Unit {0}) Refusal
 
 abbrev pub view_done : Answer → answers.Done
 view_done = view_result (λ u. u)
-
--- the answer is the refusal of that number at that place
-abbrev pub Refuses : {A : Type 0} → Result A Refusal → ℕ → ℕ → Type 0
-Refuses r n p = (q : Refusal) × (r ≡ Err q) × (number_of q.fault ≡ n) × (q.place ≡ p)
 
 -- what an edit asks: after the reason a time, at desk 0
 abbrev pub asked : Correction → formats.Correction

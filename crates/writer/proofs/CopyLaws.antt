@@ -12,6 +12,7 @@ use lib.Dec.{leb, ltb}
 use lib.Pow.{are_bytes}
 use lib.ListN.{length, take, drop, length-map}
 use borrow.Author.Tests.{leb-true, lt-ltb}
+use Rattle.std.specs.Prelude.{Result, Ok, Err}
 use Rattle.format.specs.Words.{Bytes, non_zero}
 use Rattle.format.specs.Answers.{accepted, refused}
 use Rattle.format.specs.Items as items
@@ -32,23 +33,21 @@ use Rattle.format.proofs.questions.ItemQuestions.{item_stands}
 use Rattle.format.proofs.writer.HandingLaws.{shown_there}
 use Rattle.format.proofs.front.Demand2 as format2
 use Rattle.book.specs.declared.items.Item.{Item}
+use Rattle.book.specs.declared.refusal.Fault.TheVariants as fault
 use Rattle.book.specs.declared.refusal.Refusal.{Refusal}
+use Rattle.book.specs.Refusals.{number_of}
+use Rattle.book.specs.Refuses.{Refuses}
 use Rattle.book.proofs.Unique.{same_item}
+use Rattle.book.proofs.Named.{refuses_told, told_refuses}
 use Rattle.rules.specs.declared.state.Kind.{Kind}
 use Rattle.rules.specs.declared.state.Kind.TheVariants as kind
 use Rattle.frame.specs.declared.reading.Frame.{Frame}
-use Rattle.frame.specs.declared.reading.Reading.{Reading}
-use Rattle.frame.specs.declared.reading.Reading.TheVariants as reading
 use Rattle.frame.specs.declared.items.IndexedItem.{IndexedItem}
-use Rattle.frame.specs.declared.items.Found.{Found}
-use Rattle.frame.specs.declared.items.Found.TheVariants as found
 use Rattle.rules.specs.Views.{view_kind}
 use Rattle.frame.specs.Views.{view_frame, view_reading}
 use Rattle.rules.proofs.Unique.{same_kind}
 use Rattle.frame.proofs.Unique.{same_reading, same_found}
 use Rattle.frame.specs.Promises.{ReadAs, ItemAnswered, TextAnswered}
-use Rattle.writer.specs.declared.answers.Written.{Written}
-use Rattle.writer.specs.declared.answers.Written.TheVariants as written
 use Rattle.writer.specs.Views.{view_written}
 use Rattle.writer.specs.FrameCalls.{Argument, an_item, a_text, call_in, FrameCalls, is_text, Copies, no_more, with_item, with_text, argument_for, typed, all_typed, ReadsBack}
 use Rattle.writer.proofs.Unique.{same_written}
@@ -63,7 +62,7 @@ same_accepted : {A : Type 0} (a b : A) → accepted a ≡ accepted b → a ≡ b
 same_accepted a b e = cc
 
 -- a run ends in one way
-settled : (r q : Written) (left after : List ℕ) → calls_done (view_written r) left ≡ calls_done (view_written q) after → (r ≡ q) × (left ≡ after)
+settled : (r q : Result ℕ Refusal) (left after : List ℕ) → calls_done (view_written r) left ≡ calls_done (view_written q) after → (r ≡ q) × (left ≡ after)
 settled r q left after e = (same_written r q (ap (λ (o : CallsDone). o.answer) e), ap (λ (o : CallsDone). o.left) e)
 
 -- ---- arguments
@@ -101,13 +100,13 @@ all_arguments (x ∷ xs) = ap₂ ◌∷◌ (its_call x) (all_arguments xs)
 
 -- ---- T20
 
-module _ (s : Bor (List ℕ)) (g : Frame) (read : ReadAs s.now (reading.Accepted g)) where
+module _ (s : Bor (List ℕ)) (g : Frame) (read : ReadAs s.now (Ok g)) where
   pub copied : Bytes s.now → (gs : List Argument) → Copies s 0 gs → length gs ≡ g.items → (buf : List ℕ) → length s.now ≤ length buf
-      → (r : Written) (left : List ℕ) → FrameCalls buf g.kind g.card g.sequence gs r left
-      → (r ≡ written.Length (length s.now)) × (left ≡ s.now ++ drop (length s.now) buf)
+      → (r : Result ℕ Refusal) (left : List ℕ) → FrameCalls buf g.kind g.card g.sequence gs r left
+      → (r ≡ Ok (length s.now)) × (left ≡ s.now ++ drop (length s.now) buf)
   copied bs gs c h buf room r left run =
       let a = asked c in
-      settled r (written.Length (length s.now)) left (s.now ++ drop (length s.now) buf)
+      settled r (Ok (length s.now)) left (s.now ++ drop (length s.now) buf)
       (sym (run_ran run)
       ∙ ap (write_calls buf (view_kind g.kind) g.card g.sequence) (sym a.handed)
       ∙ format2.copied_by_calls s.now (view_frame g) (sym read) a.item_answers a.answers (a.count ∙ h) bs buf room)
@@ -115,24 +114,24 @@ module _ (s : Bor (List ℕ)) (g : Frame) (read : ReadAs s.now (reading.Accepted
   -- ---- T10
 
   -- each item that `read` counts is answered, and no further one is there
-  pub item_answered : (n : ℕ) → n < g.items → (r : Found) → ItemAnswered s.now n r → (x : IndexedItem) × (r ≡ found.Item x)
-  item_answered n h (found.Item x) e = (x, refl)
-  item_answered n h (found.Refused q) e =
+  pub item_answered : (n : ℕ) → n < g.items → (r : Result IndexedItem Refusal) → ItemAnswered s.now n r → (x : IndexedItem) × (r ≡ Ok x)
+  item_answered n h (Ok x) e = (x, refl)
+  item_answered n h (Err q) e =
       let (x, a) = format2.each_item_is_answered s.now (view_frame g) (sym read) n h in
-      no_refusal x q.number q.place (sym a ∙ sym e)
+      no_refusal x (number_of q.fault) q.place (sym a ∙ sym e)
 
-  pub item_absent : (n : ℕ) → g.items ≤ n → (r : Found) → ItemAnswered s.now n r → r ≡ found.Refused (record { number = 13; place = 0 })
-  item_absent n h r e = same_found r (found.Refused (record { number = 13; place = 0 })) (e ∙ format2.no_further_item s.now (view_frame g) (sym read) n h)
+  pub item_absent : (n : ℕ) → g.items ≤ n → (r : Result IndexedItem Refusal) → ItemAnswered s.now n r → r ≡ Err (record { fault = fault.Absent; place = 0 })
+  item_absent n h r e = same_found r (Err (record { fault = fault.Absent; place = 0 })) (e ∙ format2.no_further_item s.now (view_frame g) (sym read) n h)
 
   -- so that the two questions, which always answer, let a caller copy the frame
-  module _ (answers : (n : ℕ) → (r : Found) × ItemAnswered s.now n r) (texts : (n : ℕ) → (t : Bor (List ℕ)) × TextAnswered s n t) where
+  module _ (answers : (n : ℕ) → (r : Result IndexedItem Refusal) × ItemAnswered s.now n r) (texts : (n : ℕ) → (t : Bor (List ℕ)) × TextAnswered s n t) where
     one_more : (n : ℕ) → n < g.items → (gs : List Argument) → Copies s (suc n) gs → (a : Argument) × Copies s n (a ∷ gs)
     one_more n h gs k =
         let (r, e) = answers n in
         let (x, q) = item_answered n h r e in
         go x (subst (ItemAnswered s.now n) q e) (is_text x.item) refl
       where
-        go : (x : IndexedItem) → ItemAnswered s.now n (found.Item x) → (b : Bool) → is_text x.item ≡ b → (a : Argument) × Copies s n (a ∷ gs)
+        go : (x : IndexedItem) → ItemAnswered s.now n (Ok x) → (b : Bool) → is_text x.item ≡ b → (a : Argument) × Copies s n (a ∷ gs)
         go x e true i =
             let (t, j) = texts n in
             (a_text t.now, with_text x t e i j k)
@@ -150,34 +149,34 @@ module _ (s : Bor (List ℕ)) (g : Frame) (read : ReadAs s.now (reading.Accepted
 
 -- ---- T5, T6 and T7 of `read`
 
-pub read_exactly : (s : Bor (List ℕ)) → Bytes s.now → (r : Reading) → ReadAs s.now r → (g : Frame) → (r ≡ reading.Accepted g) ↔ StandsFor s.now (view_frame g)
+pub read_exactly : (s : Bor (List ℕ)) → Bytes s.now → (r : Result Frame Refusal) → ReadAs s.now r → (g : Frame) → (r ≡ Ok g) ↔ StandsFor s.now (view_frame g)
 read_exactly s bs r e g =
     let x = format2.read_exactly s.now bs (view_frame g) in
-    (λ i. x.0 (sym e ∙ ap view_reading i), λ a. same_reading r (reading.Accepted g) (e ∙ x.1 a))
+    (λ i. x.0 (sym e ∙ ap view_reading i), λ a. same_reading r (Ok g) (e ∙ x.1 a))
 
-pub read_refused : (s : Bor (List ℕ)) → Bytes s.now → (r : Reading) → ReadAs s.now r → (q : Refusal) → (r ≡ reading.Refused q) ↔ Refused s.now q.number q.place
-read_refused s bs r e q =
-    let x = format2.read_refused_exactly s.now bs q.number q.place in
-    (λ i. x.0 (sym e ∙ ap view_reading i), λ a. same_reading r (reading.Refused q) (e ∙ x.1 a))
+pub read_refused : (s : Bor (List ℕ)) → Bytes s.now → (r : Result Frame Refusal) → ReadAs s.now r → (n p : ℕ) → Refuses r n p ↔ Refused s.now n p
+read_refused s bs r e n p =
+    let x = format2.read_refused_exactly s.now bs n p in
+    (λ h. x.0 (sym e ∙ refuses_told view_frame r n p h), λ a. told_refuses view_frame r n p (e ∙ x.1 a))
 
 -- so a frame is accepted exactly where its bytes are a legal frame's
-pub accepts_exactly : (s : Bor (List ℕ)) → Bytes s.now → (r : Reading) → ReadAs s.now r
-    → ((g : Frame) × (r ≡ reading.Accepted g)) ↔ ((f : frames.Frame) × Legal f × (s.now ≡ encode f))
+pub accepts_exactly : (s : Bor (List ℕ)) → Bytes s.now → (r : Result Frame Refusal) → ReadAs s.now r
+    → ((g : Frame) × (r ≡ Ok g)) ↔ ((f : frames.Frame) × Legal f × (s.now ≡ encode f))
 accepts_exactly s bs r e = (there, back r e)
   where
-    there : (g : Frame) × (r ≡ reading.Accepted g) → (f : frames.Frame) × Legal f × (s.now ≡ encode f)
+    there : (g : Frame) × (r ≡ Ok g) → (f : frames.Frame) × Legal f × (s.now ≡ encode f)
     there (g, i) =
         let a = (read_exactly s bs r e g).0 i in
         (a.frame, a.legal, a.written)
 
-    back : (r : Reading) → ReadAs s.now r → (f : frames.Frame) × Legal f × (s.now ≡ encode f) → (g : Frame) × (r ≡ reading.Accepted g)
-    back (reading.Accepted g) e x = (g, refl)
-    back (reading.Refused q) e (f, l, w) =
-        no_refusal (overview f) q.number q.place
+    back : (r : Result Frame Refusal) → ReadAs s.now r → (f : frames.Frame) × Legal f × (s.now ≡ encode f) → (g : Frame) × (r ≡ Ok g)
+    back (Ok g) e x = (g, refl)
+    back (Err q) e (f, l, w) =
+        no_refusal (overview f) (number_of q.fault) q.place
         (sym ((format2.read_exactly s.now bs (overview f)).1 (record { frame = f; legal = l; written = w; overview_is = refl })) ∙ sym e)
 
 -- "the index of the next item or end word"
-pub next_index : (s : Bor (List ℕ)) → Bytes s.now → (g : Frame) (a : StandsFor s.now (view_frame g)) (n : ℕ) → n < g.items → (x : IndexedItem) → ItemAnswered s.now n (found.Item x)
+pub next_index : (s : Bor (List ℕ)) → Bytes s.now → (g : Frame) (a : StandsFor s.now (view_frame g)) (n : ℕ) → n < g.items → (x : IndexedItem) → ItemAnswered s.now n (Ok x)
     → x.next ≡ index_of a.frame.items (suc n)
 next_index s bs g a n h x e =
     let f = a.frame in
@@ -187,7 +186,7 @@ next_index s bs g a n h x e =
     ap (λ (o : IndexedShown). o.next) (same_accepted _ _ (e ∙ shown_there s.now f q n y i))
 
 -- and its own
-pub own_index : (s : Bor (List ℕ)) → Bytes s.now → (g : Frame) (a : StandsFor s.now (view_frame g)) (n : ℕ) → n < g.items → (x : IndexedItem) → ItemAnswered s.now n (found.Item x)
+pub own_index : (s : Bor (List ℕ)) → Bytes s.now → (g : Frame) (a : StandsFor s.now (view_frame g)) (n : ℕ) → n < g.items → (x : IndexedItem) → ItemAnswered s.now n (Ok x)
     → x.index ≡ index_of a.frame.items n
 own_index s bs g a n h x e =
     let f = a.frame in
@@ -211,18 +210,18 @@ some_kind rules.data_kind = (kind.Data, refl)
 some_kind rules.monitor_kind = (kind.Monitor, refl)
 some_kind rules.command_kind = (kind.Command, refl)
 
-module _ (f : frames.Frame) (k : Kind) (e : view_kind k ≡ f.kind) (buf : List ℕ) (r : Written) (left : List ℕ)
+module _ (f : frames.Frame) (k : Kind) (e : view_kind k ≡ f.kind) (buf : List ℕ) (r : Result ℕ Refusal) (left : List ℕ)
     (run : FrameCalls buf k f.card f.sequence (map argument_for f.items) r left) where
   its_run : calls_done (view_written r) left ≡ write_calls buf f.kind f.card f.sequence (map hand_over f.items)
   its_run = sym (run_ran run) ∙ ap₂ (λ (k : rules.Kind) (cs : List Call). write_calls buf k f.card f.sequence cs) e (all_arguments f.items)
 
-  pub list_written : Legal f → length (encode f) ≤ length buf → (r ≡ written.Length (length (encode f))) × (left ≡ encode f ++ drop (length (encode f)) buf)
-  list_written l h = settled r (written.Length (length (encode f))) left (encode f ++ drop (length (encode f)) buf) (its_run ∙ format2.every_list_is_written_by_calls f l buf h)
+  pub list_written : Legal f → length (encode f) ≤ length buf → (r ≡ Ok (length (encode f))) × (left ≡ encode f ++ drop (length (encode f)) buf)
+  list_written l h = settled r (Ok (length (encode f))) left (encode f ++ drop (length (encode f)) buf) (its_run ∙ format2.every_list_is_written_by_calls f l buf h)
 
   pub list_too_long : f.card ≤ 31 → f.sequence ≤ 0x0100 → Sound f.kind f.card [] f.items → (length buf < length (encode f)) ⊎ (8192 < length (encode f))
-      → r ≡ written.Refused (record { number = 12; place = 0 })
+      → r ≡ Err (record { fault = fault.Room; place = 0 })
   list_too_long c q l h =
-      same_written r (written.Refused (record { number = 12; place = 0 })) (ap (λ (o : CallsDone). o.answer) its_run ∙ format2.only_room_by_calls f c q l buf h)
+      same_written r (Err (record { fault = fault.Room; place = 0 })) (ap (λ (o : CallsDone). o.answer) its_run ∙ format2.only_room_by_calls f c q l buf h)
 
 -- what is allowed fits the code's types
 below : (n m k : ℕ) → leb n m ≡ true → m < k → ltb n k ≡ true
@@ -261,7 +260,7 @@ sound_typed kind card p (x ∷ xs) l = and_both _ _ (fits_typed x (allowed_fits 
 
 -- ---- T19
 
-module _ (buf : List ℕ) (k : Kind) (card sequence : ℕ) (gs : List Argument) (m : ℕ) (left : List ℕ) (run : FrameCalls buf k card sequence gs (written.Length m) left) where
+module _ (buf : List ℕ) (k : Kind) (card sequence : ℕ) (gs : List Argument) (m : ℕ) (left : List ℕ) (run : FrameCalls buf k card sequence gs (Ok m) left) where
   pub writing_done : CallsWrote buf (view_kind k) card sequence (map call_in gs) m left
   writing_done = format2.calls_read_back buf (view_kind k) card sequence (map call_in gs) m left (run_ran run)
 
@@ -269,10 +268,10 @@ module _ (buf : List ℕ) (k : Kind) (card sequence : ℕ) (gs : List Argument) 
   count = sym (length-map writing_done.items hand_over) ∙ ap length (sym writing_done.handed) ∙ length-map gs call_in
 
   module _ (s : Bor (List ℕ)) (its-bytes : s.now ≡ take m left) where
-    seen : (r : Reading) → ReadAs s.now r
-        → (g : Frame) × (r ≡ reading.Accepted g) × (view_frame g ≡ overview (record { kind = view_kind k; card = card; sequence = sequence; items = writing_done.items }))
-    seen (reading.Accepted g) e = (g, refl, same_accepted _ _ (e ∙ ap read_of its-bytes ∙ writing_done.read))
-    seen (reading.Refused q) e = no_refusal _ q.number q.place (sym writing_done.read ∙ sym (e ∙ ap read_of its-bytes))
+    seen : (r : Result Frame Refusal) → ReadAs s.now r
+        → (g : Frame) × (r ≡ Ok g) × (view_frame g ≡ overview (record { kind = view_kind k; card = card; sequence = sequence; items = writing_done.items }))
+    seen (Ok g) e = (g, refl, same_accepted _ _ (e ∙ ap read_of its-bytes ∙ writing_done.read))
+    seen (Err q) e = no_refusal _ (number_of q.fault) q.place (sym writing_done.read ∙ sym (e ∙ ap read_of its-bytes))
 
     handed_again : (hs : List Argument) → Copies s 0 hs → length hs ≡ length gs → hs ≡ gs
     handed_again hs c h =
@@ -283,7 +282,7 @@ module _ (buf : List ℕ) (k : Kind) (card sequence : ℕ) (gs : List Argument) 
         format2.one_list_of_answers (take m left) 0 a.item_answers w.answers (subst (λ (s : List ℕ). Answers s 0 a.item_answers) its-bytes a.answers) w.answered n in
         same_arguments hs gs (sym a.handed ∙ ap (map call_of) t ∙ w.same)
 
-    pub reads_back : (r : Reading) → ReadAs s.now r → (hs : List Argument) → Copies s 0 hs → length hs ≡ length gs → ReadsBack k card sequence gs r hs
+    pub reads_back : (r : Result Frame Refusal) → ReadAs s.now r → (hs : List Argument) → Copies s 0 hs → length hs ≡ length gs → ReadsBack k card sequence gs r hs
     reads_back r e hs c h =
         let (g, q, v) = seen r e in
         record {

@@ -2,58 +2,48 @@
 -- one answer and leaves one buffer.
 -- Assumes nothing.
 use Prim.Native.Nat.{ℕ}
-use mathlib.Core.Path.{◌≡◌, sym, ap, ap₂, ◌∙◌}
+use mathlib.Core.Path.{◌≡◌, sym, ◌∙◌}
 use mathlib.Core.List.{List}
-use native.Mathlib.Omega.{arith}
-use Rattle.format.specs.Answers.{Outcome, accepted, refused}
+use Rattle.std.specs.Prelude.{Result}
+use Rattle.format.specs.Answers.{Outcome}
 use Rattle.format.specs.Writing.{Wrote}
 use Rattle.format.specs.PartialSteps as steps
 use Rattle.format.specs.PartialSteps.{PutWrote}
 use Rattle.book.specs.declared.items.Item.{Item}
-use Rattle.book.proofs.Unique.{one, same_refusal}
+use Rattle.book.specs.declared.refusal.Refusal.{Refusal}
+use Rattle.book.proofs.Unique.{one, undone, same_result}
 use Rattle.rules.specs.declared.state.Kind.{Kind}
 use Rattle.rules.specs.declared.state.State.{State}
-use Rattle.rules.proofs.Unique.{same_state}
-use Rattle.writer.specs.declared.answers.Written.{Written}
-use Rattle.writer.specs.declared.answers.Written.TheVariants as written
+use Rattle.rules.proofs.Unique.{state_back, state_back_lem}
 use Rattle.writer.specs.declared.answers.Put.{Put}
-use Rattle.writer.specs.declared.answers.Put.TheVariants as put
-use Rattle.writer.specs.Views.{view_written, view_put}
+use Rattle.writer.specs.Views.{view_written, view_reached, view_put}
 use Rattle.writer.specs.Promises.{Begun, Added, AddedText, Closed, PutDone, PutTextDone}
 
 -- ---- T40
 
-module _ {A : Type 0} where
-  inner : (a b : A) → accepted a ≡ accepted b → a ≡ b
-  inner a b e = cc
+pub same_written : (r q : Result ℕ Refusal) → view_written r ≡ view_written q → r ≡ q
+same_written = same_result (λ n. n) (λ n m e. e)
 
-  neither : {B : Type 0} (a : A) (n p : ℕ) → accepted a ≡ refused n p → B
-  neither a n p e = let z : ◌≡◌ {A = ℕ} 0 1 = cc in absurd (omega arith)
+-- the way back from a length and a state
+abbrev reached_back : steps.Put → Put
+reached_back x = record { length = x.reached; state = state_back x.state }
 
-pub same_written : (r q : Written) → view_written r ≡ view_written q → r ≡ q
-same_written (written.Length n) (written.Length m) e = ap written.Length (inner _ _ e)
-same_written (written.Length n) (written.Refused q) e = neither _ _ _ e
-same_written (written.Refused r) (written.Length m) e = neither _ _ _ (sym e)
-same_written (written.Refused r) (written.Refused q) e = ap written.Refused (same_refusal r q e)
+reached_back_lem : (r : Put) → reached_back (view_reached r) ≡ r
+reached_back_lem r = λ i. record { length = r.length; state = state_back_lem r.state i }
 
-pub same_put : (r q : Put) → view_put r ≡ view_put q → r ≡ q
-same_put (put.Reached n s) (put.Reached m t) e =
-    let h = inner _ _ e in
-    ap₂ put.Reached (ap (λ (x : steps.Put). x.reached) h) (same_state s t (ap (λ (x : steps.Put). x.state) h))
-same_put (put.Reached n s) (put.Refused q) e = neither _ _ _ e
-same_put (put.Refused r) (put.Reached m t) e = neither _ _ _ (sym e)
-same_put (put.Refused r) (put.Refused q) e = ap put.Refused (same_refusal r q e)
+pub same_put : (r q : Result Put Refusal) → view_put r ≡ view_put q → r ≡ q
+same_put = same_result view_reached (undone view_reached reached_back reached_back_lem)
 
 -- ---- T39, no second result, function by function
 
-wrote_once : (answer : Outcome ℕ) (left : List ℕ) (r q : Written) (b d : List ℕ) → Wrote answer left (view_written r) b → Wrote answer left (view_written q) d → (r ≡ q) × (b ≡ d)
+wrote_once : (answer : Outcome ℕ) (left : List ℕ) (r q : Result ℕ Refusal) (b d : List ℕ) → Wrote answer left (view_written r) b → Wrote answer left (view_written q) d → (r ≡ q) × (b ≡ d)
 wrote_once answer left r q b d e f = (one view_written same_written answer r q e.answered f.answered, e.written ∙ sym f.written)
 
-put_wrote_once : (answer : Outcome steps.Put) (left : List ℕ) (r q : Put) (b d : List ℕ) → PutWrote answer left (view_put r) b → PutWrote answer left (view_put q) d → (r ≡ q) × (b ≡ d)
+put_wrote_once : (answer : Outcome steps.Put) (left : List ℕ) (r q : Result Put Refusal) (b d : List ℕ) → PutWrote answer left (view_put r) b → PutWrote answer left (view_put q) d → (r ≡ q) × (b ≡ d)
 put_wrote_once answer left r q b d e f = (one view_put same_put answer r q e.answered f.answered, e.written ∙ sym f.written)
 
 -- each is over the promise that the function's contract names (specs/Promises.antt)
-module _ (buf : List ℕ) (n : ℕ) (r q : Written) (b d : List ℕ) where
+module _ (buf : List ℕ) (n : ℕ) (r q : Result ℕ Refusal) (b d : List ℕ) where
   pub begin_once : (kind : Kind) (card sequence : ℕ) → Begun buf kind card sequence r b → Begun buf kind card sequence q d → (r ≡ q) × (b ≡ d)
   begin_once kind card sequence = wrote_once _ _ r q b d
 
@@ -66,7 +56,7 @@ module _ (buf : List ℕ) (n : ℕ) (r q : Written) (b d : List ℕ) where
   pub close_once : Closed buf n r b → Closed buf n q d → (r ≡ q) × (b ≡ d)
   close_once = wrote_once _ _ r q b d
 
-module _ (buf : List ℕ) (n card : ℕ) (st : State) (r q : Put) (b d : List ℕ) where
+module _ (buf : List ℕ) (n card : ℕ) (st : State) (r q : Result Put Refusal) (b d : List ℕ) where
   pub put_once : (x : Item) → PutDone buf n card st x r b → PutDone buf n card st x q d → (r ≡ q) × (b ≡ d)
   put_once x = put_wrote_once _ _ r q b d
 

@@ -1,12 +1,13 @@
 -- `writer::steps::piece_of` meets its contract.
 -- Assumes nothing.
+use Rattle.book.proofs.Headers.{channel_words, histogram_words}
 use Rattle.writer.proofs.steps.piece_of.Goals as goal
 
 pub returns-in-Channel : goal.returns-in-Channel
-returns-in-Channel c = rw (c.word.ensures, c.in-Channel.is)
+returns-in-Channel c = rw (channel_words _ _ c.word.ensures, c.in-Channel.is)
 
 pub returns-in-Histogram : goal.returns-in-Histogram
-returns-in-Histogram c = rw (c.word-in-Histogram.ensures, c.in-Histogram.is)
+returns-in-Histogram c = rw (histogram_words _ _ c.word-in-Histogram.ensures, c.in-Histogram.is)
 
 pub returns-in-HitCount : goal.returns-in-HitCount
 returns-in-HitCount c = rw (c.word-in-HitCount.ensures, c.in-HitCount.is)
