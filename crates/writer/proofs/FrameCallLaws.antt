@@ -68,7 +68,7 @@ begin_named : (b : List ℕ) (card sequence : ℕ) → Named (begin_answer b car
 unfolding begin_answer
 begin_named b card sequence = go (leb card 31) (leb sequence 0x0100) (leb 8 (length b))
   where
-    go : (c s r : Bool) → Named (pick c (pick s (pick r (accepted 6) (refused 12 0)) (refused 4 0)) (refused 9 0))
+    go : (c s r : Bool) → Named {A = ℕ} (pick c (pick s (pick r (accepted 6) (refused 12 0)) (refused 4 0)) (refused 9 0))
     go true true true = tt
     go true true false = (fault.Room, refl)
     go true false r = (fault.Sequence, refl)
@@ -96,7 +96,7 @@ close_named : (b : List ℕ) (n : ℕ) → Named (close_answer b n)
 unfolding close_answer
 close_named b n = named_then (partial_verdict b n) _ (partial_named b n) (λ f. go (may_end f.earlier) (leb (n + 2) (length b)))
   where
-    go : (e r : Bool) → Named (pick e (pick r (accepted (n + 2)) (refused 12 0)) (refused 11 (n / 2)))
+    go : (e r : Bool) → Named {A = ℕ} (pick e (pick r (accepted (n + 2)) (refused 12 0)) (refused 11 (n / 2)))
     go true true = tt
     go true false = (fault.Room, refl)
     go false r = (fault.Open, refl)

@@ -36,7 +36,12 @@ fn has_room(room: usize, length: usize, size: usize) -> bool
 }
 
 // The answer to an item of so many bytes, by the turn that the rules took at it: 8, 9 or 10 at its word, then 12.
-fn answered(room: usize, length: usize, turn: Result<Moved, Fault>, size: usize) -> Result<Put, Refusal>
+fn answered(
+    room: usize,
+    length: usize,
+    turn: Result<Moved, Fault>,
+    size: usize,
+) -> Result<Put, Refusal>
     requires { size ≤ 1000 }
     ensures { view_put result ≡ answered_by room length size (view_step turn) }
 {
@@ -51,7 +56,12 @@ fn answered(room: usize, length: usize, turn: Result<Moved, Fault>, size: usize)
 }
 
 // An item of some words.
-fn put_words(buf: &mut [u8], length: usize, turn: Result<Moved, Fault>, piece: Piece) -> Result<Put, Refusal>
+fn put_words(
+    buf: &mut [u8],
+    length: usize,
+    turn: Result<Moved, Fault>,
+    piece: Piece,
+) -> Result<Put, Refusal>
     ensures { PutWrote (placed buf.old length (piece_bytes piece) (view_step turn)) (placed_left buf.old length (piece_bytes piece) (view_step turn)) (view_put result) buf.new }
 {
     let reached = answered(buf.len(), length, turn, piece_size(piece))?;
@@ -122,7 +132,12 @@ pub fn put(buf: &mut [u8], length: usize, card: u16, st: State, item: Item) -> R
 }
 
 // An item of a text's letters.
-fn text_words(buf: &mut [u8], length: usize, turn: Result<Moved, Fault>, letters: &[u8]) -> Result<Put, Refusal>
+fn text_words(
+    buf: &mut [u8],
+    length: usize,
+    turn: Result<Moved, Fault>,
+    letters: &[u8],
+) -> Result<Put, Refusal>
     requires { Short letters.now }
     ensures { PutWrote (placed buf.old length (lettered letters.now) (view_step turn)) (placed_left buf.old length (lettered letters.now) (view_step turn)) (view_put result) buf.new }
 {

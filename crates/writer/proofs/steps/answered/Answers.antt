@@ -1,5 +1,6 @@
 -- `writer::steps::answered` meets its contract.
 -- Assumes nothing.
+use Prim.Native.Nat.{◌/◌}
 use mathlib.Core.Path.{◌≡◌, ap, ◌∙◌}
 use Rattle.std.proofs.Common.{rules}
 use Rattle.std.proofs.lemmas.Result.{err_from_is_err_and}
