@@ -1,53 +1,34 @@
--- A flat item that is no item: its number, and that nothing is written.
+-- What is handed over flat and is no kind of frame, or no item: its number, and that nothing is written.
 -- Assumes nothing.
-use Prim.Native.Nat.{ℕ, zero, suc, ◌/◌, ◌≤◌}
-use mathlib.Core.Path.{◌≡◌, refl, sym, ap, subst}
-use mathlib.Core.List.{List, [], ◌∷◌, map}
+use Prim.Native.Nat.{ℕ, ◌/◌, ◌<◌}
+use mathlib.Core.Path.{◌≡◌, refl, sym, subst}
+use mathlib.Core.Logic.{◌⊎◌, ⊎_elim}
+use mathlib.Core.List.{List, []}
+use mathlib.Core.Option.{Option, none}
 use native.Mathlib.Omega.{arith}
+use borrow.Author.Tests.{ne_eqb}
 use lib.Seq.{sets}
-use lib.ListN.{get_or-eq_default}
 use Rattle.format.specs.Answers.{Outcome, accepted, refused, and_then, leaves}
-use Rattle.format.specs.Prefix.{Row}
-use Rattle.format.specs.Book.{Class, unassigned, book, class_at}
 use Rattle.format.specs.Items.{Token, flawed}
-use Rattle.format.specs.Rules.{check}
+use Rattle.format.specs.Rules.{Kind, check}
 use Rattle.format.specs.Writing.{Partial, partial_verdict, add_answer, add_left}
 use Rattle.format.specs.PartialSteps.{PartialOverview, partial_read_of}
 use Rattle.format.proofs.reader.PartialJudging.{add_refused, contained}
-use Rattle.exports.specs.declared.answers.PlaneItem.{PlaneItem}
 use Rattle.exports.specs.declared.answers.PlaneWritten.{PlaneWritten}
 use Rattle.exports.specs.Flat.{flat_written}
-use Rattle.exports.specs.Given.{said, token_of}
+use Rattle.exports.specs.Given.{kind_of}
 use Rattle.exports.specs.Promises.{Leaves}
 
--- a number that is none of 1 to m
-abbrev pub NoneTo : ℕ → ℕ → Type 0
-NoneTo zero k = Unit {0}
-NoneTo (suc m) k = NoneTo m k × (k ≡ suc m → ⊥)
-
-up : (m k : ℕ) → m ≤ k → (k ≡ m → ⊥) → suc m ≤ k
-up m k h n = omega arith
-
-above : (m k : ℕ) → 1 ≤ k → NoneTo m k → suc m ≤ k
-above zero k h n = h
-above (suc m) k h n = up (suc m) k (above m k h n.0) n.1
-
--- no class has the number
-pub unnamed : (x : PlaneItem) → NoneTo 15 x.item_class → flawed 6 ≡ token_of x
-unfolding token_of
-unnamed x n = go x.item_class n
-  where
-    go : (k : ℕ) → NoneTo 15 k → flawed 6 ≡ said x (class_at k)
-    go zero n = refl
-    go (suc k) n = let h : 16 ≤ suc k = above 15 (suc k) (omega arith) n in ap (said x) (sym (get_or-eq_default (unassigned ∷ map (λ (r : Row Class). r.class) book) unassigned h))
+-- a number that no kind has
+pub no_kind : (k : ℕ) → (k ≡ 0) ⊎ (3 < k) → kind_of k ≡ none
+no_kind k = ⊎_elim (λ e. rw e) (λ l. rw (ne_eqb k 1 (omega arith), ne_eqb k 2 (omega arith), ne_eqb k 3 (omega arith)))
 
 module _ (buf : List ℕ) (n k : ℕ) where
-  pub flawed_refused : (j p : ℕ) → refused j p ≡ partial_read_of buf n → record { refused = j; place = p; length = 0 } ≡ flat_written (add_answer buf n (flawed k))
-  unfolding flat_written
+  pub flawed_refused : (j p : ℕ) → refused j p ≡ partial_read_of buf n → refused j p ≡ add_answer buf n (flawed k)
   flawed_refused j p e = rw (add_refused buf n j p (sym e) (flawed k))
 
-  pub flawed_here : (v : PartialOverview) → accepted v ≡ partial_read_of buf n → record { refused = k; place = n / 2; length = 0 } ≡ flat_written (add_answer buf n (flawed k))
-  unfolding flat_written add_answer check
+  pub flawed_here : (v : PartialOverview) → accepted v ≡ partial_read_of buf n → refused k (n / 2) ≡ add_answer buf n (flawed k)
+  unfolding add_answer check
   flawed_here v e = rw (contained buf n v (sym e)).1
 
   pub flawed_left : add_left buf n (flawed k) ≡ buf

@@ -12,6 +12,7 @@ use Rattle.format.specs.Questions.{IndexedShown, shown_at, text_at}
 use Rattle.frame.specs.Parts.{text_count, text_from}
 use Rattle.frame.proofs.Finding.{Empty, text_refused, text_none, text_part}
 use Rattle.exports.specs.declared.answers.PlaneFound.{PlaneFound}
+use Rattle.exports.specs.declared.answers.PlaneText.{PlaneText}
 use Rattle.exports.specs.Flat.{flat_item, flat_found}
 use Rattle.exports.specs.Promises.{TextPart}
 
@@ -31,16 +32,16 @@ length_is (EndEvent n) = refl
 
 module _ (s : List ℕ) (n : ℕ) where
   -- an empty part, at the frame's start
-  none : Empty s n → TextPart s n (record { offset = 0; length = 0 })
-  none e = record { begins = e.1; long = ap length e.0; bytes_are = e.0 }
+  none : Empty s n → (r : PlaneText) → (r.offset ≡ 0) × (r.length ≡ 0) → TextPart s n r
+  none e r z = record { begins = z.0 ∙ e.1; long = z.1 ∙ ap length e.0; bytes_are = ap (λ (k : ℕ). take k (drop r.offset s)) z.1 ∙ e.0 }
 
-  pub text_empty : (f : PlaneFound) → f ≡ flat_found (shown_at s n) → f.item.length < 1 → TextPart s n (record { offset = 0; length = 0 })
+  pub text_empty : (f : PlaneFound) → f ≡ flat_found (shown_at s n) → f.item.length < 1 → (r : PlaneText) → (r.offset ≡ 0) × (r.length ≡ 0) → TextPart s n r
   unfolding flat_found
-  text_empty f e h = go (shown_at s n) refl (subst (λ (g : PlaneFound). g.item.length < 1) e h)
+  text_empty f e h r z = go (shown_at s n) refl (subst (λ (g : PlaneFound). g.item.length < 1) e h)
     where
-      go : (o : Outcome IndexedShown) → shown_at s n ≡ o → (flat_found o).item.length < 1 → TextPart s n (record { offset = 0; length = 0 })
-      go (refused k p) i l = none (text_refused s n k p (sym i))
-      go (accepted x) i l = none (text_none s n x.index x.item x.next (sym i) (flat_item x.item).length (length_is x.item) l)
+      go : (o : Outcome IndexedShown) → shown_at s n ≡ o → (flat_found o).item.length < 1 → TextPart s n r
+      go (refused k p) i l = none (text_refused s n k p (sym i)) r z
+      go (accepted x) i l = none (text_none s n x.index x.item x.next (sym i) (flat_item x.item).length (length_is x.item) l) r z
 
   -- a text of so many bytes, the final zero included, that ends before word `next`
   pub record There (next count : ℕ) : Type 0 where

@@ -6,6 +6,7 @@ ghost use Rattle.exports.specs.Given.{follower_of};
 ghost use Rattle.exports.specs.Promises.{FollowTold};
 
 use crate::answers::{PlaneFollowed, PlaneFollower};
+use book::refusal::Fault;
 use follower::{Followed, Follower, SequenceError};
 
 impl From<PlaneFollower> for Follower {
@@ -45,7 +46,7 @@ fn flat_followed(given: PlaneFollower, followed: Result<Followed, SequenceError>
             ..PlaneFollowed::default()
         },
         Err(e) => PlaneFollowed {
-            refused: e as u32,
+            refused: Fault::from(e).number(),
             next: given,
             ..PlaneFollowed::default()
         },

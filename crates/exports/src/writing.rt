@@ -39,6 +39,7 @@ impl From<Result<usize, Refusal>> for PlaneWritten {
 }
 
 // Begins a partial frame: `writer::begin`. A kind that is not 1, 2 or 3 is refused first, by 2.
+#[tactic(auto, using(crate::proofs::GivenLaws::no_kind), unfolding(crate::specs::Flat::flat_written))]
 pub fn plane_begin(buffer: &mut [u8], kind: u16, card: u16, sequence: u16) -> PlaneWritten
     ensures { Begun buffer.old kind card sequence result buffer.new }
 {
