@@ -3,7 +3,7 @@
 -- Assumes nothing.
 use Prim.Native.Nat.{ℕ, ◌+◌, ◌*◌, ◌-◌, ◌≤◌, ◌<◌}
 use mathlib.Core.Path.{◌≡◌, refl, sym, ap, subst, ◌∙◌}
-use mathlib.Core.Bool.{Bool, true, false, not, ◌&&◌, and-true, true≢false}
+use mathlib.Core.Bool.{Bool, true, false, not, ◌&&◌, and-true}
 use mathlib.Core.List.{List, [], ◌∷◌}
 use mathlib.Core.Option.{none, some, some-injective}
 use native.Mathlib.Nat.{add-sub_cancel_left}
@@ -16,7 +16,7 @@ use lib.Dec.{leb, ltb, eqb}
 use borrow.Author.Tests.{lt-ltb, le-ltb, le-leb, lt-leb}
 use borrow.Rule.Slice.PartMut.{put_mid, same_len_mid}
 use Rattle.format.specs.Words.{pick, Bytes, bytes, word_at}
-use Rattle.format.specs.Answers.{Outcome, Done, accepted, refused, need, first_of}
+use Rattle.format.specs.Answers.{Outcome, Done, accepted, refused, first_of}
 use Rattle.format.specs.Items.{ItemOf}
 use Rattle.format.specs.Cursor.{standing_at, shown_by}
 use Rattle.format.specs.Spots.{Spot, spot_of, legal_value, value_word, value_words}
@@ -37,10 +37,9 @@ use Rattle.ledger.proofs.plane.PlaneFrames.{plane_frames_lawful}
 use Rattle.records.specs.Stored.{stored}
 use Rattle.records.proofs.UndoLaws.{stored_put}
 use Rattle.editor.specs.declared.editing.Correction.{Correction}
-use Rattle.editor.specs.Views.{also, refusing, asked, item_tests}
+use Rattle.editor.specs.Views.{asked, item_tests}
 use Rattle.editor.specs.Promises.{Edited}
 use Rattle.editor.specs.Writes.{Known, Holds, Editable}
-use Rattle.editor.proofs.Orders.{ordered}
 use Rattle.format.proofs.items.StoringLaws.{part_whole}
 use Rattle.editor.proofs.KnownLaws.{frame_long, sum, inside, few, standing}
 
@@ -53,16 +52,6 @@ pub few_two : (b : List ℕ) (x : Summary) → Known version_two b x → x.count
 few_two b x k = few version_two b x k (format_lawful v2)
 
 -- ---- tests
-
--- the tests at the item, each with its number, in their order
-pub tests_answer : (c : Correction) (x : Summary) (kind was room : ℕ) (fresh sign : Bool) (value signer full end rest more all : Done)
-    → fresh ≡ legal_value kind c.value → value ≡ need (fresh && not (eqb was c.value)) 23 0
-    → sign ≡ signed c.operator c.reason → signer ≡ need (sign && leb c.time 281474976710655) 24 0
-    → full ≡ need (ltb x.count 512) 25 0 → end ≡ need (leb (x.total + 24) room) 12 0
-    → rest ≡ also full end → more ≡ also signer rest → all ≡ also value more → all ≡ item_tests (asked c) x kind was room
-unfolding item_tests plane_frames
-tests_answer c x kind was room fresh sign value signer full end rest more all l v g t u w r₁ r₂ r₃ =
-    rw (r₃, r₂, r₁, v, l, t, g, u, w) (ordered (_ ∷ _ ∷ _ ∷ _ ∷ []))
 
 -- what judging told of a word, and the item answered there in the frame's part of the record, tell of an edit's target
 module _ (b : List ℕ) (x : Summary) (k : Known version_two b x) (y : Bytes b) (w : ℕ) where
@@ -104,35 +93,21 @@ module _ (b : List ℕ) (x : Summary) (k : Known version_two b x) (c : Correctio
   unfolding item_tests edit_answer edit_tests new_value first_of version_two
   tests_left kind was h r q = sym (q ∙ rw (k.judged, h.stands, time_fits c.time, limit_left (entry_for plane_frames (frame_in b) (asked c)), k.total))
 
--- an answer that does not refuse
-pub not_refusing : (r : Done) → refusing r ≡ false → r ≡ accepted tt
-not_refusing (accepted u) e = refl
-not_refusing (refused n p) e = absurd (true≢false e)
-
 -- ---- the promise, kept where an edit is refused and where it is made
 module _ (b : List ℕ) (c : formats.Correction) where
-  pub edited_refused : (r : Done) (n p : ℕ) → r ≡ refused n p → edit_answer plane_frames version_two b c ≡ refused n p → Edited b c r b
-  edited_refused r n p e a = record { answered = e ∙ sym a; left = sym (exit_found plane_frames version_two b c n p a) }
-
-  -- an answer that refuses leaves the buffer; one that does not is Accepted
-  pub edited_refusing : (r : Done) → refusing r ≡ true → edit_answer plane_frames version_two b c ≡ r → Edited b c r b
-  edited_refusing (accepted u) e a = absurd (true≢false (sym e))
-  edited_refusing (refused n p) e a = edited_refused (refused n p) n p refl a
+  pub edited_refused : (n p : ℕ) → edit_answer plane_frames version_two b c ≡ refused n p → Edited b c (refused n p) b
+  edited_refused n p a = record { answered = sym a; left = sym (exit_found plane_frames version_two b c n p a) }
 
   pub edited_written : (l : List ℕ) → edit_answer plane_frames version_two b c ≡ accepted tt → l ≡ edit_written plane_frames version_two b c → Edited b c (accepted tt) l
   edited_written l a w = record { answered = sym a; left = w ∙ sym (exit_written plane_frames version_two b c a) }
 
-  pub edited_making : (r : Done) (l : List ℕ) → refusing r ≡ false → edit_answer plane_frames version_two b c ≡ r → l ≡ edit_written plane_frames version_two b c → Edited b c r l
-  edited_making (accepted u) l e a w = edited_written l a w
-  edited_making (refused n p) l e a w = absurd (true≢false e)
-
   pub edited_unknown : (n p : ℕ) → record_verdict plane_frames version_two b ≡ refused n p → Edited b c (refused n p) b
   unfolding edit_answer edit_tests first_of
-  edited_unknown n p e = edited_refused (refused n p) n p refl (rw e)
+  edited_unknown n p e = edited_refused n p (rw e)
 
   -- a record that does not name version 2
-  pub edited_other : (version : ℕ) (r : Done) → version ≡ word_at b 0 → (version ≡ 2 → ⊥) → r ≡ refused 20 0 → Edited b c r b
-  edited_other version r e n q = subst (λ (d : Done). Edited b c d b) (sym q) (edited_unknown 20 0 (not_named v2 b (λ w. n (e ∙ w))))
+  pub edited_other : (version : ℕ) → version ≡ word_at b 0 → (version ≡ 2 → ⊥) → Edited b c (refused 20 0) b
+  edited_other version e n = edited_unknown 20 0 (not_named v2 b (λ w. n (e ∙ w)))
 
 -- one that does is judged as a record of version 2
 pub judged_two : (b : List ℕ) (w version : ℕ) (o : Outcome Judged) → version ≡ word_at b 0 → version ≡ 2 → o ≡ judged_at plane_frames (format_in b) b w → o ≡ judged_at plane_frames version_two b w

@@ -9,3 +9,4 @@ pub mod Effects
 pub mod CallLaws
 pub mod SequenceLaws
 pub mod DemandLaws
+pub mod NamedLaws

@@ -1,20 +1,20 @@
--- The order of tests: the code asks for the first of two answers again and again, the rules for the first of a list.
+-- The order of tests: the code asks one after the other and leaves at the first that refuses, the rules speak of the first of a list.
 -- Assumes nothing.
-use mathlib.Core.Path.{◌≡◌, refl}
+use Prim.Native.Nat.{ℕ}
+use mathlib.Core.Path.{◌≡◌, refl, sym, ap, ◌∙◌}
 use mathlib.Core.List.{List, [], ◌∷◌}
-use Rattle.format.specs.Answers.{Done, accepted, refused, first_of}
-use Rattle.editor.specs.Views.{also}
+use Rattle.format.specs.Answers.{Done, accepted, refused, and_then, first_of}
 
--- also a (also b (also c d))
-abbrev pub in_turn : List Done → Done
-in_turn [] = accepted tt
-in_turn (a ∷ []) = a
-in_turn (a ∷ b ∷ os) = also a (in_turn (b ∷ os))
+module _ (o : Done) (os : List Done) where
+  pub first_refuses : (n p : ℕ) → refused n p ≡ o → refused n p ≡ first_of (o ∷ os)
+  unfolding first_of
+  first_refuses n p e = rw (← e)
 
-pub ordered : (os : List Done) → in_turn os ≡ first_of os
+  pub first_passes : (a : Done) → accepted tt ≡ o → a ≡ first_of os → a ≡ first_of (o ∷ os)
+  unfolding first_of
+  first_passes a e f = f ∙ rw (← e)
+
+pub first_last : (o a : Done) → a ≡ o → a ≡ first_of (o ∷ [])
 unfolding first_of
-ordered [] = refl
-ordered (accepted u ∷ []) = refl
-ordered (refused n p ∷ []) = refl
-ordered (accepted u ∷ b ∷ os) = ordered (b ∷ os)
-ordered (refused n p ∷ b ∷ os) = refl
+first_last (accepted u) a e = e
+first_last (refused n p) a e = e

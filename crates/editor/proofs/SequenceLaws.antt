@@ -8,9 +8,11 @@ use mathlib.Core.List.{List, [], ◌∷◌, ◌++◌, map, map-append}
 use native.Mathlib.Omega.{arith}
 use lib.ListN.{length, get_or, take, drop}
 use borrow.Author.Tests.{eqb-true}
+use Rattle.std.specs.Prelude.{Result, Ok, Err}
 use Rattle.format.specs.Words.{Bytes, word_at}
 use Rattle.format.specs.Answers.{Done, accepted, refused, and_then}
 use Rattle.format.proofs.items.WordLaws.{below_drop}
+use Rattle.book.specs.declared.refusal.Refusal.{Refusal}
 use Rattle.ledger.specs.Formats as formats
 use Rattle.ledger.specs.Formats.{Entry}
 use Rattle.ledger.specs.Records.{length_in, count_in, total_in, entry_of, numbered, entries_to, entries_in, record_verdict}
@@ -27,20 +29,17 @@ use Rattle.ledger.proofs.plane.OneJudge.{by_word}
 use Rattle.ledger.proofs.records.Judging.{record_chain}
 use Rattle.ledger.proofs.front.PlaneDemand3 as house3
 use Rattle.records.specs.declared.answers.Record.{Record}
-use Rattle.records.specs.declared.answers.RecordFound.{RecordFound}
-use Rattle.records.specs.declared.answers.RecordFound.TheVariants as records
 use Rattle.records.specs.Views.{summary_of}
 use Rattle.records.proofs.Unique.{same_record}
-use Rattle.editor.specs.declared.answers.Done as code
 use Rattle.editor.specs.declared.editing.Correction.{Correction}
-use Rattle.editor.specs.Views.{asked}
+use Rattle.editor.specs.Views.{Answer, asked}
 use Rattle.records.specs.Promises.{Recorded}
 use Rattle.editor.specs.Sequences.{Calls, done, then, made_by, correction_for, Given, AllGiven, none, more, Sequence}
 use Rattle.editor.proofs.CallLaws.{calls_edit_all, calls_made, after_calls, called}
 
 -- ---- what `record` answers
 module _ (b : List ℕ) where
-  pub recorded : (x : Record) → Recorded b (records.Record x) → record_verdict plane_frames (format_in b) b ≡ accepted tt
+  pub recorded : (x : Record) → Recorded b (Ok x) → record_verdict plane_frames (format_in b) b ≡ accepted tt
   unfolding record_answer
   recorded x e = go (record_verdict plane_frames (format_in b) b) _ e
     where
@@ -48,7 +47,7 @@ module _ (b : List ℕ) where
       go (accepted u) s q = refl
       go (refused n p) s q = let z : ◌≡◌ {A = ℕ} 0 1 = cc in absurd (omega arith)
 
-  pub recorded_back : (r : RecordFound) → Recorded b r → record_verdict plane_frames (format_in b) b ≡ accepted tt → (x : Record) × (r ≡ records.Record x)
+  pub recorded_back : (r : Result Record Refusal) → Recorded b r → record_verdict plane_frames (format_in b) b ≡ accepted tt → (x : Record) × (r ≡ Ok x)
   unfolding record_answer
   recorded_back r t v =
       (record { length = length_in b; count = count_in b; total = total_in (format_in b) b }, same_record r _ (t ∙ rw v))
@@ -162,7 +161,7 @@ fits_inside : (b : List ℕ) → record_verdict plane_frames version_two b ≡ a
 unfolding version_two length_in count_in
 fits_inside b v = ((record_chain plane_frames version_two b).0 v).0.room
 
-pub joined : {b m e : List ℕ} {cs ds : List Correction} {rs qs : List code.Done} → Calls b cs rs m → Calls m ds qs e → Calls b (cs ++ ds) (rs ++ qs) e
+pub joined : {b m e : List ℕ} {cs ds : List Correction} {rs qs : List Answer} → Calls b cs rs m → Calls m ds qs e → Calls b (cs ++ ds) (rs ++ qs) e
 joined done k = k
 joined (then o j) k = then o (joined j k)
 
@@ -210,7 +209,7 @@ module _ (b : List ℕ) (y : Bytes b) (v : record_verdict plane_frames version_t
   own_left = calls_edit_all (called start own).1.1 ∙ makes
 
   -- calls on an accepted record are calls that follow that sequence
-  pub followed : {cs : List Correction} {rs : List code.Done} {e : List ℕ} → Calls b cs rs e → AllGiven cs → Sequence e
+  pub followed : {cs : List Correction} {rs : List Answer} {e : List ℕ} → Calls b cs rs e → AllGiven cs → Sequence e
   followed {cs = cs} {rs = rs} {e = e} k g =
       let S = has_sequence in
       let a = joined S.calls (subst (λ (m : List ℕ). Calls m cs rs e) (sym own_left) k) in

@@ -3,28 +3,17 @@
 use Prim.Native.Nat.{ℕ}
 use mathlib.Core.Path.{◌≡◌, refl, sym, ap, ◌∙◌}
 use mathlib.Core.List.{List}
-use Rattle.format.specs.Answers as answers
-use Rattle.format.specs.Answers.{accepted, refused}
-use Rattle.book.proofs.Unique.{undone}
+use Rattle.book.proofs.Unique.{undone, same_result}
 use Rattle.ledger.specs.Formats as formats
 use Rattle.ledger.specs.VersionTwo.{time_in}
-use Rattle.editor.specs.declared.answers.Done.{Done}
 use Rattle.editor.specs.declared.answers.Done.TheVariants as done
 use Rattle.editor.specs.declared.editing.Correction.{Correction}
-use Rattle.editor.specs.Views.{view_done, asked}
+use Rattle.editor.specs.Views.{Answer, view_done, asked}
 use Rattle.editor.specs.Promises.{Opened, Edited, Restored}
 
--- T40: the way back from an answer on paper, and from what an edit asks
-abbrev done_back : answers.Done → Done
-done_back (accepted u) = done.Accepted
-done_back (refused n p) = done.Refused (record { number = n; place = p })
-
-done_back_lem : (r : Done) → done_back (view_done r) ≡ r
-done_back_lem done.Accepted = refl
-done_back_lem (done.Refused r) = refl
-
-pub same_done : (r q : Done) → view_done r ≡ view_done q → r ≡ q
-same_done = undone view_done done_back done_back_lem
+-- T40: an answer on paper fixes the answer, and what an edit asks the correction
+pub same_done : (r q : Answer) → view_done r ≡ view_done q → r ≡ q
+same_done = same_result (λ u. u) (λ u v e. e)
 
 abbrev asked_back : formats.Correction → Correction
 asked_back c = record { word = c.word; value = c.value; operator = c.operator; reason = c.reason; time = time_in c.extra }
@@ -33,13 +22,13 @@ pub same_asked : (c d : Correction) → asked c ≡ asked d → c ≡ d
 same_asked = undone asked asked_back (λ c. refl)
 
 -- T39: no second result, function by function
-pub open_once : (f b : List ℕ) (r q : Done) (e g : List ℕ) → Opened f b (view_done r) e → Opened f b (view_done q) g → (r ≡ q) × (e ≡ g)
+pub open_once : (f b : List ℕ) (r q : Answer) (e g : List ℕ) → Opened f b (view_done r) e → Opened f b (view_done q) g → (r ≡ q) × (e ≡ g)
 open_once f b r q e g x y = (same_done r q (x.answered ∙ sym y.answered), x.left ∙ sym y.left)
 
-pub edit_once : (b : List ℕ) (c : Correction) (r q : Done) (e g : List ℕ)
+pub edit_once : (b : List ℕ) (c : Correction) (r q : Answer) (e g : List ℕ)
     → Edited b (asked c) (view_done r) e → Edited b (asked c) (view_done q) g → (r ≡ q) × (e ≡ g)
 edit_once b c r q e g x y = (same_done r q (x.answered ∙ sym y.answered), x.left ∙ sym y.left)
 
-pub restore_once : (b : List ℕ) (k : ℕ) (out : List ℕ) (r q : Done) (e g : List ℕ)
+pub restore_once : (b : List ℕ) (k : ℕ) (out : List ℕ) (r q : Answer) (e g : List ℕ)
     → Restored b k out (view_done r) e → Restored b k out (view_done q) g → (r ≡ q) × (e ≡ g)
 restore_once b k out r q e g x y = (same_done r q (x.answered ∙ sym y.answered), x.left ∙ sym y.left)

@@ -111,7 +111,9 @@ fn edit_item(buf: &mut [u8], c: Correction, x: Record, spot: Option<Spot>) -> Re
 pub fn edit(buf: &mut [u8], c: Correction) -> Result<(), Refusal>
     ensures { Edited buf.old (asked c) (view_done result) buf.new }
 {
-    need(word(buf, Record::VERSION_WORD) == Record::VERSION, Fault::Header)?;
+    if word(buf, Record::VERSION_WORD) != Record::VERSION {
+        return Err(Fault::Header.into());
+    }
     let judged = judge(buf, c.word)?;
     edit_item(buf, c, judged.record, judged.spot)
 }

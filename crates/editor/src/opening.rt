@@ -6,7 +6,6 @@ ghost use Rattle.ledger.specs.VersionTwo.{version_two};
 ghost use Rattle.editor.specs.Views.{view_done};
 ghost use Rattle.editor.specs.Promises.{Opened};
 
-use crate::answers::need;
 use crate::stores::put_words;
 use book::refusal::{Fault, Refusal};
 use book::words::copy;
@@ -53,7 +52,9 @@ pub fn open(buf: &mut [u8], frame: &[u8]) -> Result<(), Refusal>
     ensures { Opened frame.now buf.old (view_done result) buf.new }
 {
     read(frame)?;
-    need(Record::HEADER + frame.len() <= buf.len(), Fault::Room)?;
+    if buf.len() < Record::HEADER + frame.len() {
+        return Err(Fault::Room.into());
+    }
     write_open(buf, frame);
     Ok(())
 }

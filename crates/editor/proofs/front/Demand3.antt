@@ -9,10 +9,15 @@ use mathlib.Core.Logic.{◌↔◌, ◌⊎◌}
 use mathlib.Core.List.{List, ◌∷◌, ◌++◌, map}
 use mathlib.Core.Option.{some}
 use lib.ListN.{length, get_or, take, drop}
+use Rattle.std.specs.Prelude.{Result, Ok, Err}
 use Rattle.format.specs.Words.{Bytes, word_at}
 use Rattle.format.specs.Answers.{accepted}
 use Rattle.format.specs.Frames.{Frame, verdict}
 use Rattle.format.specs.Spots.{Spot, spot, put, revalued, with_value, SpotIs, with_items}
+use Rattle.book.specs.declared.refusal.Fault.TheVariants as fault
+use Rattle.book.specs.declared.refusal.Refusal.{Refusal}
+use Rattle.book.specs.Refusals.{number_of}
+use Rattle.book.specs.Refuses.{Refuses}
 use Rattle.ledger.specs.Records.{entries_in}
 use Rattle.ledger.specs.Calls.{entry_for}
 use Rattle.ledger.specs.Histories as histories
@@ -23,14 +28,9 @@ use Rattle.ledger.specs.PlaneFrames.{plane_frames, Free}
 use Rattle.ledger.specs.Layout.{total_length, frame_of, header_for, entry_written, history_written}
 use Rattle.ledger.specs.Reasons.{RecordRefused, OpenRefused, EditRefused, RestoreRefused, EntryRefused}
 use Rattle.records.specs.declared.answers.Record.{Record}
-use Rattle.records.specs.declared.answers.RecordFound.{RecordFound}
-use Rattle.records.specs.declared.answers.RecordFound.TheVariants as records
-use Rattle.records.specs.declared.answers.EntryFound.{EntryFound}
-use Rattle.records.specs.declared.answers.EntryFound.TheVariants as entries
-use Rattle.editor.specs.declared.answers.Done.{Done}
-use Rattle.editor.specs.declared.answers.Done.TheVariants as answer
+use Rattle.records.specs.declared.answers.Entry.{Entry}
 use Rattle.editor.specs.declared.editing.Correction.{Correction}
-use Rattle.editor.specs.Views.{view_done, asked}
+use Rattle.editor.specs.Views.{Answer, view_done, asked}
 use Rattle.editor.specs.Promises.{Opened, Edited, Restored}
 use Rattle.records.specs.Promises.{Recorded, EntryTold}
 use Rattle.editor.specs.Sequences.{Calls, made_by, corrected, entries_for, entry_made, correction_for, Moment, AllGiven, Sequence}
@@ -41,44 +41,44 @@ use Rattle.editor.proofs.DemandLaws as law
 
 -- > "Put an accepted frame into a record with no history,"
 -- every byte: header, the frame, and the buffer's own beyond
-pub put_into_a_record : (f buf b : List ℕ) → Opened f buf (view_done answer.Accepted) b → b ≡ header_for v2 (length f) 0 ++ (f ++ drop (16 + length f) buf)
+pub put_into_a_record : (f buf b : List ℕ) → Opened f buf (view_done (Ok tt)) b → b ≡ header_for v2 (length f) 0 ++ (f ++ drop (16 + length f) buf)
 put_into_a_record = law.put_into_a_record
 
 -- > "An accepted frame is refused a record only where the buffer is too short,"
-pub opened_exactly : (f buf : List ℕ) (g : Frame) → verdict f ≡ accepted g → (r : Done) (b : List ℕ) → Opened f buf (view_done r) b
-    → (r ≡ answer.Accepted) ↔ (16 + length f ≤ length buf)
+pub opened_exactly : (f buf : List ℕ) (g : Frame) → verdict f ≡ accepted g → (r : Answer) (b : List ℕ) → Opened f buf (view_done r) b
+    → (r ≡ Ok tt) ↔ (16 + length f ≤ length buf)
 opened_exactly = law.opened_exactly
 
 -- every refusal of an opening: the frame's own, then 12; and it leaves the buffer as found
-pub opening_refused : (f buf : List ℕ) → Bytes f → (r : Done) (b : List ℕ) → Opened f buf (view_done r) b
-    → (n p : ℕ) → (r ≡ answer.Refused (record { number = n; place = p })) ↔ OpenRefused f buf n p
+pub opening_refused : (f buf : List ℕ) → Bytes f → (r : Answer) (b : List ℕ) → Opened f buf (view_done r) b
+    → (n p : ℕ) → Refuses r n p ↔ OpenRefused f buf n p
 opening_refused = law.opening_refused
 
-pub opening_leaves : (f buf : List ℕ) (n p : ℕ) (b : List ℕ) → Opened f buf (view_done (answer.Refused (record { number = n; place = p }))) b → b ≡ buf
-opening_leaves = effects.open_untouched
+pub opening_leaves : (f buf : List ℕ) (q : Refusal) (b : List ℕ) → Opened f buf (view_done (Err q)) b → b ≡ buf
+opening_leaves f buf q = effects.open_untouched f buf (number_of q.fault) q.place
 
 -- > "and an edit only for a listed reason;"
 -- of a record of version 2 that `record` accepts: exactly where none of the documents' reasons forbids it (ledger's specs/PlaneFrames.antt, `Free`)
-pub edited_exactly : (b : List ℕ) → Bytes b → word_at b 0 ≡ 2 → (x : Record) → Recorded b (records.Record x) → (c : Correction) (r : Done) (e : List ℕ)
-    → Edited b (asked c) (view_done r) e → (r ≡ answer.Accepted) ↔ Free v2 b (asked c)
+pub edited_exactly : (b : List ℕ) → Bytes b → word_at b 0 ≡ 2 → (x : Record) → Recorded b (Ok x) → (c : Correction) (r : Answer) (e : List ℕ)
+    → Edited b (asked c) (view_done r) e → (r ≡ Ok tt) ↔ Free v2 b (asked c)
 edited_exactly = law.edited_exactly
 
 -- of any buffer: refused by n at p exactly where n is due, the first in the order record refusals, 22, 23, 24, 25, 12
-pub edit_refused : (b : List ℕ) → Bytes b → (c : Correction) (r : Done) (e : List ℕ) → Edited b (asked c) (view_done r) e
-    → (n p : ℕ) → (r ≡ answer.Refused (record { number = n; place = p })) ↔ EditRefused v2 b (asked c) n p
+pub edit_refused : (b : List ℕ) → Bytes b → (c : Correction) (r : Answer) (e : List ℕ) → Edited b (asked c) (view_done r) e
+    → (n p : ℕ) → Refuses r n p ↔ EditRefused v2 b (asked c) n p
 edit_refused = law.edit_refused
 
 -- "editing a version 1 record is 20, before its frame is judged": so is any record that does not name version 2, and nothing of it changes
-pub old_not_edited : (b : List ℕ) → (word_at b 0 ≡ 2 → ⊥) → (c : Correction) (r : Done) (e : List ℕ) → Edited b (asked c) (view_done r) e
-    → (r ≡ answer.Refused (record { number = 20; place = 0 })) × (e ≡ b)
+pub old_not_edited : (b : List ℕ) → (word_at b 0 ≡ 2 → ⊥) → (c : Correction) (r : Answer) (e : List ℕ) → Edited b (asked c) (view_done r) e
+    → (r ≡ Err (record { fault = fault.Header; place = 0 })) × (e ≡ b)
 old_not_edited = law.old_not_edited
 
 -- "some refused": such a call leaves every byte
-pub edit_leaves : (b : List ℕ) (c : Correction) (n p : ℕ) (e : List ℕ) → Edited b (asked c) (view_done (answer.Refused (record { number = n; place = p }))) e → e ≡ b
-edit_leaves b c = effects.edit_untouched b (asked c)
+pub edit_leaves : (b : List ℕ) (c : Correction) (q : Refusal) (e : List ℕ) → Edited b (asked c) (view_done (Err q)) e → e ≡ b
+edit_leaves b c q = effects.edit_untouched b (asked c) (number_of q.fault) q.place
 
 -- > "otherwise the edit puts the value asked for in the item asked for and nowhere else in the frame."
-module _ (b : List ℕ) (y : Bytes b) (c : Correction) (e : List ℕ) (o : Edited b (asked c) (view_done answer.Accepted) e) where
+module _ (b : List ℕ) (y : Bytes b) (c : Correction) (e : List ℕ) (o : Edited b (asked c) (view_done (Ok tt)) e) where
   -- there is such an item, in an accepted frame
   pub item_asked : (f : Frame) × (verdict (frame_of b) ≡ accepted f) × ((p : Spot) × SpotIs f.items c.word p)
   item_asked = law.item_asked b y c e o
@@ -104,10 +104,10 @@ module _ (b : List ℕ) (y : Bytes b) (c : Correction) (e : List ℕ) (o : Edite
 
 -- > "Put an accepted frame into a record with no history, then make any sequence of edit calls on it, some refused, with nothing else writing to it."
 -- the frame f opened in the buffer buf, which left b; then the corrections cs asked for, which were answered rs, and left e
-module _ (f buf : List ℕ) (y : Bytes f) (b : List ℕ) (o : Opened f buf (view_done answer.Accepted) b) (cs : List Correction) (rs : List Done) (e : List ℕ) (k : Calls b cs rs e) where
+module _ (f buf : List ℕ) (y : Bytes f) (b : List ℕ) (o : Opened f buf (view_done (Ok tt)) b) (cs : List Correction) (rs : List Answer) (e : List ℕ) (k : Calls b cs rs e) where
   -- `record` accepts what they leave, and tells its lengths and the count of the accepted edits
-  pub record_told : (r : RecordFound) → Recorded e r
-      → r ≡ records.Record (record { length = length f; count = length (made_by cs rs); total = 16 + length f + 24 * length (made_by cs rs) })
+  pub record_told : (r : Result Record Refusal) → Recorded e r
+      → r ≡ Ok (record { length = length f; count = length (made_by cs rs); total = 16 + length f + 24 * length (made_by cs rs) })
   record_told = law.record_told f buf y b o cs rs e k
 
   -- every byte of the buffer: header, the frame with the accepted corrections made, their entries in order, and the caller's own beyond
@@ -122,27 +122,27 @@ module _ (f buf : List ℕ) (y : Bytes f) (b : List ℕ) (o : Opened f buf (view
   pub moment_for_every_k : (n : ℕ) → n ≤ length (made_by cs rs) → Moment b cs rs e n
   moment_for_every_k = moment k
 
-  pub restores_what_stood : (n : ℕ) (M : Moment b cs rs e n) (out : List ℕ) (r : Done) (left : List ℕ) → Restored e n out (view_done r) left → length f ≤ length out
-      → (r ≡ answer.Accepted) × (left ≡ frame_of M.buffer ++ drop (length f) out)
+  pub restores_what_stood : (n : ℕ) (M : Moment b cs rs e n) (out : List ℕ) (r : Answer) (left : List ℕ) → Restored e n out (view_done r) left → length f ≤ length out
+      → (r ≡ Ok tt) × (left ≡ frame_of M.buffer ++ drop (length f) out)
   restores_what_stood = law.restores_what_stood f buf y b o cs rs e k
 
   -- the same in other words: the frame f with the first n accepted corrections made
-  pub restores_to : (n : ℕ) (out : List ℕ) (r : Done) (left : List ℕ) → Restored e n out (view_done r) left → n ≤ length (made_by cs rs) → length f ≤ length out
-      → (r ≡ answer.Accepted) × (left ≡ corrected f (take n (made_by cs rs)) ++ drop (length f) out)
+  pub restores_to : (n : ℕ) (out : List ℕ) (r : Answer) (left : List ℕ) → Restored e n out (view_done r) left → n ≤ length (made_by cs rs) → length f ≤ length out
+      → (r ≡ Ok tt) × (left ≡ corrected f (take n (made_by cs rs)) ++ drop (length f) out)
   restores_to = law.restores_to f buf y b o cs rs e k
 
   -- > "k = 0 gives the frame as recorded."
-  pub restores_as_recorded : (out : List ℕ) (r : Done) (left : List ℕ) → Restored e 0 out (view_done r) left → length f ≤ length out
-      → (r ≡ answer.Accepted) × (left ≡ f ++ drop (length f) out)
+  pub restores_as_recorded : (out : List ℕ) (r : Answer) (left : List ℕ) → Restored e 0 out (view_done r) left → length f ≤ length out
+      → (r ≡ Ok tt) × (left ≡ f ++ drop (length f) out)
   restores_as_recorded = law.restores_as_recorded f buf y b o cs rs e k
 
   -- above the count 26, into a buffer without room 12
-  pub no_such_edit : (n : ℕ) (out : List ℕ) (r : Done) (left : List ℕ) → Restored e n out (view_done r) left → length (made_by cs rs) < n
-      → r ≡ answer.Refused (record { number = 26; place = 0 })
+  pub no_such_edit : (n : ℕ) (out : List ℕ) (r : Answer) (left : List ℕ) → Restored e n out (view_done r) left → length (made_by cs rs) < n
+      → r ≡ Err (record { fault = fault.NoEntry; place = 0 })
   no_such_edit = law.no_such_edit f buf y b o cs rs e k
 
-  pub no_room : (n : ℕ) (out : List ℕ) (r : Done) (left : List ℕ) → Restored e n out (view_done r) left → n ≤ length (made_by cs rs) → length out < length f
-      → r ≡ answer.Refused (record { number = 12; place = 0 })
+  pub no_room : (n : ℕ) (out : List ℕ) (r : Answer) (left : List ℕ) → Restored e n out (view_done r) left → n ≤ length (made_by cs rs) → length out < length f
+      → r ≡ Err (record { fault = fault.Room; place = 0 })
   no_room = law.no_room f buf y b o cs rs e k
 
   -- > "The history holds those edits in order and nothing more."
@@ -151,39 +151,38 @@ module _ (f buf : List ℕ) (y : Bytes f) (b : List ℕ) (o : Opened f buf (view
   pub history_in_order : oldest_first (entries_in version_two e) ≡ entries_for f (made_by cs rs)
   history_in_order = law.history_in_order f buf y b o cs rs e k
 
-  pub entry_asked : (j : ℕ) → j < length (made_by cs rs) → (d : Correction) (r : EntryFound) → EntryTold e (suc j) r
+  pub entry_asked : (j : ℕ) → j < length (made_by cs rs) → (d : Correction) (r : Result Entry Refusal) → EntryTold e (suc j) r
       → (p : Spot)
       × (spot (corrected f (take j (made_by cs rs))) (get_or (made_by cs rs) j d).word ≡ some p)
-      × (r ≡ entries.Entry (entry_made (get_or (made_by cs rs) j d) p))
+      × (r ≡ Ok (entry_made (get_or (made_by cs rs) j d) p))
   entry_asked = law.entry_asked f buf y b o cs rs e k
 
-  pub no_other_entry : (j : ℕ) → length (made_by cs rs) < j → (r : EntryFound) → EntryTold e j r → r ≡ entries.Refused (record { number = 26; place = 0 })
+  pub no_other_entry : (j : ℕ) → length (made_by cs rs) < j → (r : Result Entry Refusal) → EntryTold e j r → r ≡ Err (record { fault = fault.NoEntry; place = 0 })
   no_other_entry = law.no_other_entry f buf y b o cs rs e k
 
 -- ---- any buffer: it is judged, restored and told by the version that it names, `version_in b`
 
 -- every refusal of a restore: record refusals, 26, 12; and it leaves the second buffer as found
-pub restore_refused : (b : List ℕ) → Bytes b → (n : ℕ) (out : List ℕ) (r : Done) (left : List ℕ) → Restored b n out (view_done r) left
-    → (m p : ℕ) → (r ≡ answer.Refused (record { number = m; place = p })) ↔ RestoreRefused (version_in b) b n out m p
+pub restore_refused : (b : List ℕ) → Bytes b → (n : ℕ) (out : List ℕ) (r : Answer) (left : List ℕ) → Restored b n out (view_done r) left
+    → (m p : ℕ) → Refuses r m p ↔ RestoreRefused (version_in b) b n out m p
 restore_refused = law.restore_refused
 
-pub restore_leaves : (b : List ℕ) (n : ℕ) (out : List ℕ) (m p : ℕ) (left : List ℕ)
-    → Restored b n out (view_done (answer.Refused (record { number = m; place = p }))) left → left ≡ out
-restore_leaves = effects.restore_untouched
+pub restore_leaves : (b : List ℕ) (n : ℕ) (out : List ℕ) (q : Refusal) (left : List ℕ) → Restored b n out (view_done (Err q)) left → left ≡ out
+restore_leaves b n out q = effects.restore_untouched b n out (number_of q.fault) q.place
 
 -- > "And a record is accepted exactly when some such sequence makes its bytes."
 -- of version 2 a sequence of these calls; of version 1 one of the old editor's opening and edits (ledger's PlaneDemand3 at `v1` says all of it)
-pub accepted_exactly : (b : List ℕ) → Bytes b → (r : RecordFound) → Recorded b r
-    → ((x : Record) × (r ≡ records.Record x)) ↔ (Sequence b ⊎ histories.Sequence plane_frames (format_of v1) b)
+pub accepted_exactly : (b : List ℕ) → Bytes b → (r : Result Record Refusal) → Recorded b r
+    → ((x : Record) × (r ≡ Ok x)) ↔ (Sequence b ⊎ histories.Sequence plane_frames (format_of v1) b)
 accepted_exactly = law.accepted_exactly
 
-module _ (b : List ℕ) (y : Bytes b) (w : word_at b 0 ≡ 2) (x : Record) (t : Recorded b (records.Record x)) where
+module _ (b : List ℕ) (y : Bytes b) (w : word_at b 0 ≡ 2) (x : Record) (t : Recorded b (Ok x)) where
   -- more than that, of version 2: opened in that very buffer, it leaves every byte of it
   pub made_again : (S : Sequence b) × (S.buffer ≡ b) × (S.left ≡ b)
   made_again = law.made_again b y w x t
 
   -- so calls on any accepted record of version 2 follow such a sequence, and every sentence above holds of them too
-  pub continued : (cs : List Correction) (rs : List Done) (e : List ℕ) → Calls b cs rs e → AllGiven cs → Sequence e
+  pub continued : (cs : List Correction) (rs : List Answer) (e : List ℕ) → Calls b cs rs e → AllGiven cs → Sequence e
   continued = law.continued b y w x t
 
 -- and no other frame and no other accepted corrections make it: these are the ones that its entries tell of
@@ -196,10 +195,10 @@ told_by_entries = sequences.only_corrections
 
 -- else `record` refuses by n at p exactly where n is due: 20, the frame's refusals, then 21 at the newest entry that does not fit; and `entry` as
 -- `record`, then by 26
-pub record_refused : (b : List ℕ) → Bytes b → (r : RecordFound) → Recorded b r
-    → (n p : ℕ) → (r ≡ records.Refused (record { number = n; place = p })) ↔ RecordRefused (version_in b) b n p
+pub record_refused : (b : List ℕ) → Bytes b → (r : Result Record Refusal) → Recorded b r
+    → (n p : ℕ) → Refuses r n p ↔ RecordRefused (version_in b) b n p
 record_refused = law.record_refused
 
-pub entry_refused : (b : List ℕ) → Bytes b → (j : ℕ) (r : EntryFound) → EntryTold b j r
-    → (n p : ℕ) → (r ≡ entries.Refused (record { number = n; place = p })) ↔ EntryRefused (version_in b) b j n p
+pub entry_refused : (b : List ℕ) → Bytes b → (j : ℕ) (r : Result Entry Refusal) → EntryTold b j r
+    → (n p : ℕ) → Refuses r n p ↔ EntryRefused (version_in b) b j n p
 entry_refused = law.entry_refused
