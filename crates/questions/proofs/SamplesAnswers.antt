@@ -17,8 +17,7 @@ use Rattle.format.proofs.questions.FillQuestions.{samples_of, samples_room, samp
 use Rattle.format.proofs.questions.WordFinds.{channel_items}
 use Rattle.format.specs.Cursor.{items_from}
 use Rattle.questions.specs.Sought.{started_at, continued_at, opened_at, inside_at, EventAt, ChannelFound, ChannelSought, SamplesSought, Filling}
-use Rattle.questions.specs.declared.answers.Place.{Place}
-use Rattle.questions.specs.declared.answers.Place.TheVariants as place
+use Rattle.std.specs.Prelude as found
 use Rattle.questions.proofs.Reading.{Accepted, items_first}
 
 -- ---- no such channel
@@ -43,9 +42,9 @@ unfolding channel_at
 in_event s e chip c q h = ap (behind_header chip c) h.picked ∙ ap (λ (xs : List Item). present (past_at (is_channel chip c) (inside_at s q) (until end_event xs))) (opened_items s q)
 
 -- what the search in the event finds
-pub sought : (s : List ℕ) (e chip c q : ℕ) → EventAt s e q → (r : Place) → ChannelSought s (inside_at s q) chip c r → SamplesSought s e chip c r
-sought s e chip c q h (place.At p) f = record { found = in_event s e chip c q h ∙ ap present f.passed; headed = f.headed }
-sought s e chip c q h place.Nothing f = in_event s e chip c q h ∙ ap present f
+pub sought : (s : List ℕ) (e chip c q : ℕ) → EventAt s e q → (r : found.Option ℕ) → ChannelSought s (inside_at s q) chip c r → SamplesSought s e chip c r
+sought s e chip c q h (found.Some p) f = record { found = in_event s e chip c q h ∙ ap present f.passed; headed = f.headed }
+sought s e chip c q h found.None f = in_event s e chip c q h ∙ ap present f
 
 -- ---- among the items
 

@@ -87,8 +87,6 @@ pub(crate) fn seek_event(s: &[u8], e: usize) -> Option<usize>
                 return Some(at);
             }
             left -= 1;
-            at = x.next;
-            continue;
         }
         at = x.next;
     }

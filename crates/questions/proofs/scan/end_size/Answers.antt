@@ -1,9 +1,8 @@
 -- `questions::scan::end_size` meets its contract.
 -- Assumes nothing.
 use Prim.Native.Nat.{◌-◌}
-use mathlib.Core.Path.{refl, sym, ap, ◌∙◌}
+use mathlib.Core.Path.{refl, sym, ◌∙◌}
 use native.Mathlib.Omega.{arith}
-use Rattle.cursor.specs.Views.{view_standing}
 use Rattle.questions.proofs.Turns.{amid_range, next_further, nothing_there}
 use Rattle.questions.proofs.EventScan.{sizing_start, sizing_one, sizing_next, sizing_found, sizing_none}
 use Rattle.questions.proofs.scan.end_size.Goals as goal
@@ -30,16 +29,16 @@ pub overflow_add-at-then-is_end : goal.overflow_add-at-then-is_end
 overflow_add-at-then-is_end c = omega arith
 
 pub returns-then-is_end : goal.returns-then-is_end
-returns-then-is_end c = let v = c.loop-at.invariant in sizing_found _ _ _ v.1 _ _ (sym (ap view_standing c.in-Item.is) ∙ c.item_at-standing.ensures) (sym c.is_end.ensures ∙ c.if-is_end.true) _ c.long-size.ensures
+returns-then-is_end c = let v = c.loop-at.invariant in sizing_found _ _ _ v.1 _ _ c.in_ok-x.ensures (sym c.is_end.ensures ∙ c.if-is_end.true) _ c.long-size.ensures
 
 pub loop-at-smaller : goal.loop-at-smaller
-loop-at-smaller c = let v = c.loop-at.invariant in let f = next_further _ _ _ v.1.amid _ _ (sym (ap view_standing c.in-Item.is) ∙ c.item_at-standing.ensures) in omega arith
+loop-at-smaller c = let v = c.loop-at.invariant in let f = next_further _ _ _ v.1.amid _ _ c.in_ok-x.ensures in omega arith
 
 pub loop-at-preserved : goal.loop-at-preserved
-loop-at-preserved c = let v = c.loop-at.invariant in (v.0, sizing_next _ _ _ v.1 _ _ (sym (ap view_standing c.in-Item.is) ∙ c.item_at-standing.ensures) (sym c.is_end.ensures ∙ c.if-is_end.false))
+loop-at-preserved c = let v = c.loop-at.invariant in (v.0, sizing_next _ _ _ v.1 _ _ c.in_ok-x.ensures (sym c.is_end.ensures ∙ c.if-is_end.false))
 
-pub returns-in-Nothing : goal.returns-in-Nothing
-returns-in-Nothing c = let v = c.loop-at.invariant in nothing_there _ _ _ v.1.amid (omega arith) (sym (ap view_standing c.in-Nothing.is) ∙ c.item_at-standing.ensures)
+pub returns-in_err-x : goal.returns-in_err-x
+returns-in_err-x c = let v = c.loop-at.invariant in nothing_there _ _ _ v.1.amid (omega arith) c.in_err-x.ensures
 
 pub returns : goal.returns
 returns c = let v = c.loop-at.invariant in sizing_none _ _ _ v.1 (omega arith)

@@ -1,9 +1,8 @@
 -- `questions::scan::seek_channel` meets its contract.
 -- Assumes nothing.
 use Prim.Native.Nat.{◌-◌}
-use mathlib.Core.Path.{refl, sym, ap, ◌∙◌}
+use mathlib.Core.Path.{refl, sym, ◌∙◌}
 use native.Mathlib.Omega.{arith}
-use Rattle.cursor.specs.Views.{view_standing}
 use Rattle.questions.proofs.Turns.{amid_range, next_further, nothing_there}
 use Rattle.questions.proofs.ChannelScan.{seeking_start, seeking_one, seeking_header, seeking_hit, seeking_end, seeking_next, seeking_found, seeking_none}
 use Rattle.questions.proofs.scan.seek_channel.Goals as goal
@@ -42,19 +41,19 @@ pub loop-at-preserved-then-w-ge-CHANNEL : goal.loop-at-preserved-then-w-ge-CHANN
 loop-at-preserved-then-w-ge-CHANNEL c = let v = c.loop-at.invariant in (v.0, seeking_header _ _ _ _ _ v.1 (omega arith) _ c.word_in-w.ensures c.if-w-ge-CHANNEL.true _ c.of_word-x.ensures c.if-x-chip.false)
 
 pub returns-then-is_end : goal.returns-then-is_end
-returns-then-is_end c = let v = c.loop-at.invariant in seeking_end _ _ _ _ _ v.1 _ _ (sym (ap view_standing c.in-Item.is) ∙ c.item_at-standing.ensures) (sym c.is_end.ensures ∙ c.if-is_end.true)
+returns-then-is_end c = let v = c.loop-at.invariant in seeking_end _ _ _ _ _ v.1 _ _ c.in_ok-x.ensures (sym c.is_end.ensures ∙ c.if-is_end.true)
 
 pub returns-then-is_header : goal.returns-then-is_header
-returns-then-is_header c = let v = c.loop-at.invariant in seeking_found _ _ _ _ _ v.1 _ _ (sym (ap view_standing c.in-Item.is) ∙ c.item_at-standing.ensures) (sym c.is_end.ensures ∙ c.if-is_end.false) (sym c.is_header.ensures ∙ c.if-is_header.true)
+returns-then-is_header c = let v = c.loop-at.invariant in seeking_found _ _ _ _ _ v.1 _ _ c.in_ok-x.ensures (sym c.is_end.ensures ∙ c.if-is_end.false) (sym c.is_header.ensures ∙ c.if-is_header.true)
 
 pub loop-at-smaller : goal.loop-at-smaller
-loop-at-smaller c = let v = c.loop-at.invariant in let f = next_further _ _ _ v.1.amid _ _ (sym (ap view_standing c.in-Item.is) ∙ c.item_at-standing.ensures) in omega arith
+loop-at-smaller c = let v = c.loop-at.invariant in let f = next_further _ _ _ v.1.amid _ _ c.in_ok-x.ensures in omega arith
 
 pub loop-at-preserved : goal.loop-at-preserved
-loop-at-preserved c = let v = c.loop-at.invariant in (v.0, seeking_next _ _ _ _ _ v.1 _ _ (sym (ap view_standing c.in-Item.is) ∙ c.item_at-standing.ensures) (sym c.is_end.ensures ∙ c.if-is_end.false) (sym c.is_header.ensures ∙ c.if-is_header.false))
+loop-at-preserved c = let v = c.loop-at.invariant in (v.0, seeking_next _ _ _ _ _ v.1 _ _ c.in_ok-x.ensures (sym c.is_end.ensures ∙ c.if-is_end.false) (sym c.is_header.ensures ∙ c.if-is_header.false))
 
-pub returns-in-Nothing : goal.returns-in-Nothing
-returns-in-Nothing c = let v = c.loop-at.invariant in nothing_there _ _ _ v.1.amid (omega arith) (sym (ap view_standing c.in-Nothing.is) ∙ c.item_at-standing.ensures)
+pub returns-in_err-x : goal.returns-in_err-x
+returns-in_err-x c = let v = c.loop-at.invariant in nothing_there _ _ _ v.1.amid (omega arith) c.in_err-x.ensures
 
 pub returns : goal.returns
 returns c = let v = c.loop-at.invariant in seeking_none _ _ _ _ _ v.1 (omega arith)

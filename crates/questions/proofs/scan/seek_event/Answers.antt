@@ -1,9 +1,8 @@
 -- `questions::scan::seek_event` meets its contract.
 -- Assumes nothing.
 use Prim.Native.Nat.{◌-◌}
-use mathlib.Core.Path.{refl, sym, ap, ◌∙◌}
+use mathlib.Core.Path.{refl, sym, ◌∙◌}
 use native.Mathlib.Omega.{arith}
-use Rattle.cursor.specs.Views.{view_standing}
 use Rattle.questions.proofs.Turns.{amid_range, next_further, nothing_there}
 use Rattle.questions.proofs.EventScan.{seeking_start, seeking_one, seeking_next, seeking_further, seeking_found, seeking_none}
 use Rattle.questions.proofs.scan.seek_event.Goals as goal
@@ -27,25 +26,25 @@ pub loop-at-preserved-then-w-ge-TIME_BIN : goal.loop-at-preserved-then-w-ge-TIME
 loop-at-preserved-then-w-ge-TIME_BIN c = let v = c.loop-at.invariant in (v.0, seeking_one _ _ _ _ v.1 (omega arith) _ c.word_in-w.ensures c.if-w-ge-TIME_BIN.true)
 
 pub returns-then-left-eq0 : goal.returns-then-left-eq0
-returns-then-left-eq0 c = let v = c.loop-at.invariant in seeking_found _ _ _ _ v.1 _ _ (sym (ap view_standing c.in-Item.is) ∙ c.item_at-standing.ensures) (sym c.is_opener.ensures ∙ c.if-is_opener.true) c.if-left-eq0.true
+returns-then-left-eq0 c = let v = c.loop-at.invariant in seeking_found _ _ _ _ v.1 _ _ c.in_ok-x.ensures (sym c.is_opener.ensures ∙ c.if-is_opener.true) c.if-left-eq0.true
 
 pub overflow_sub-left : goal.overflow_sub-left
 overflow_sub-left c = omega arith
 
 pub loop-at-smaller-then-is_opener : goal.loop-at-smaller-then-is_opener
-loop-at-smaller-then-is_opener c = let v = c.loop-at.invariant in let f = next_further _ _ _ v.1.amid _ _ (sym (ap view_standing c.in-Item.is) ∙ c.item_at-standing.ensures) in omega arith
+loop-at-smaller-then-is_opener c = let v = c.loop-at.invariant in let f = next_further _ _ _ v.1.amid _ _ c.in_ok-x.ensures in omega arith
 
 pub loop-at-preserved-then-is_opener : goal.loop-at-preserved-then-is_opener
-loop-at-preserved-then-is_opener c = let v = c.loop-at.invariant in (v.0, seeking_further _ _ _ _ v.1 _ _ (sym (ap view_standing c.in-Item.is) ∙ c.item_at-standing.ensures) (sym c.is_opener.ensures ∙ c.if-is_opener.true) c.if-left-eq0.false)
+loop-at-preserved-then-is_opener c = let v = c.loop-at.invariant in (v.0, seeking_further _ _ _ _ v.1 _ _ c.in_ok-x.ensures (sym c.is_opener.ensures ∙ c.if-is_opener.true) c.if-left-eq0.false)
 
 pub loop-at-smaller : goal.loop-at-smaller
-loop-at-smaller c = let v = c.loop-at.invariant in let f = next_further _ _ _ v.1.amid _ _ (sym (ap view_standing c.in-Item.is) ∙ c.item_at-standing.ensures) in omega arith
+loop-at-smaller c = let v = c.loop-at.invariant in let f = next_further _ _ _ v.1.amid _ _ c.in_ok-x.ensures in omega arith
 
 pub loop-at-preserved : goal.loop-at-preserved
-loop-at-preserved c = let v = c.loop-at.invariant in (v.0, seeking_next _ _ _ _ v.1 _ _ (sym (ap view_standing c.in-Item.is) ∙ c.item_at-standing.ensures) (sym c.is_opener.ensures ∙ c.if-is_opener.false))
+loop-at-preserved c = let v = c.loop-at.invariant in (v.0, seeking_next _ _ _ _ v.1 _ _ c.in_ok-x.ensures (sym c.is_opener.ensures ∙ c.if-is_opener.false))
 
-pub returns-in-Nothing : goal.returns-in-Nothing
-returns-in-Nothing c = let v = c.loop-at.invariant in nothing_there _ _ _ v.1.amid (omega arith) (sym (ap view_standing c.in-Nothing.is) ∙ c.item_at-standing.ensures)
+pub returns-in_err-x : goal.returns-in_err-x
+returns-in_err-x c = let v = c.loop-at.invariant in nothing_there _ _ _ v.1.amid (omega arith) c.in_err-x.ensures
 
 pub returns : goal.returns
 returns c = let v = c.loop-at.invariant in seeking_none _ _ _ _ v.1 (omega arith)
