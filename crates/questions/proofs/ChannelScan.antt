@@ -20,7 +20,7 @@ use Rattle.format.proofs.items.WordLaws.{word_below}
 use Rattle.format.proofs.book.BookLaws.{ranged, in_range}
 use Rattle.format.proofs.reader.CursorLaws.{Turn, channel_turn, answered, run_out}
 use Rattle.book.specs.Fields.{channel_of}
-use Rattle.book.specs.declared.items.Channel as ch
+use Rattle.book.specs.Fields as ch
 use Rattle.questions.specs.Sought.{Amid, ends_event, is_header, ChannelAt}
 use Rattle.questions.proofs.PastLaws.{past_hit, past_miss, until_other, until_end}
 use Rattle.questions.proofs.Turns.{ends_shown, never_in_data, amid_next, placed, one_turn}

@@ -10,7 +10,7 @@ use Rattle.format.specs.Words.{Bytes, pick, word_at, long_at, time_at}
 use Rattle.format.specs.Answers.{Outcome, accepted, refused, and_then}
 use Rattle.format.specs.Book.{class_of, continue_event}
 use Rattle.format.specs.Items.{Item}
-use Rattle.format.specs.Rules.{Kind, data_kind, monitor_kind, command_kind, same, gather}
+use Rattle.format.specs.Rules.{Kind, data_kind, same, gather}
 use Rattle.format.specs.Frames.{earlier_then, verdict}
 use Rattle.format.specs.Cursor.{items_from}
 use Rattle.format.specs.Questions.{Event, Opened, end_size, head_of, events, pick_nth, present, event_at}
@@ -43,12 +43,6 @@ module _ (s : List ℕ) (at w : ℕ) (b : Bool) (i : w ≡ word_at s at) (j : b 
   module _ (h : b ≡ false) where
     pub is_started : opened_at s at ≡ started_at s at
     is_started = opened_by ∙ ap (λ (b : Bool). pick b (continued_at s at) (started_at s at)) h
-
-pub monitor_other : (k : Kind) → k ≡ monitor_kind → k ≡ data_kind → ⊥
-monitor_other k e f = let z : ◌≡◌ {A = ℕ} 0 1 = cc in omega arith
-
-pub command_other : (k : Kind) → k ≡ command_kind → k ≡ data_kind → ⊥
-command_other k e f = let z : ◌≡◌ {A = ℕ} 0 1 = cc in omega arith
 
 -- no other kind of frame has events
 pub no_events : (s : List ℕ) (kind : Kind) (e : ℕ) → (kind ≡ data_kind → ⊥) → Amid s kind 3 → pick_nth e (events 3 (items_from s 3)) ≡ none

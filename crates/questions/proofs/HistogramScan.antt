@@ -18,7 +18,7 @@ use Rattle.format.proofs.book.PrefixLaws.{and_right}
 use Rattle.format.proofs.rules.SoundLaws.{monitor_place}
 use Rattle.format.proofs.reader.CursorLaws.{Turn, histogram_turn, bin_turn, answered, run_out}
 use Rattle.book.specs.Fields.{histogram_of}
-use Rattle.book.specs.declared.items.Histogram as hi
+use Rattle.book.specs.Fields as hi
 use Rattle.questions.specs.Sought.{Amid, is_header, HistogramAt}
 use Rattle.questions.proofs.PastLaws.{past_hit, past_miss}
 use Rattle.questions.proofs.Turns.{amid_next, placed, header_word, bin_word}

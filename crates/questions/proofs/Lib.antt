@@ -3,6 +3,8 @@ pub mod PastLaws
 pub mod EventScan
 pub mod ChannelScan
 pub mod HistogramScan
+pub mod KindTests
+pub mod Missing
 pub mod Reading
 pub mod EventAnswers
 pub mod Filling

@@ -68,11 +68,11 @@ fill_until t (StartEvent k ts n ∷ xs) l = refl
 fill_until t (ContinueEvent n ∷ xs) l = refl
 fill_until t (EndEvent n ∷ xs) l = refl
 
-pub samples_missing : (s : List ℕ) (e chip c : ℕ) (l : List ℕ) → channel_at e chip c (items_from s 3) ≡ refused 13 0
-    → Filling (channel_in e chip c (items_from s 3)) samples_left l (refused 13 0) l
-samples_missing s e chip c l h =
+pub samples_missing : (s : List ℕ) (e chip c : ℕ) (l : List ℕ) (o : Done) → o ≡ refused 13 0 → channel_at e chip c (items_from s 3) ≡ refused 13 0
+    → Filling (channel_in e chip c (items_from s 3)) samples_left l o l
+samples_missing s e chip c l o r h =
     let i = samples_behind s e chip c (refused 13 0) h in
-    record { answered = rw i; filled = rw i }
+    record { answered = rw (r, i); filled = rw i }
 
 pub samples_put : (s : List ℕ) (e chip c q : ℕ) (l l₁ l₂ : List ℕ) → ChannelFound s e chip c q → l₁ ≡ cleared 512 0xFFFF l → l₂ ≡ fill_samples 0 (items_from s q) l₁
     → Filling (channel_in e chip c (items_from s 3)) samples_left l (accepted tt) l₂
@@ -87,16 +87,16 @@ samples_put s e chip c q l l₁ l₂ h i f =
 
 -- ---- of a frame
 
-pub samples_stopped : (s : List ℕ) (e chip c : ℕ) (l : List ℕ) (n p : ℕ) → verdict s ≡ refused n p → Sampled s e chip c l (refused n p) l
-samples_stopped s e chip c l n p v =
+pub samples_stopped : (s : List ℕ) (e chip c : ℕ) (l : List ℕ) (o : Done) (n p : ℕ) → o ≡ refused n p → verdict s ≡ refused n p → Sampled s e chip c l o l
+samples_stopped s e chip c l o n p r v =
     let h = samples_refused s n p v e chip c (length l) in
-    record { answered = rw h; filled = rw h }
+    record { answered = rw (r, h); filled = rw h }
 
 module _ (s : List ℕ) (kind : Kind) (e chip c : ℕ) (l : List ℕ) (a : Accepted s kind) where
-  pub samples_short : length l < 512 → Sampled s e chip c l (refused 12 0) l
-  samples_short h =
+  pub samples_short : length l < 512 → (o : Done) → o ≡ refused 12 0 → Sampled s e chip c l o l
+  samples_short h o r =
       let i = samples_room s a.frame a.judged e chip c (length l) h in
-      record { answered = rw i; filled = rw i }
+      record { answered = rw (r, i); filled = rw i }
 
   pub samples_answered : Bytes s → 512 ≤ length l → (o : Done) (l' : List ℕ)
       → Filling (channel_in e chip c (items_from s 3)) samples_left l o l' → Sampled s e chip c l o l'

@@ -5,6 +5,9 @@ use mathlib.Core.Path.{◌≡◌, refl, sym, ap, ◌∙◌}
 use mathlib.Core.List.{List, [], ◌∷◌}
 use mathlib.Core.Option.{Option, none, some}
 use lib.Dec.{eqb}
+use Rattle.std.specs.Prelude as found
+use Rattle.std.specs.Prelude.{Result}
+use Rattle.core.specs.Option.{ok_or}
 use Rattle.format.specs.Words.{pick, Bytes}
 use Rattle.format.specs.Answers.{Outcome, accepted, refused, and_then}
 use Rattle.format.specs.Book.{end_event}
@@ -14,7 +17,11 @@ use Rattle.format.specs.Frames.{verdict}
 use Rattle.format.specs.Cursor.{items_from}
 use Rattle.format.specs.Questions.{Behind, present, until, past_at, is_histogram, channel_at, sample_word, bin_word, sample_word_at, bin_word_at}
 use Rattle.format.proofs.questions.WordQuestions.{sample_word_of, bin_word_of, sample_refused, bin_refused}
-use Rattle.questions.specs.Sought.{ChannelFound, HistogramAt, sample_word_in, bin_word_in}
+use Rattle.book.specs.declared.refusal.Fault.TheVariants.{Absent}
+use Rattle.book.specs.declared.refusal.Refusal.{Refusal}
+use Rattle.book.specs.Refusals.{AtStart}
+use Rattle.questions.specs.Views.{view_word}
+use Rattle.questions.specs.Sought.{ChannelFound, HistogramAt, place_of, sample_word_in, bin_word_in}
 use Rattle.questions.proofs.Reading.{Accepted, items_first}
 
 -- ---- among the items
@@ -50,6 +57,14 @@ bin_behind s chip c b q h o i =
 
 pub no_histogram : (s : List ℕ) (chip c b : ℕ) → past_at (is_histogram chip c) 3 (items_from s 3) ≡ none → refused 13 0 ≡ bin_word_in (items_from s 3) chip c b
 no_histogram s chip c b i = sym (ap (λ (o : Option Behind). and_then (present o) (λ h. present (bin_word b h.index h.items))) i)
+
+-- what was found, or 13
+pub told : (o : found.Option ℕ) (f : Refusal) (r : Result ℕ Refusal) → AtStart Absent f → r ≡ ok_or o f → view_word r ≡ present (place_of o)
+told o f r a e = ap view_word (e ∙ ap (ok_or o) a) ∙ go o
+  where
+    go : (o : found.Option ℕ) → view_word (ok_or o (record { fault = Absent; place = 0 })) ≡ present (place_of o)
+    go (found.Some q) = refl
+    go found.None = refl
 
 -- ---- of a frame
 

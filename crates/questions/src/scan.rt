@@ -17,20 +17,13 @@ use cursor::item_at;
 // The index of a frame's first item.
 pub(crate) const FIRST: usize = 3;
 
-fn wide(x: u8) -> u16
-    ensures { (result ≡ x) × (result < 256) }
-{
-    x as u16
-}
-
-// The word at index i, which is there.
+// The word at index i, which is there: so there is no second test here. frame/src/inside.rt and records/src/scan.rt have the same: it stays in its
+// crate, since no public function has a `requires`.
 pub(crate) fn word_in(s: &[u8], i: usize) -> u16
     requires { 2 * i + 1 < length s.now }
     ensures { result ≡ word_at s.now i }
 {
-    let low = wide(s[2 * i]);
-    let high = wide(s[2 * i + 1]);
-    low + 256 * high
+    u16::from_le_bytes([s[2 * i], s[2 * i + 1]])
 }
 
 // The number of 32 bits whose words at i and i + 1 are there.

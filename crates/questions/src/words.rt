@@ -87,8 +87,7 @@ pub fn sample_word(s: &[u8], e: usize, chip: u16, channel: u16, time: u16) -> Re
     ensures { SampleWordAnswered s.now e chip channel time result }
 {
     let frame = read(s)?;
-    let at = find_sample(s, frame.kind, e, chip, channel, time).ok_or(Fault::Absent)?;
-    Ok(at)
+    find_sample(s, frame.kind, e, chip, channel, time).ok_or(Fault::Absent.into())
 }
 
 // The word index of the Bin of a number, of the histogram of a chip and a channel. Refuses as `read` does, then 13 where there is no such histogram
@@ -97,6 +96,5 @@ pub fn bin_word(s: &[u8], chip: u16, channel: u16, bin: u16) -> Result<usize, Re
     ensures { BinWordAnswered s.now chip channel bin result }
 {
     let frame = read(s)?;
-    let at = find_bin(s, frame.kind, chip, channel, bin).ok_or(Fault::Absent)?;
-    Ok(at)
+    find_bin(s, frame.kind, chip, channel, bin).ok_or(Fault::Absent.into())
 }

@@ -29,7 +29,7 @@ pub overflow_add-at-then-is_end : goal.overflow_add-at-then-is_end
 overflow_add-at-then-is_end c = omega arith
 
 pub returns-then-is_end : goal.returns-then-is_end
-returns-then-is_end c = let v = c.loop-at.invariant in sizing_found _ _ _ v.1 _ _ c.in_ok-x.ensures (sym c.is_end.ensures ∙ c.if-is_end.true) _ c.long-size.ensures
+returns-then-is_end c = let v = c.loop-at.invariant in sizing_found _ _ _ v.1 _ _ c.in_ok-x.ensures (sym c.is_end.ensures ∙ c.if-is_end.true) _ c.long.ensures
 
 pub loop-at-smaller : goal.loop-at-smaller
 loop-at-smaller c = let v = c.loop-at.invariant in let f = next_further _ _ _ v.1.amid _ _ c.in_ok-x.ensures in omega arith

@@ -31,11 +31,11 @@ returns-then-left-eq0 c = let v = c.loop-at.invariant in seeking_found _ _ _ _ v
 pub overflow_sub-left : goal.overflow_sub-left
 overflow_sub-left c = omega arith
 
-pub loop-at-smaller-then-is_opener : goal.loop-at-smaller-then-is_opener
-loop-at-smaller-then-is_opener c = let v = c.loop-at.invariant in let f = next_further _ _ _ v.1.amid _ _ c.in_ok-x.ensures in omega arith
+pub loop-at-smaller-else-left-eq0 : goal.loop-at-smaller-else-left-eq0
+loop-at-smaller-else-left-eq0 c = let v = c.loop-at.invariant in let f = next_further _ _ _ v.1.amid _ _ c.in_ok-x.ensures in omega arith
 
-pub loop-at-preserved-then-is_opener : goal.loop-at-preserved-then-is_opener
-loop-at-preserved-then-is_opener c = let v = c.loop-at.invariant in (v.0, seeking_further _ _ _ _ v.1 _ _ c.in_ok-x.ensures (sym c.is_opener.ensures ∙ c.if-is_opener.true) c.if-left-eq0.false)
+pub loop-at-preserved-else-left-eq0 : goal.loop-at-preserved-else-left-eq0
+loop-at-preserved-else-left-eq0 c = let v = c.loop-at.invariant in (v.0, seeking_further _ _ _ _ v.1 _ _ c.in_ok-x.ensures (sym c.is_opener.ensures ∙ c.if-is_opener.true) c.if-left-eq0.false)
 
 pub loop-at-smaller : goal.loop-at-smaller
 loop-at-smaller c = let v = c.loop-at.invariant in let f = next_further _ _ _ v.1.amid _ _ c.in_ok-x.ensures in omega arith
