@@ -22,5 +22,5 @@ pub returns-then-w-ge-SAMPLE : goal.returns-then-w-ge-SAMPLE
 returns-then-w-ge-SAMPLE c =
     c.found.ensures ∙ sample_shown _ _ _ _ (omega arith) (omega arith) refl c.word-w.ensures _ (sym (in_range _ 3 (lit< tt) (omega arith, omega arith))) c.of_word.ensures
 
-pub bin_standing-requires : goal.bin_standing-requires
-bin_standing-requires c = (omega arith, omega arith, refl, c.word-w.ensures, sym (in_range _ 4 (lit< tt) (omega arith, omega arith)))
+pub bin-requires : goal.bin-requires
+bin-requires c = sym (in_range _ 4 (lit< tt) (omega arith, omega arith))
