@@ -11,6 +11,8 @@ use lib.Dec.{leb}
 use lib.ListN.{length, take, drop, length-drop}
 use lib.Seq.{sets, sets-eq, take_all, take_at}
 use borrow.Author.Tests.{le-leb, lt-leb}
+use Rattle.std.specs.Prelude.{Result, Ok, Err}
+use Rattle.std.specs.Result.{IsOk}
 use Rattle.format.specs.Words.{word_at}
 use Rattle.format.specs.Answers.{Outcome, Done, accepted, refused, and_then}
 use Rattle.format.specs.Frames.{Frame, verdict}
@@ -23,6 +25,10 @@ use Rattle.ledger.specs.PlaneFrames.{plane_frames}
 use Rattle.ledger.proofs.records.Headers.{header_words, few_entries}
 use Rattle.ledger.proofs.records.Judging.{verdict_parts}
 use Rattle.ledger.proofs.plane.VersionLaws.{for_lawful}
+use Rattle.book.specs.Refusals.{number_of}
+use Rattle.book.specs.declared.refusal.Refusal.{Refusal}
+use Rattle.frame.specs.Views.{view_reading}
+use Rattle.frame.specs.declared.reading.Frame as reading
 use Rattle.records.proofs.RecordLaws.{judge_refused, frame_part, room, record_known}
 use Rattle.listing.specs.Ascii.{ascii}
 use Rattle.listing.specs.Text.{decimal}
@@ -57,12 +63,12 @@ pub record Upper (F : Format) (b : List ℕ) (j s from : ℕ) : Type 0 where
   pub inside : from + s ≤ length b
   pub begins : from + s ≡ 16 + length_in b + size F * (j + 1)
 
-pub upper : (F : Format) (b : List ℕ) (j n s from : ℕ) → j < n → from ≡ 16 + length_in b + size F * j → 16 + length_in b + size F * n ≤ length b → s ≡ size F → Upper F b j s from
-upper F b j n s from l e r z =
+pub upper : (F : Format) (b : List ℕ) (j n s from history : ℕ) → j < n → from ≡ 16 + length_in b + size F * j → history ≡ 16 + length_in b → history + size F * n ≤ length b → s ≡ size F → Upper F b j s from
+upper F b j n s from history l e h r z =
     let k = mul-suc (size F) j in
-    let h : size F ≤ size F = omega arith in
+    let i : size F ≤ size F = omega arith in
     let q : suc j ≤ n = omega arith in
-    let m : size F * suc j ≤ size F * n = mul-le-mul h q in
+    let m : size F * suc j ≤ size F * n = mul-le-mul i q in
     record { inside = omega arith; begins = rw (add-one j) (let g : from + s ≡ 16 + length_in b + size F * suc j = omega arith in g) }
 
 -- lines of no entry, of one more, and of all
@@ -106,11 +112,15 @@ module _ (b : List ℕ) (len count : ℕ) (k : Known b len count) where
   part : take (16 + len - 16) (drop 16 b) ≡ frame_in b
   part = frame_part b len k.length
 
-  pub never : {A : Type 0} (n p : ℕ) → refused n p ≡ read_of (take (16 + len - 16) (drop 16 b)) → A
+  never : {A : Type 0} (n p : ℕ) → refused n p ≡ read_of (take (16 + len - 16) (drop 16 b)) → A
   never n p e = absurd (clash (plane_frames.judge (frame_in b)) n p (verdict_parts plane_frames (format_in b) b k.judged).1 (judge_refused (frame_in b) n p (e ∙ ap read_of part)))
     where
       clash : (o : Done) (n p : ℕ) → o ≡ accepted tt → o ≡ refused n p → ⊥
       clash o n p f g = let z : ◌≡◌ {A = ℕ} 0 1 = cc in omega arith
+
+  pub frame_read : (r : Result reading.Frame Refusal) → view_reading r ≡ read_of (take (16 + len - 16) (drop 16 b)) → IsOk r
+  frame_read (Ok f) e = refl
+  frame_read (Err r) e = never (number_of r.fault) r.place e
 
   pub record_text : (x : Overview) → accepted x ≡ read_of (take (16 + len - 16) (drop 16 b))
       → frame_line x.kind x.card x.sequence len x.items ++ entry_lines b count ++ end_line count ≡ listing b

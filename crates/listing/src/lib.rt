@@ -29,10 +29,8 @@ fn record_lines(lines: &mut [u8], buf: &[u8], size: usize, count: usize) -> usiz
     ensures { Put 92520 lines.old 0 (listings.listing buf.now) lines.new result }
 {
     let end = Record::HEADER + size;
-    let Ok(f) = read(&buf[Record::HEADER..end]) else {
-        // An accepted record's frame is accepted.
-        unreachable!();
-    };
+    // An accepted record's frame is accepted.
+    let f = read(&buf[Record::HEADER..end]).unwrap();
     let first = frame_line(lines, f.kind, f.card, f.sequence, size, f.items);
     let version = word(buf, Record::VERSION_WORD);
     let next = entry_lines(lines, first, buf, version, end, count);

@@ -9,8 +9,8 @@ use Rattle.listing.proofs.all_lines.Goals as goal
 
 pub record_lines-requires : goal.record_lines-requires
 record_lines-requires c =
-    (told_known _ _ (sym (ap view_record c.in-Record.is) ∙ c.record-found.ensures), omega arith)
+    (told_known _ _ (sym (ap view_record c.in-Ok.is) ∙ c.«record».ensures), omega arith)
 
-pub returns-in-Refused : goal.returns-in-Refused
-returns-in-Refused c =
-    wider 92520 (omega arith) (retold (refused_text _ _ _ (sym (ap view_record c.in-Refused.is) ∙ c.record-found.ensures)) c.refused_line.ensures)
+pub returns-in-Err : goal.returns-in-Err
+returns-in-Err c =
+    wider 92520 (omega arith) (retold (refused_text _ _ _ (sym (ap view_record c.in-Err.is) ∙ c.«record».ensures)) c.refused_line.ensures)

@@ -6,12 +6,12 @@ use lib.Seq.{length-take-le}
 use Rattle.listing.proofs.Listings.{copied_text, listed_written, listed_short}
 use Rattle.listing.proofs.listing_in.Goals as goal
 
-pub slice_bounds-copy-end-then-n-out : goal.slice_bounds-copy-end-then-n-out
-slice_bounds-copy-end-then-n-out c = sym (length-take-le _ _ (omega arith))
+pub slice_bounds-copy-end : goal.slice_bounds-copy-end
+slice_bounds-copy-end c = omega (arith, c.all_lines-n.auto.lines)
 
-pub returns-then-n-out : goal.returns-then-n-out
-returns-then-n-out c =
-    listed_written _ _ _ _ c.all_lines-n.ensures.behind c.if-n-out.true (copied_text c.all_lines-n.ensures c.requires _ _ c.copy.ensures)
+pub returns-then-out-n : goal.returns-then-out-n
+returns-then-out-n c = rw c.into.ensures (listed_short _ _ _ c.all_lines-n.ensures.behind c.if-out-n.true)
 
 pub returns : goal.returns
-returns c = listed_short _ _ _ c.all_lines-n.ensures.behind c.if-n-out.false
+returns c =
+    listed_written _ _ _ _ c.all_lines-n.ensures.behind c.if-out-n.false (copied_text c.all_lines-n.ensures c.requires _ _ c.copy.ensures)

@@ -5,7 +5,7 @@ use native.Mathlib.Omega.{arith}
 use lib.ListN.{length}
 use Rattle.frame.specs.Views.{view_reading}
 use Rattle.listing.proofs.Putting.{joined, wider}
-use Rattle.listing.proofs.Listings.{inside, frame_inside, few, never, record_text, retold}
+use Rattle.listing.proofs.Listings.{inside, frame_inside, few, frame_read, record_text, retold}
 use Rattle.listing.proofs.record_lines.Goals as goal
 
 pub overflow_add-end : goal.overflow_add-end
@@ -27,14 +27,13 @@ end_line-requires c =
     let m = few _ _ _ p.0 in
     omega (arith, p.1)
 
-pub returns-in-Refused : goal.returns-in-Refused
-returns-in-Refused c =
-    never _ _ _ c.requires.0 _ _ (sym (ap view_reading c.in-Refused.is) ∙ c.read-reading.ensures)
+pub unwrap-f-requires : goal.unwrap-f-requires
+unwrap-f-requires c = frame_read _ _ _ c.requires.0 c.read.result c.read.ensures
 
-pub returns-in-Accepted : goal.returns-in-Accepted
-returns-in-Accepted c =
+pub returns : goal.returns
+returns c =
     let k = c.requires.0 in
     let m = few _ _ _ k in
     wider 92520 (omega arith)
-    (retold (record_text _ _ _ k _ (sym (ap view_reading c.in-Accepted.is) ∙ c.read-reading.ensures))
+    (retold (record_text _ _ _ k _ (sym (ap view_reading c.unwrap-f.ensures) ∙ c.read.ensures))
     (joined (joined c.frame_line-first.ensures c.entry_lines-next.ensures) c.end_line.ensures))

@@ -7,4 +7,4 @@ use Rattle.listing.proofs.rows.refused_line.Goals as goal
 
 pub returns : goal.returns
 unfolding refused_line
-returns c = wider 180 (omega arith) (joined (joined c.field-at_place.ensures c.field-at_end.ensures) c.text.ensures)
+returns c = rw c.number.ensures at (wider 180 (omega arith) (joined (joined c.field-at_place.ensures c.field-at_end.ensures) c.text.ensures))
