@@ -23,9 +23,10 @@ use Rattle.book.specs.declared.items.LastCell.{LastCell}
 use Rattle.book.specs.declared.items.TimeBin.{TimeBin}
 use Rattle.book.specs.declared.items.Text.{Text}
 use Rattle.book.specs.declared.items.StartEvent.{StartEvent}
+use Rattle.follower.specs.declared.SequenceError.{SequenceError}
 use Rattle.book.specs.declared.refusal.Fault.{Fault}
 use Rattle.book.specs.declared.refusal.Refusal.{Refusal}
-use Rattle.book.specs.Refusals.{number_of, AtStart}
+use Rattle.book.specs.Refusals.{number_of, fault_of, AtStart, FaultOf, FollowerAtStart}
 use Rattle.book.specs.Fields.{header_of, header_bits_cut, channel_of, histogram_of, hits_of, bin_of, cell_of, type_of, channel_word, histogram_word, hits_word, sample_word, bin_word, cell_word, time_bin_word, text_word, start_word, channel_item, histogram_item, hits_item, sample_item, bin_item, cell_item, time_item, start_item}
 use Rattle.book.specs.Page.{on_page, book_page}
 use Rattle.book.specs.Views.{view}
@@ -170,6 +171,13 @@ placed_once f place = equal_once (record { fault = f; place = place })
 -- `Refusal::from`
 pub at_start_once : (f : Fault) (r q : Refusal) → AtStart f r → AtStart f q → r ≡ q
 at_start_once f = equal_once (record { fault = f; place = 0 })
+
+-- `Fault::from`, `Refusal::from` of the follower's faults
+pub fault_of_once : (e : SequenceError) (r q : Fault) → FaultOf e r → FaultOf e q → r ≡ q
+fault_of_once e = equal_once (fault_of e)
+
+pub follower_at_start_once : (e : SequenceError) (r q : Refusal) → FollowerAtStart e r → FollowerAtStart e q → r ≡ q
+follower_at_start_once e = equal_once (record { fault = fault_of e; place = 0 })
 
 -- ---- words in bytes; `copy` answers nothing, its promise is of the list that it leaves, whole
 

@@ -41,5 +41,12 @@ fault_of NoStart = fault.NoStart
 abbrev pub AtStart : Fault → Refusal → Type 0
 AtStart f r = r ≡ record { fault = f; place = 0 }
 
+-- a fault of the follower, as one of all; and as a refusal
+abbrev pub FaultOf : SequenceError → Fault → Type 0
+FaultOf e f = f ≡ fault_of e
+
+abbrev pub FollowerAtStart : SequenceError → Refusal → Type 0
+FollowerAtStart e r = AtStart (fault_of e) r
+
 abbrev pub refusal : {A : Type 0} → Refusal → Outcome A
 refusal r = refused (number_of r.fault) r.place

@@ -1,6 +1,5 @@
 // A refusal: what is wrong, by document 01's numbers, and the place that it gives.
-ghost use Rattle.std.specs.Prelude.{◌≡◌};
-ghost use Rattle.book.specs.Refusals.{AtStart, fault_of};
+ghost use Rattle.book.specs.Refusals.{AtStart, FaultOf, FollowerAtStart};
 ghost use Rattle.book.specs.Promises.{FaultNumbered, Placed};
 
 use follower::SequenceError;
@@ -65,7 +64,7 @@ impl From<Fault> for Refusal {
 
 // The follower, which depends on nothing, has faults of its own.
 impl From<SequenceError> for Fault {
-    ghost from_gives = { λ e f. f ≡ fault_of e };
+    ghost from_gives = { FaultOf };
 
     fn from(e: SequenceError) -> Fault {
         match e {
@@ -76,7 +75,7 @@ impl From<SequenceError> for Fault {
 }
 
 impl From<SequenceError> for Refusal {
-    ghost from_gives = { λ e r. AtStart (fault_of e) r };
+    ghost from_gives = { FollowerAtStart };
 
     fn from(e: SequenceError) -> Refusal {
         Fault::from(e).at(0)
