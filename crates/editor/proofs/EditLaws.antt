@@ -16,7 +16,7 @@ use lib.Dec.{leb, ltb, eqb}
 use borrow.Author.Tests.{lt-ltb, le-ltb, le-leb, lt-leb}
 use borrow.Rule.Slice.PartMut.{put_mid, same_len_mid}
 use Rattle.format.specs.Words.{pick, Bytes, bytes, word_at}
-use Rattle.format.specs.Answers.{Outcome, Done, accepted, refused, first_of}
+use Rattle.format.specs.Answers.{Outcome, Done, accepted, refused, need, first_of}
 use Rattle.format.specs.Items.{ItemOf}
 use Rattle.format.specs.Cursor.{standing_at, shown_by}
 use Rattle.format.specs.Spots.{Spot, spot_of, legal_value, value_word, value_words}
@@ -40,6 +40,7 @@ use Rattle.editor.specs.declared.editing.Correction.{Correction}
 use Rattle.editor.specs.Views.{asked, item_tests}
 use Rattle.editor.specs.Promises.{Edited}
 use Rattle.editor.specs.Writes.{Known, Holds, Editable}
+use Rattle.editor.proofs.Orders.{first_refuses, first_passes, first_last}
 use Rattle.format.proofs.items.StoringLaws.{part_whole}
 use Rattle.editor.proofs.KnownLaws.{frame_long, sum, inside, few, standing}
 
@@ -52,6 +53,39 @@ pub few_two : (b : List ℕ) (x : Summary) → Known version_two b x → x.count
 few_two b x k = few version_two b x k (format_lawful v2)
 
 -- ---- tests
+
+-- the tests at the item, in their order: the first that refuses, or the last
+module _ (c : Correction) (x : Summary) (kind was room : ℕ) (fresh : Bool) (l : fresh ≡ legal_value kind c.value) where
+  abbrev new : Done
+  new = need (fresh && not (eqb was c.value)) 23 0
+
+  abbrev full : Done
+  full = need (ltb x.count 512) 25 0
+
+  abbrev end : Done
+  end = need (leb (x.total + 24) room) 12 0
+
+  tests : (sign : Bool) → sign ≡ signed c.operator c.reason
+      → first_of (new ∷ need (sign && leb c.time 281474976710655) 24 0 ∷ full ∷ end ∷ []) ≡ item_tests (asked c) x kind was room
+  unfolding item_tests plane_frames
+  tests sign g = rw (l, g)
+
+  pub not_new : (n p : ℕ) → refused n p ≡ new → refused n p ≡ item_tests (asked c) x kind was room
+  not_new n p e = first_refuses new _ n p e ∙ tests (signed c.operator c.reason) refl
+
+  module _ (e : accepted tt ≡ new) (sign : Bool) (g : sign ≡ signed c.operator c.reason) where
+    abbrev signer : Done
+    signer = need (sign && leb c.time 281474976710655) 24 0
+
+    pub not_signed : (n p : ℕ) → refused n p ≡ signer → refused n p ≡ item_tests (asked c) x kind was room
+    not_signed n p f = first_passes new _ _ e (first_refuses signer _ n p f) ∙ tests sign g
+
+    module _ (f : accepted tt ≡ signer) where
+      pub too_many : (n p : ℕ) → refused n p ≡ full → refused n p ≡ item_tests (asked c) x kind was room
+      too_many n p h = first_passes new _ _ e (first_passes signer _ _ f (first_refuses full _ n p h)) ∙ tests sign g
+
+      pub fits_in : accepted tt ≡ full → (a : Done) → a ≡ end → a ≡ item_tests (asked c) x kind was room
+      fits_in h a i = first_passes new _ _ e (first_passes signer _ _ f (first_passes full _ _ h (first_last end a i))) ∙ tests sign g
 
 -- what judging told of a word, and the item answered there in the frame's part of the record, tell of an edit's target
 module _ (b : List ℕ) (x : Summary) (k : Known version_two b x) (y : Bytes b) (w : ℕ) where

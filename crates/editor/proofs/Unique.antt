@@ -6,7 +6,6 @@ use mathlib.Core.List.{List}
 use Rattle.book.proofs.Unique.{undone, same_result}
 use Rattle.ledger.specs.Formats as formats
 use Rattle.ledger.specs.VersionTwo.{time_in}
-use Rattle.editor.specs.declared.answers.Done.TheVariants as done
 use Rattle.editor.specs.declared.editing.Correction.{Correction}
 use Rattle.editor.specs.Views.{Answer, view_done, asked}
 use Rattle.editor.specs.Promises.{Opened, Edited, Restored}

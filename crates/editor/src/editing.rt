@@ -33,12 +33,20 @@ pub struct Correction {
     pub time: u64,
 }
 
+// The number of a kind in an entry.
+fn numbered(kind: SpotKind) -> u16
+    ensures { result ≡ view_spot_kind kind }
+{
+    kind as u16
+}
+
 // The tests of an edit of an accepted record at an item of the kind with the value: 23, 24, 25, 12; to be read against the meaning's list of them.
 fn edit_tests(c: Correction, x: Record, kind: SpotKind, value: u32, room: usize) -> Result<(), Refusal>
     requires { x.total < 65536 }
     ensures { view_done result ≡ item_tests (asked c) (summary_of x) (view_spot_kind kind) value room }
 {
-    need(legal(kind as u16, c.value) & (value != c.value), Fault::NewValue)?;
+    let fresh = legal(numbered(kind), c.value);
+    need(fresh & (value != c.value), Fault::NewValue)?;
     let named = signed(c.operator, c.reason);
     need(named & (c.time <= Entry::LAST_TIME), Fault::Signer)?;
     need(x.count < Record::MOST, Fault::Full)?;
@@ -52,7 +60,8 @@ fn write_edit(buf: &mut [u8], c: Correction, x: Record, kind: SpotKind, value: u
 {
     let start = Record::HEADER;
     let end = start + x.length;
-    put_value(&mut buf[start..end], kind as u16, c.word, c.value);
+    let number = numbered(kind);
+    put_value(&mut buf[start..end], number, c.word, c.value);
     let count = (x.count + 1) as u16;
     let total = (x.total + Entry::SIZE) as u16;
     put_words(buf, 2 * Record::COUNT_WORD, &[count, total]);
@@ -62,7 +71,7 @@ fn write_edit(buf: &mut [u8], c: Correction, x: Record, kind: SpotKind, value: u
     };
     let entry = Entry {
         word: c.word as u16,
-        kind: kind as u16,
+        kind: number,
         old: value,
         new: c.value,
         operator: c.operator as u16,

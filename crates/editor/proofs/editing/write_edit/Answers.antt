@@ -40,4 +40,6 @@ overflow_cast-entry-3 c =
 
 pub returns : goal.returns
 returns c =
-    written _ _ _ _ _ c.requires (λ i. (c.slice_known-1.given i).fits) _ c.put_value.ensures _ _ c.put_words.ensures c.put_entry.ensures
+    let e = rw c.numbered-number.ensures at c.put_value.ensures in
+    let f = rw c.numbered-number.ensures at c.put_entry.ensures in
+    written _ _ _ _ _ c.requires (λ i. (c.slice_known-1.given i).fits) _ e _ _ c.put_words.ensures f
