@@ -14,7 +14,29 @@ use Rattle.ledger.specs.Calls.{record_answer, entry_answer}
 use Rattle.ledger.specs.VersionTwo.{version_two}
 use Rattle.ledger.specs.Versions.{format_in}
 use Rattle.ledger.specs.PlaneFrames.{plane_frames}
-use Rattle.book.proofs.Unique.{equal_once}
+use Rattle.std.specs.Prelude.{Result}
+use Rattle.follower.specs.Paper.{state_of}
+use Rattle.follower.specs.declared.Follower.{Follower}
+use Rattle.follower.proofs.front.Sequence.{states_injective}
+use Rattle.book.specs.Views.{view_item}
+use Rattle.book.specs.declared.items.Item.{Item}
+use Rattle.book.specs.declared.refusal.Refusal.{Refusal}
+use Rattle.book.proofs.Unique.{one, equal_once}
+use Rattle.frame.specs.Views.{view_reading, view_found}
+use Rattle.frame.specs.declared.items.IndexedItem.{IndexedItem}
+use Rattle.frame.specs.declared.reading.Frame.{Frame}
+use Rattle.assembler.specs.Views.{view_assembler}
+use Rattle.assembler.specs.declared.Assembler.{Assembler}
+use Rattle.assembler.proofs.Unique.{same_assembler}
+use Rattle.questions.specs.Views.{view_event, view_word}
+use Rattle.questions.specs.declared.answers.Event.{Event}
+use Rattle.writer.specs.Views.{view_written}
+use Rattle.records.specs.Views.{view_record, view_entry}
+use Rattle.records.specs.declared.answers.Record.{Record}
+use Rattle.records.specs.declared.answers.Entry.{Entry}
+use Rattle.editor.specs.Views.{view_done}
+use Rattle.corrections.specs.Views.{view_corrected}
+use Rattle.corrections.specs.declared.Stopped.{Stopped}
 use Rattle.exports.specs.declared.answers.PlaneDone.{PlaneDone}
 use Rattle.exports.specs.declared.answers.PlaneFrame.{PlaneFrame}
 use Rattle.exports.specs.declared.answers.PlaneFound.{PlaneFound}
@@ -30,9 +52,53 @@ use Rattle.exports.specs.declared.answers.PlaneRecord.{PlaneRecord}
 use Rattle.exports.specs.declared.answers.PlaneEntry.{PlaneEntry}
 use Rattle.exports.specs.declared.answers.PlaneWritten.{PlaneWritten}
 use Rattle.exports.specs.declared.answers.PlaneStopped.{PlaneStopped}
-use Rattle.exports.specs.Flat.{flat_frame, flat_found, flat_event, flat_word, flat_followed, flat_assembler, flat_taken, flat_record, flat_entry}
+use Rattle.exports.specs.Flat.{flat_done, flat_frame, flat_item, flat_found, flat_event, flat_word, flat_written, flat_follower, flat_followed, flat_assembler, flat_taken, flat_record, flat_entry, flat_stopped}
 use Rattle.exports.specs.Given.{follower_of, assembler_of}
-use Rattle.exports.specs.Promises.{ClassNumbered, FrameTold, ItemTold, TextPart, EventTold, SampleWordTold, BinWordTold, FollowTold, AssemblerMade, TakeTold, GivenUpTold, RecordTold, EntryTold, Leaves, Sampled, Counted, Begun, Added, AddedText, Closed, Opened, Edited, EditedAll, Restored}
+use Rattle.exports.specs.Promises.{FollowerGiven, FollowerFlat, AssemblerGiven, AssemblerFlat, DoneFlat, FrameFlat, ItemFlat, FoundFlat, EventFlat, WordFlat, WrittenFlat, RecordFlat, EntryFlat, StoppedFlat, ClassNumbered, FrameTold, ItemTold, TextPart, EventTold, SampleWordTold, BinWordTold, FollowTold, AssemblerMade, TakeTold, GivenUpTold, RecordTold, EntryTold, Leaves, Sampled, Counted, Begun, Added, AddedText, Closed, Opened, Edited, EditedAll, Restored}
+
+-- ---- between the library's values and the flat ones
+
+pub follower_given_once : (x : PlaneFollower) (r q : Follower) → FollowerGiven x r → FollowerGiven x q → r ≡ q
+follower_given_once x = one state_of states_injective (follower_of x)
+
+pub follower_flat_once : (f : Follower) (r q : PlaneFollower) → FollowerFlat f r → FollowerFlat f q → r ≡ q
+follower_flat_once f = equal_once (flat_follower (state_of f))
+
+pub assembler_given_once : (x : PlaneAssembler) (r q : Assembler) → AssemblerGiven x r → AssemblerGiven x q → r ≡ q
+assembler_given_once x = one view_assembler same_assembler (assembler_of x)
+
+pub assembler_flat_once : (a : Assembler) (r q : PlaneAssembler) → AssemblerFlat a r → AssemblerFlat a q → r ≡ q
+assembler_flat_once a = equal_once (flat_assembler (view_assembler a))
+
+pub done_flat_once : (o : Result (Unit {0}) Refusal) (r q : PlaneDone) → DoneFlat o r → DoneFlat o q → r ≡ q
+done_flat_once o = equal_once (flat_done (view_done o))
+
+pub frame_flat_once : (o : Result Frame Refusal) (r q : PlaneFrame) → FrameFlat o r → FrameFlat o q → r ≡ q
+frame_flat_once o = equal_once (flat_frame (view_reading o))
+
+pub item_flat_once : (x : Item) (r q : PlaneItem) → ItemFlat x r → ItemFlat x q → r ≡ q
+item_flat_once x = equal_once (flat_item (view_item x))
+
+pub found_flat_once : (o : Result IndexedItem Refusal) (r q : PlaneFound) → FoundFlat o r → FoundFlat o q → r ≡ q
+found_flat_once o = equal_once (flat_found (view_found o))
+
+pub event_flat_once : (o : Result Event Refusal) (r q : PlaneEvent) → EventFlat o r → EventFlat o q → r ≡ q
+event_flat_once o = equal_once (flat_event (view_event o))
+
+pub word_flat_once : (o : Result ℕ Refusal) (r q : PlaneWord) → WordFlat o r → WordFlat o q → r ≡ q
+word_flat_once o = equal_once (flat_word (view_word o))
+
+pub written_flat_once : (o : Result ℕ Refusal) (r q : PlaneWritten) → WrittenFlat o r → WrittenFlat o q → r ≡ q
+written_flat_once o = equal_once (flat_written (view_written o))
+
+pub record_flat_once : (o : Result Record Refusal) (r q : PlaneRecord) → RecordFlat o r → RecordFlat o q → r ≡ q
+record_flat_once o = equal_once (flat_record (view_record o))
+
+pub entry_flat_once : (o : Result Entry Refusal) (r q : PlaneEntry) → EntryFlat o r → EntryFlat o q → r ≡ q
+entry_flat_once o = equal_once (flat_entry (view_entry o))
+
+pub stopped_flat_once : (o : Result (Unit {0}) Stopped) (r q : PlaneStopped) → StoppedFlat o r → StoppedFlat o q → r ≡ q
+stopped_flat_once o = equal_once (flat_stopped (view_corrected o))
 
 -- ---- an answer alone
 

@@ -1,14 +1,31 @@
 -- What each export promises, under a name: the flat answer, and the whole of what is left in lent memory. The exports' contracts and the theorems
 -- of proofs/Once.antt are over these same names.
 -- Assumes nothing.
-use Rattle.std.specs.Prelude.{ℕ, ◌≡◌, List, length, take, drop}
+use Rattle.std.specs.Prelude.{ℕ, ◌≡◌, List, length, take, drop, Result}
 use Rattle.format.specs.Book.{class_of, row_of}
 use Rattle.format.specs.Items.{Text, whole}
 use Rattle.format.specs.Steps.{read_of}
 use Rattle.format.specs.Questions.{shown_at, event_at, text_at, done, samples_at, samples_left, counts_at, counts_left, sample_word_at, bin_word_at}
 use Rattle.format.specs.Writing.{add_answer, add_left, close_answer, close_left}
 use Rattle.follower.specs.Follow.{follow}
+use Rattle.follower.specs.Paper.{state_of}
+use Rattle.follower.specs.declared.Follower.{Follower}
+use Rattle.book.specs.Views.{view_item}
+use Rattle.book.specs.declared.items.Item.{Item}
+use Rattle.book.specs.declared.refusal.Refusal.{Refusal}
 use Rattle.frame.specs.Parts.{text_from}
+use Rattle.frame.specs.Views.{view_reading, view_found}
+use Rattle.frame.specs.declared.items.IndexedItem.{IndexedItem}
+use Rattle.frame.specs.declared.reading.Frame.{Frame}
+use Rattle.assembler.specs.Views.{view_assembler}
+use Rattle.assembler.specs.declared.Assembler.{Assembler}
+use Rattle.questions.specs.Views.{view_event, view_word}
+use Rattle.questions.specs.declared.answers.Event.{Event}
+use Rattle.writer.specs.Views.{view_written}
+use Rattle.records.specs.Views.{view_record, view_entry}
+use Rattle.records.specs.declared.answers.Record.{Record}
+use Rattle.records.specs.declared.answers.Entry.{Entry}
+use Rattle.editor.specs.Views.{view_done}
 use Rattle.runs.specs.Assembly as runs
 use Rattle.runs.specs.Assembly.{new, give_up}
 use Rattle.ledger.specs.Formats.{Correction}
@@ -17,6 +34,8 @@ use Rattle.ledger.specs.VersionTwo.{version_two}
 use Rattle.ledger.specs.Versions.{format_in}
 use Rattle.ledger.specs.PlaneFrames.{plane_frames}
 use Rattle.corrections.specs.Lists.{list_answer, list_exit}
+use Rattle.corrections.specs.Views.{view_corrected}
+use Rattle.corrections.specs.declared.Stopped.{Stopped}
 use Rattle.exports.specs.declared.answers.PlaneDone.{PlaneDone}
 use Rattle.exports.specs.declared.answers.PlaneFrame.{PlaneFrame}
 use Rattle.exports.specs.declared.answers.PlaneFound.{PlaneFound}
@@ -32,8 +51,52 @@ use Rattle.exports.specs.declared.answers.PlaneRecord.{PlaneRecord}
 use Rattle.exports.specs.declared.answers.PlaneEntry.{PlaneEntry}
 use Rattle.exports.specs.declared.answers.PlaneWritten.{PlaneWritten}
 use Rattle.exports.specs.declared.answers.PlaneStopped.{PlaneStopped}
-use Rattle.exports.specs.Flat.{flat_done, flat_frame, flat_found, flat_event, flat_word, flat_followed, flat_assembler, flat_taken, flat_record, flat_entry, flat_written, flat_stopped}
+use Rattle.exports.specs.Flat.{flat_done, flat_frame, flat_item, flat_found, flat_event, flat_word, flat_follower, flat_followed, flat_assembler, flat_taken, flat_record, flat_entry, flat_written, flat_stopped}
 use Rattle.exports.specs.Given.{follower_of, assembler_of, kind_of, begun, begun_left, token_of}
+
+-- ---- between the library's values and the flat ones
+
+abbrev pub FollowerGiven : PlaneFollower → Follower → Type 0
+FollowerGiven x r = state_of r ≡ follower_of x
+
+abbrev pub FollowerFlat : Follower → PlaneFollower → Type 0
+FollowerFlat f r = r ≡ flat_follower (state_of f)
+
+abbrev pub AssemblerGiven : PlaneAssembler → Assembler → Type 0
+AssemblerGiven x r = view_assembler r ≡ assembler_of x
+
+abbrev pub AssemblerFlat : Assembler → PlaneAssembler → Type 0
+AssemblerFlat a r = r ≡ flat_assembler (view_assembler a)
+
+abbrev pub DoneFlat : Result (Unit {0}) Refusal → PlaneDone → Type 0
+DoneFlat o r = r ≡ flat_done (view_done o)
+
+abbrev pub FrameFlat : Result Frame Refusal → PlaneFrame → Type 0
+FrameFlat o r = r ≡ flat_frame (view_reading o)
+
+abbrev pub ItemFlat : Item → PlaneItem → Type 0
+ItemFlat x r = r ≡ flat_item (view_item x)
+
+abbrev pub FoundFlat : Result IndexedItem Refusal → PlaneFound → Type 0
+FoundFlat o r = r ≡ flat_found (view_found o)
+
+abbrev pub EventFlat : Result Event Refusal → PlaneEvent → Type 0
+EventFlat o r = r ≡ flat_event (view_event o)
+
+abbrev pub WordFlat : Result ℕ Refusal → PlaneWord → Type 0
+WordFlat o r = r ≡ flat_word (view_word o)
+
+abbrev pub WrittenFlat : Result ℕ Refusal → PlaneWritten → Type 0
+WrittenFlat o r = r ≡ flat_written (view_written o)
+
+abbrev pub RecordFlat : Result Record Refusal → PlaneRecord → Type 0
+RecordFlat o r = r ≡ flat_record (view_record o)
+
+abbrev pub EntryFlat : Result Entry Refusal → PlaneEntry → Type 0
+EntryFlat o r = r ≡ flat_entry (view_entry o)
+
+abbrev pub StoppedFlat : Result (Unit {0}) Stopped → PlaneStopped → Type 0
+StoppedFlat o r = r ≡ flat_stopped (view_corrected o)
 
 -- ---- an answer alone
 

@@ -1,8 +1,5 @@
 // The questions on a frame's events, samples and counts, and on the word of a sample or a bin.
-ghost use Rattle.std.specs.Prelude.{◌≡◌};
-ghost use Rattle.questions.specs.Views.{view_event, view_word};
-ghost use Rattle.exports.specs.Flat.{flat_event, flat_word};
-ghost use Rattle.exports.specs.Promises.{EventTold, Sampled, Counted, SampleWordTold, BinWordTold};
+ghost use Rattle.exports.specs.Promises.{EventFlat, WordFlat, EventTold, Sampled, Counted, SampleWordTold, BinWordTold};
 
 use crate::answers::{PlaneDone, PlaneEvent, PlaneWord};
 use book::refusal::Refusal;
@@ -13,7 +10,7 @@ use questions::samples::samples;
 use questions::words::{bin_word, sample_word};
 
 impl From<Result<Event, Refusal>> for PlaneEvent {
-    ghost from_gives = { λ found x. x ≡ flat_event (view_event found) };
+    ghost from_gives = { EventFlat };
 
     #[tactic(auto, unfolding(crate::specs::Flat::flat_event))]
     fn from(found: Result<Event, Refusal>) -> PlaneEvent {
@@ -59,7 +56,7 @@ pub fn plane_counts(frame: &[u8], chip: u16, channel: u16, out: &mut [u32]) -> P
 }
 
 impl From<Result<usize, Refusal>> for PlaneWord {
-    ghost from_gives = { λ found x. x ≡ flat_word (view_word found) };
+    ghost from_gives = { WordFlat };
 
     #[tactic(auto, unfolding(crate::specs::Flat::flat_word))]
     fn from(found: Result<usize, Refusal>) -> PlaneWord {

@@ -1,16 +1,15 @@
 // The assembler of events over several frames.
 ghost use Rattle.std.specs.Prelude.{◌≡◌};
-ghost use Rattle.assembler.specs.Views.{view_assembler, view_taken};
-ghost use Rattle.exports.specs.Flat.{flat_assembler, flat_taken};
-ghost use Rattle.exports.specs.Given.{assembler_of};
-ghost use Rattle.exports.specs.Promises.{AssemblerMade, TakeTold, GivenUpTold};
+ghost use Rattle.assembler.specs.Views.{view_taken};
+ghost use Rattle.exports.specs.Flat.{flat_taken};
+ghost use Rattle.exports.specs.Promises.{AssemblerGiven, AssemblerFlat, AssemblerMade, TakeTold, GivenUpTold};
 
 use crate::answers::{PlaneAssembler, PlaneTaken};
 use assembler::{Assembler, OpenEvent, Taken};
 use book::refusal::Refusal;
 
 impl From<PlaneAssembler> for Assembler {
-    ghost from_gives = { λ x a. view_assembler a ≡ assembler_of x };
+    ghost from_gives = { AssemblerGiven };
 
     fn from(x: PlaneAssembler) -> Assembler {
         let open = OpenEvent {
@@ -27,7 +26,7 @@ impl From<PlaneAssembler> for Assembler {
 }
 
 impl From<Assembler> for PlaneAssembler {
-    ghost from_gives = { λ a x. x ≡ flat_assembler (view_assembler a) };
+    ghost from_gives = { AssemblerFlat };
 
     #[tactic(auto, unfolding(crate::specs::Flat::flat_assembler))]
     fn from(a: Assembler) -> PlaneAssembler {

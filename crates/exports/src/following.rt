@@ -1,16 +1,15 @@
 // The follower of sequence numbers.
 ghost use Rattle.std.specs.Prelude.{◌≡◌};
-ghost use Rattle.follower.specs.Paper.{state_of, view};
-ghost use Rattle.exports.specs.Flat.{flat_follower, flat_followed};
-ghost use Rattle.exports.specs.Given.{follower_of};
-ghost use Rattle.exports.specs.Promises.{FollowTold};
+ghost use Rattle.follower.specs.Paper.{view};
+ghost use Rattle.exports.specs.Flat.{flat_followed};
+ghost use Rattle.exports.specs.Promises.{FollowerGiven, FollowerFlat, FollowTold};
 
 use crate::answers::{PlaneFollowed, PlaneFollower};
 use book::refusal::Fault;
 use follower::{Followed, Follower, SequenceError};
 
 impl From<PlaneFollower> for Follower {
-    ghost from_gives = { λ x f. state_of f ≡ follower_of x };
+    ghost from_gives = { FollowerGiven };
 
     fn from(x: PlaneFollower) -> Follower {
         if x.expecting == 0 {
@@ -21,7 +20,7 @@ impl From<PlaneFollower> for Follower {
 }
 
 impl From<Follower> for PlaneFollower {
-    ghost from_gives = { λ f x. x ≡ flat_follower (state_of f) };
+    ghost from_gives = { FollowerFlat };
 
     fn from(follower: Follower) -> PlaneFollower {
         match follower {

@@ -1,10 +1,9 @@
 // The class of a word, and the questions on a frame and its items.
 ghost use Rattle.std.specs.Prelude.{◌≡◌};
 ghost use Rattle.format.specs.Book.{row_of};
-ghost use Rattle.book.specs.Views.{view, view_item};
-ghost use Rattle.frame.specs.Views.{view_reading, view_found};
-ghost use Rattle.exports.specs.Flat.{row, flat_item, flat_frame, flat_found};
-ghost use Rattle.exports.specs.Promises.{ClassNumbered, FrameTold, ItemTold, TextPart};
+ghost use Rattle.book.specs.Views.{view};
+ghost use Rattle.exports.specs.Flat.{row};
+ghost use Rattle.exports.specs.Promises.{FrameFlat, ItemFlat, FoundFlat, ClassNumbered, FrameTold, ItemTold, TextPart};
 
 use crate::answers::{PlaneFound, PlaneFrame, PlaneItem, PlaneText};
 use book::class::{Class, classify};
@@ -21,7 +20,7 @@ pub fn plane_classify(word: u16) -> u32
 }
 
 impl From<Result<Frame, Refusal>> for PlaneFrame {
-    ghost from_gives = { λ reading x. x ≡ flat_frame (view_reading reading) };
+    ghost from_gives = { FrameFlat };
 
     #[tactic(auto, unfolding(crate::specs::Flat::flat_frame))]
     fn from(reading: Result<Frame, Refusal>) -> PlaneFrame {
@@ -94,7 +93,7 @@ fn event_item(class: Class, kind: u16, timestamp: u64, number: u32, size: u32) -
 }
 
 impl From<Item> for PlaneItem {
-    ghost from_gives = { λ item x. x ≡ flat_item (view_item item) };
+    ghost from_gives = { ItemFlat };
 
     #[tactic(auto, unfolding(crate::specs::Flat::flat_item))]
     fn from(item: Item) -> PlaneItem {
@@ -115,7 +114,7 @@ impl From<Item> for PlaneItem {
 }
 
 impl From<Result<IndexedItem, Refusal>> for PlaneFound {
-    ghost from_gives = { λ found x. x ≡ flat_found (view_found found) };
+    ghost from_gives = { FoundFlat };
 
     #[tactic(auto, unfolding(crate::specs::Flat::flat_found))]
     fn from(found: Result<IndexedItem, Refusal>) -> PlaneFound {

@@ -1,10 +1,7 @@
 // The calls on a record.
-ghost use Rattle.std.specs.Prelude.{◌≡◌, map};
-ghost use Rattle.records.specs.Views.{view_record, view_entry};
-ghost use Rattle.editor.specs.Views.{view_done, asked};
-ghost use Rattle.corrections.specs.Views.{view_corrected};
-ghost use Rattle.exports.specs.Flat.{flat_done, flat_record, flat_entry, flat_stopped};
-ghost use Rattle.exports.specs.Promises.{RecordTold, EntryTold, Opened, Edited, EditedAll, Restored};
+ghost use Rattle.std.specs.Prelude.{map};
+ghost use Rattle.editor.specs.Views.{asked};
+ghost use Rattle.exports.specs.Promises.{DoneFlat, RecordFlat, EntryFlat, StoppedFlat, RecordTold, EntryTold, Opened, Edited, EditedAll, Restored};
 
 use crate::answers::{PlaneDone, PlaneEntry, PlaneRecord, PlaneStopped};
 use book::refusal::Refusal;
@@ -16,7 +13,7 @@ use records::answers::{Entry, Record};
 use records::{entry, record};
 
 impl From<Result<Record, Refusal>> for PlaneRecord {
-    ghost from_gives = { λ found x. x ≡ flat_record (view_record found) };
+    ghost from_gives = { RecordFlat };
 
     #[tactic(auto, unfolding(crate::specs::Flat::flat_record))]
     fn from(found: Result<Record, Refusal>) -> PlaneRecord {
@@ -45,7 +42,7 @@ pub fn plane_record(buffer: &[u8]) -> PlaneRecord
 
 // Of an entry's stamp its time is told; the desk is 0 in every record that is accepted.
 impl From<Result<Entry, Refusal>> for PlaneEntry {
-    ghost from_gives = { λ found x. x ≡ flat_entry (view_entry found) };
+    ghost from_gives = { EntryFlat };
 
     #[tactic(auto, unfolding(crate::specs::Flat::flat_entry))]
     fn from(found: Result<Entry, Refusal>) -> PlaneEntry {
@@ -78,7 +75,7 @@ pub fn plane_entry(buffer: &[u8], n: usize) -> PlaneEntry
 }
 
 impl From<Result<(), Refusal>> for PlaneDone {
-    ghost from_gives = { λ done x. x ≡ flat_done (view_done done) };
+    ghost from_gives = { DoneFlat };
 
     fn from(done: Result<(), Refusal>) -> PlaneDone {
         match done {
@@ -106,7 +103,7 @@ pub fn plane_edit(buffer: &mut [u8], correction: Correction) -> PlaneDone
 }
 
 impl From<Result<(), Stopped>> for PlaneStopped {
-    ghost from_gives = { λ answer x. x ≡ flat_stopped (view_corrected answer) };
+    ghost from_gives = { StoppedFlat };
 
     #[tactic(auto, unfolding(crate::specs::Flat::flat_stopped))]
     fn from(answer: Result<(), Stopped>) -> PlaneStopped {

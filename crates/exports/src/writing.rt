@@ -4,9 +4,8 @@ ghost use Rattle.format.specs.Items.{flawed};
 ghost use Rattle.format.specs.Writing.{add_answer};
 ghost use Rattle.book.specs.Refusals.{number_of};
 ghost use Rattle.writer.specs.Views.{view_written};
-ghost use Rattle.exports.specs.Flat.{flat_written};
 ghost use Rattle.exports.specs.Given.{view_given, token_of};
-ghost use Rattle.exports.specs.Promises.{Begun, Added, AddedText, Closed};
+ghost use Rattle.exports.specs.Promises.{WrittenFlat, Begun, Added, AddedText, Closed};
 
 use crate::answers::{PlaneItem, PlaneWritten};
 use book::class::Class;
@@ -20,7 +19,7 @@ use rules::state::Kind;
 use writer::calls::{add, add_text, begin, close};
 
 impl From<Result<usize, Refusal>> for PlaneWritten {
-    ghost from_gives = { λ written x. x ≡ flat_written (view_written written) };
+    ghost from_gives = { WrittenFlat };
 
     #[tactic(auto, unfolding(crate::specs::Flat::flat_written))]
     fn from(written: Result<usize, Refusal>) -> PlaneWritten {
@@ -53,54 +52,50 @@ pub fn plane_begin(buffer: &mut [u8], kind: u16, card: u16, sequence: u16) -> Pl
 }
 
 // What a flat item says: an item, or what its class is refused by. Frame starts and Frame end are never items: 8. A number that no class has is 6.
-impl TryFrom<PlaneItem> for Item {
-    type Error = Fault;
-
-    ghost try_from_gives = { λ x given. view_given given ≡ token_of x };
-
-    #[tactic(auto, unfolding(crate::specs::Given::token_of))]
-    fn try_from(x: PlaneItem) -> Result<Item, Fault> {
-        let class = Class::try_from(x.item_class).map_err(|_| Fault::Class)?;
-        match class {
-            Class::Channel => Ok(Item::Channel(Channel {
-                card: x.card,
-                chip: x.chip,
-                channel: x.channel,
-            })),
-            Class::Histogram => Ok(Item::Histogram(Histogram {
-                card: x.card,
-                chip: x.chip,
-                channel: x.channel,
-            })),
-            Class::HitCount => Ok(Item::HitCount(HitCount {
-                card: x.card,
-                chip: x.chip,
-                count: x.hits,
-            })),
-            Class::Sample => Ok(Item::Sample(Sample { value: x.value })),
-            Class::Bin => Ok(Item::Bin(Bin {
-                bin: x.bin,
-                count: x.count,
-            })),
-            Class::LastCell => Ok(Item::LastCell(LastCell {
-                chip: x.chip,
-                cell: x.cell,
-            })),
-            Class::TimeBin => Ok(Item::TimeBin(TimeBin { time: x.time })),
-            Class::DataFrame => Err(Fault::Place),
-            Class::MonitorFrame => Err(Fault::Place),
-            Class::CommandFrame => Err(Fault::Place),
-            Class::Text => Ok(Item::Text(Text { length: x.length })),
-            Class::StartEvent => Ok(Item::StartEvent(StartEvent {
-                kind: x.kind,
-                timestamp: x.timestamp,
-                number: x.number,
-            })),
-            Class::EndEvent => Ok(Item::EndEvent(EndEvent { size: x.size })),
-            Class::FrameEnd => Err(Fault::Place),
-            Class::ContinueEvent => Ok(Item::ContinueEvent(ContinueEvent { number: x.number })),
-            Class::Unassigned => Err(Fault::Class),
-        }
+#[tactic(auto, unfolding(crate::specs::Given::token_of))]
+fn item_given(x: PlaneItem) -> Result<Item, Fault>
+    ensures { view_given result ≡ token_of x }
+{
+    let class = Class::try_from(x.item_class).map_err(|_| Fault::Class)?;
+    match class {
+        Class::Channel => Ok(Item::Channel(Channel {
+            card: x.card,
+            chip: x.chip,
+            channel: x.channel,
+        })),
+        Class::Histogram => Ok(Item::Histogram(Histogram {
+            card: x.card,
+            chip: x.chip,
+            channel: x.channel,
+        })),
+        Class::HitCount => Ok(Item::HitCount(HitCount {
+            card: x.card,
+            chip: x.chip,
+            count: x.hits,
+        })),
+        Class::Sample => Ok(Item::Sample(Sample { value: x.value })),
+        Class::Bin => Ok(Item::Bin(Bin {
+            bin: x.bin,
+            count: x.count,
+        })),
+        Class::LastCell => Ok(Item::LastCell(LastCell {
+            chip: x.chip,
+            cell: x.cell,
+        })),
+        Class::TimeBin => Ok(Item::TimeBin(TimeBin { time: x.time })),
+        Class::DataFrame => Err(Fault::Place),
+        Class::MonitorFrame => Err(Fault::Place),
+        Class::CommandFrame => Err(Fault::Place),
+        Class::Text => Ok(Item::Text(Text { length: x.length })),
+        Class::StartEvent => Ok(Item::StartEvent(StartEvent {
+            kind: x.kind,
+            timestamp: x.timestamp,
+            number: x.number,
+        })),
+        Class::EndEvent => Ok(Item::EndEvent(EndEvent { size: x.size })),
+        Class::FrameEnd => Err(Fault::Place),
+        Class::ContinueEvent => Ok(Item::ContinueEvent(ContinueEvent { number: x.number })),
+        Class::Unassigned => Err(Fault::Class),
     }
 }
 
@@ -116,7 +111,7 @@ fn refuse_item(buffer: &[u8], length: usize, fault: Fault) -> Result<usize, Refu
 pub fn plane_add(buffer: &mut [u8], length: usize, item: PlaneItem) -> PlaneWritten
     ensures { Added buffer.old length item result buffer.new }
 {
-    match Item::try_from(item) {
+    match item_given(item) {
         Ok(x) => add(buffer, length, x).into(),
         Err(fault) => refuse_item(buffer, length, fault).into(),
     }
