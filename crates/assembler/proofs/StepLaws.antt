@@ -43,9 +43,9 @@ ends_sized told size s lead e z =
     ap (λ (n : ℕ). eqb n (size + 2 * lead)) e ∙ sym (ap (λ (b : Bool). pick b (ltb (size + item_bytes s) 4294967296) (eqb (long_at s (lead + 1)) (size + 2 * lead))) (ne_eqb lead 0 z))
 
 -- so that a size that goes on has 32 bits
-pub sized_fits : (o : Open) (s : List ℕ) (m : Marks) → sized_by (some o) s m ≡ true → m.lead ≡ 0 → o.size + (length s - 8) < 4294967296
+pub sized_fits : (o : Open) (s : List ℕ) (m : Marks) → sized_by (some o) s m ≡ true → (n : ℕ) → n ≡ item_bytes s → m.lead ≡ 0 → o.size + n < 4294967296
 unfolding sized_by
-sized_fits o s m e z = ltb-true (o.size + (length s - 8)) 4294967296 (goes_on_sized o.size s m.lead z ∙ e)
+sized_fits o s m e n i z = rw i (ltb-true (o.size + (length s - 8)) 4294967296 (goes_on_sized o.size s m.lead z ∙ e))
 
 -- ---- whether it links
 

@@ -6,21 +6,22 @@
 ghost use Rattle.std.specs.Prelude.{◌≡◌};
 ghost use Rattle.follower.specs.Follow.{accepted};
 ghost use Rattle.follower.specs.Paper.{state_of};
-ghost use Rattle.rules.specs.Views.{view_marks};
 ghost use Rattle.frame.specs.Views.{view_frame};
-ghost use Rattle.runs.specs.Marked.{linking_by, Reach};
+ghost use Rattle.runs.specs.Marked.{linking_by};
 ghost use Rattle.assembler.specs.Views.{view_assembler, view_taken};
 ghost use Rattle.assembler.specs.Promises.{Unused, GivenUp, TakenAs};
 
 use crate::links::linked;
 use crate::opens::open_after;
+use crate::part::Part;
 use book::refusal::{Fault, Refusal};
 use follower::{Followed, Follower};
-use frame::reading::{Frame, read};
+use frame::reading::read;
 use rules::state::Kind;
 
 mod links;
 mod opens;
+mod part;
 
 // An event that is open. Any numbers are taken, and mean what `take` leaves in them.
 #[derive(Clone, Copy, Debug, PartialEq, Eq)]
@@ -85,23 +86,23 @@ impl Assembler {
     {
         let f = read(frame)?;
         let followed = self.follower.follow(f.sequence)?;
-        linking(self, frame, f, followed)
+        self.link(Part { bytes: frame, frame: f }, followed)
     }
-}
 
-// The frame links to what is open, or does not.
-fn linking(a: Assembler, s: &[u8], f: Frame, followed: Followed) -> Result<Taken, Refusal>
-    requires { Reach s.now (view_marks f.state.marks) }
-    ensures { view_taken result ≡ linking_by (view_assembler a) s.now (view_frame f) (accepted followed.lost (state_of followed.next)) }
-{
-    let lost = followed.lost;
-    if (f.kind == Kind::Data) & (f.card == a.card) & linked(a.event, lost, s, f.state.marks) {
-        let next = Assembler {
-            card: a.card,
-            follower: followed.next,
-            event: open_after(a.event, s, f.state),
-        };
-        return Ok(Taken { lost, next });
+    // The frame links to what is open, or does not.
+    fn link(self, part: Part<'_>, followed: Followed) -> Result<Taken, Refusal>
+        ensures { view_taken result ≡ linking_by (view_assembler self) part.entry.bytes.now (view_frame part.entry.frame) (accepted followed.lost (state_of followed.next)) }
+    {
+        let lost = followed.lost;
+        let told = part.frame;
+        if (told.kind == Kind::Data) & (told.card == self.card) & linked(self.event, lost, part) {
+            let next = Assembler {
+                card: self.card,
+                follower: followed.next,
+                event: open_after(self.event, part),
+            };
+            return Ok(Taken { lost, next });
+        }
+        Err(Fault::Link.into())
     }
-    Err(Fault::Link.into())
 }

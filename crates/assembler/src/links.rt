@@ -1,20 +1,12 @@
 // Whether a data frame of the assembler's card links to what is open.
 ghost use Rattle.std.specs.Prelude.{◌≡◌, ◌+◌, ◌*◌, ◌≤◌, length};
 ghost use Rattle.rules.specs.Views.{view_marks};
-ghost use Rattle.runs.specs.Marked.{continues_at, rises_by, size_by, goes_on_by, linked_by, Reach};
+ghost use Rattle.runs.specs.Marked.{rises_by, size_by, goes_on_by, linked_by};
 ghost use Rattle.assembler.specs.Views.{view_open, view_current};
 
 use crate::OpenEvent;
-use book::items::ContinueEvent;
-use book::words::{long, word};
-use rules::state::Marks;
-
-// The first item is a Continue event.
-fn continues(s: &[u8]) -> bool
-    ensures { result ≡ continues_at s.now }
-{
-    word(s, 3) == ContinueEvent::WORD
-}
+use crate::part::Part;
+use book::words::long;
 
 // The part's headers rise, so that its first one tells of all; `first` is one more than its key, 0 where it has none.
 fn rises(key: u32, first: u32) -> bool
@@ -36,22 +28,23 @@ fn sized(size: u32, s: &[u8], lead: usize) -> bool
     told as u64 == size as u64 + 2 * (lead as u64)
 }
 
-// The frame goes on with the open event.
-fn goes_on(o: OpenEvent, lost: u8, s: &[u8], marks: Marks) -> bool
-    requires { Reach s.now (view_marks marks) }
-    ensures { result ≡ goes_on_by (view_open o) lost s.now (view_marks marks) }
-{
-    let rising = rises(o.key, marks.first);
-    let sizes = sized(o.size, s, marks.lead);
-    (lost == 0) & continues(s) & (o.number == long(s, 4)) & rising & sizes
+impl OpenEvent {
+    // The frame goes on with this event.
+    fn goes_on(self, lost: u8, part: Part<'_>) -> bool
+        ensures { result ≡ goes_on_by (view_open self) lost part.entry.bytes.now (view_marks part.entry.frame.state.marks) }
+    {
+        let marks = part.frame.state.marks;
+        let rising = rises(self.key, marks.first);
+        let sizes = sized(self.size, part.bytes, marks.lead);
+        (lost == 0) & part.continues() & (self.number == long(part.bytes, 4)) & rising & sizes
+    }
 }
 
-pub(crate) fn linked(event: Option<OpenEvent>, lost: u8, s: &[u8], marks: Marks) -> bool
-    requires { Reach s.now (view_marks marks) }
-    ensures { result ≡ linked_by (view_current event) lost s.now (view_marks marks) }
+pub(crate) fn linked(event: Option<OpenEvent>, lost: u8, part: Part<'_>) -> bool
+    ensures { result ≡ linked_by (view_current event) lost part.entry.bytes.now (view_marks part.entry.frame.state.marks) }
 {
     match event {
-        None => !continues(s),
-        Some(o) => goes_on(o, lost, s, marks),
+        None => !part.continues(),
+        Some(o) => o.goes_on(lost, part),
     }
 }

@@ -1,11 +1,11 @@
 -- What `?` passes on: a refusal as it is, and 13 where nothing was found.
 -- Assumes nothing.
 use Prim.Native.Nat.{ℕ}
-use mathlib.Core.Path.{◌≡◌, refl, sym, ap, ◌∙◌}
+use mathlib.Core.Path.{◌≡◌, refl, sym, ap, subst, ◌∙◌}
 use native.Mathlib.Omega.{arith}
 use Rattle.core.specs.Result.{IsErrAnd}
 use Rattle.core.specs.Option.{ok_or}
-use Rattle.std.specs.Prelude.{Option, Some, None, Result, Ok, Err}
+use Rattle.std.specs.Prelude.{Option, Some, None, Result, Ok, Err, MatchResult}
 use Rattle.std.proofs.lemmas.Result.{err_from_is_err_and}
 use Rattle.book.specs.declared.refusal.Fault.{Fault}
 use Rattle.book.specs.declared.refusal.Fault.TheVariants.{Absent}
@@ -14,6 +14,9 @@ use Rattle.book.specs.Refusals.{AtStart}
 
 pub passed : {T : Type 0} (r : Result T Refusal) (f : Refusal) → IsErrAnd r (λ y. y ≡ f) → r ≡ Err f
 passed r f q = let p = err_from_is_err_and r q in p.1 ∙ ap Err p.2
+
+pub passed_by : {T : Type 0} (P : T → Type 0) (Q : Refusal → Type 0) (r : Result T Refusal) (f : Refusal) → IsErrAnd r (λ y. y ≡ f) → Q f → MatchResult r P Q
+passed_by P Q r f q h = subst (λ (r : Result _ Refusal). MatchResult r P Q) (sym (passed r f q)) h
 
 fault_is : (f : Fault) → ◌≡◌ {A = Result ℕ Fault} (Err f) (Err Absent) → f ≡ Absent
 fault_is f e = cc

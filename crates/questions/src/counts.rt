@@ -1,38 +1,38 @@
 // The counts question.
 ghost use Rattle.std.specs.Prelude.{◌≤◌, length};
 ghost use Rattle.format.specs.Questions.{present, past, is_histogram, counts_left};
-ghost use Rattle.rules.specs.Views.{view_kind};
-ghost use Rattle.questions.specs.Views.{view_filled};
 ghost use Rattle.format.specs.Cursor.{items_from};
-ghost use Rattle.questions.specs.Sought.{Amid, HistogramSought, Filling};
+ghost use Rattle.questions.specs.Views.{view_filled};
+ghost use Rattle.questions.specs.Sought.{HistogramSought, Filling};
 ghost use Rattle.questions.specs.Promises.{CountsAnswered};
 
 use crate::fill::{COUNTS, clear_counts, fill_counts};
+use crate::items::Items;
 use crate::scan::seek_histogram;
 use book::refusal::{Fault, Refusal};
-use frame::reading::read;
 use rules::state::Kind;
 
-// Where the bins of a histogram begin: only a monitor frame has histograms.
-pub(crate) fn find_histogram(s: &[u8], kind: Kind, chip: u16, channel: u16) -> Option<usize>
-    requires { Amid s.now (view_kind kind) 3 }
-    ensures { HistogramSought s.now chip channel result }
-{
-    if kind != Kind::Monitor {
-        return None;
+impl Items<'_> {
+    // Where the bins of a histogram begin: only a monitor frame has histograms.
+    pub(crate) fn find_histogram(self, chip: u16, channel: u16) -> Option<usize>
+        ensures { HistogramSought self.entry.bytes.now chip channel result }
+    {
+        if self.kind != Kind::Monitor {
+            return None;
+        }
+        seek_histogram(self.bytes, chip, channel)
     }
-    seek_histogram(s, chip, channel)
-}
 
-// The counts of a histogram among a frame's items.
-fn counts_in(s: &[u8], kind: Kind, chip: u16, channel: u16, out: &mut [u32]) -> Result<(), Refusal>
-    requires { Amid s.now (view_kind kind) 3 × (4096 ≤ length out.old) }
-    ensures { Filling (present (past (is_histogram chip channel) (items_from s.now 3))) counts_left out.old (view_filled result) out.new }
-{
-    let at = find_histogram(s, kind, chip, channel).ok_or(Fault::Absent)?;
-    clear_counts(out);
-    fill_counts(s, at, out);
-    Ok(())
+    // The counts of a histogram.
+    fn counts(self, chip: u16, channel: u16, out: &mut [u32]) -> Result<(), Refusal>
+        requires { 4096 ≤ length out.old }
+        ensures { Filling (present (past (is_histogram chip channel) (items_from self.entry.bytes.now 3))) counts_left out.old (view_filled result) out.new }
+    {
+        let at = self.find_histogram(chip, channel).ok_or(Fault::Absent)?;
+        clear_counts(out);
+        fill_counts(self.bytes, at, out);
+        Ok(())
+    }
 }
 
 // The counts of the histogram of a chip and a channel: into the first 4,096 words lent, each at its bin's number, 0 where no bin stands.
@@ -40,9 +40,9 @@ fn counts_in(s: &[u8], kind: Kind, chip: u16, channel: u16, out: &mut [u32]) -> 
 pub fn counts(s: &[u8], chip: u16, channel: u16, out: &mut [u32]) -> Result<(), Refusal>
     ensures { CountsAnswered s.now chip channel out.old result out.new }
 {
-    let frame = read(s)?;
+    let items = Items::of(s)?;
     if out.len() < COUNTS {
         return Err(Fault::Room.into());
     }
-    counts_in(s, frame.kind, chip, channel, out)
+    items.counts(chip, channel, out)
 }

@@ -3,31 +3,19 @@ ghost use Rattle.std.specs.Prelude.{◌≡◌, ◌+◌, ◌<◌, length};
 ghost use Rattle.format.specs.Words.{word_at};
 ghost use Rattle.format.specs.Book.{class_of, continue_event};
 ghost use Rattle.format.specs.Rules.{data_kind, same};
-ghost use Rattle.rules.specs.Views.{view_kind};
 ghost use Rattle.questions.specs.Views.{event_of, view_event};
 ghost use Rattle.format.specs.Cursor.{items_from};
 ghost use Rattle.questions.specs.Sought.{Amid, started_at, continued_at, opened_at, inside_at, EventSought, event_in};
 ghost use Rattle.questions.specs.Promises.{EventAnswered};
 
 use crate::answers::{Beginning, Event};
+use crate::items::Items;
 use crate::scan::{end_size, seek_event};
 use book::class::{Class, classify};
 use book::items::StartEvent;
 use book::refusal::{Fault, Refusal};
 use book::words::{long, time, word};
-use frame::reading::read;
 use rules::state::Kind;
-
-// Where event e begins: only a data frame has events.
-pub(crate) fn find_event(s: &[u8], kind: Kind, e: usize) -> Option<usize>
-    requires { Amid s.now (view_kind kind) 3 }
-    ensures { EventSought s.now e result }
-{
-    if kind != Kind::Data {
-        return None;
-    }
-    seek_event(s, e)
-}
 
 // The word is a Continue event's: the event began in another frame.
 fn is_continued(w: u16) -> bool
@@ -89,13 +77,24 @@ fn event_at(s: &[u8], at: usize) -> Event
     started_at(s, at, w)
 }
 
-// Event e of a frame's items.
-fn event_in(s: &[u8], kind: Kind, e: usize) -> Result<Event, Refusal>
-    requires { Amid s.now (view_kind kind) 3 }
-    ensures { view_event result ≡ event_in (items_from s.now 3) e }
-{
-    let at = find_event(s, kind, e).ok_or(Fault::Absent)?;
-    Ok(event_at(s, at))
+impl Items<'_> {
+    // Where event e begins: only a data frame has events.
+    pub(crate) fn find_event(self, e: usize) -> Option<usize>
+        ensures { EventSought self.entry.bytes.now e result }
+    {
+        if self.kind != Kind::Data {
+            return None;
+        }
+        seek_event(self.bytes, e)
+    }
+
+    // Event e.
+    fn event(self, e: usize) -> Result<Event, Refusal>
+        ensures { view_event result ≡ event_in (items_from self.entry.bytes.now 3) e }
+    {
+        let at = self.find_event(e).ok_or(Fault::Absent)?;
+        Ok(event_at(self.bytes, at))
+    }
 }
 
 // Event e, from 0, of a frame: its type, timestamp, number, size and the index of its Start event word. A part that a Continue event opens is
@@ -104,6 +103,6 @@ fn event_in(s: &[u8], kind: Kind, e: usize) -> Result<Event, Refusal>
 pub fn event(s: &[u8], e: usize) -> Result<Event, Refusal>
     ensures { EventAnswered s.now e result }
 {
-    let frame = read(s)?;
-    event_in(s, frame.kind, e)
+    let items = Items::of(s)?;
+    items.event(e)
 }

@@ -6,6 +6,7 @@ pub mod answers;
 pub mod counts;
 pub mod event;
 pub mod fill;
+mod items;
 pub mod samples;
 pub mod scan;
 pub mod words;

@@ -2,19 +2,15 @@
 ghost use Rattle.std.specs.Prelude.{◌≡◌};
 ghost use Rattle.format.specs.Questions.{present, sample_word, bin_word};
 ghost use Rattle.format.specs.Cursor.{items_from, On};
-ghost use Rattle.rules.specs.Views.{view_kind};
 ghost use Rattle.questions.specs.Views.{view_word};
-ghost use Rattle.questions.specs.Sought.{Amid, place_of, sample_word_in, bin_word_in};
+ghost use Rattle.questions.specs.Sought.{place_of, sample_word_in, bin_word_in};
 ghost use Rattle.questions.specs.Promises.{SampleWordAnswered, BinWordAnswered};
 
-use crate::counts::find_histogram;
-use crate::samples::find_channel;
+use crate::items::Items;
 use crate::scan::word_in;
 use book::class::Class;
 use book::items::{Bin, TimeBin};
 use book::refusal::{Fault, Refusal};
-use frame::reading::read;
-use rules::state::Kind;
 
 // Where the Sample at a time stands, of the Samples and Time bins from here on.
 fn seek_sample(s: &[u8], from: usize, time: usize) -> Option<usize>
@@ -63,22 +59,22 @@ fn seek_bin(s: &[u8], from: usize, bin: u16) -> Option<usize>
     None
 }
 
-// Behind the header of a channel in event e.
-fn find_sample(s: &[u8], kind: Kind, e: usize, chip: u16, channel: u16, time: u16) -> Option<usize>
-    requires { Amid s.now (view_kind kind) 3 }
-    ensures { present (place_of result) ≡ sample_word_in (items_from s.now 3) e chip channel time }
-{
-    let at = find_channel(s, kind, e, chip, channel)?;
-    seek_sample(s, at, time as usize)
-}
+impl Items<'_> {
+    // Behind the header of a channel in event e.
+    fn find_sample(self, e: usize, chip: u16, channel: u16, time: u16) -> Option<usize>
+        ensures { present (place_of result) ≡ sample_word_in (items_from self.entry.bytes.now 3) e chip channel time }
+    {
+        let at = self.find_channel(e, chip, channel)?;
+        seek_sample(self.bytes, at, time as usize)
+    }
 
-// Behind the header of a histogram.
-fn find_bin(s: &[u8], kind: Kind, chip: u16, channel: u16, bin: u16) -> Option<usize>
-    requires { Amid s.now (view_kind kind) 3 }
-    ensures { present (place_of result) ≡ bin_word_in (items_from s.now 3) chip channel bin }
-{
-    let at = find_histogram(s, kind, chip, channel)?;
-    seek_bin(s, at, bin)
+    // Behind the header of a histogram.
+    fn find_bin(self, chip: u16, channel: u16, bin: u16) -> Option<usize>
+        ensures { present (place_of result) ≡ bin_word_in (items_from self.entry.bytes.now 3) chip channel bin }
+    {
+        let at = self.find_histogram(chip, channel)?;
+        seek_bin(self.bytes, at, bin)
+    }
 }
 
 // The word index of the Sample at a time, of event e, from 0, and of a chip and a channel. Refuses as `read` does, then 13 where there is no such
@@ -86,8 +82,8 @@ fn find_bin(s: &[u8], kind: Kind, chip: u16, channel: u16, bin: u16) -> Option<u
 pub fn sample_word(s: &[u8], e: usize, chip: u16, channel: u16, time: u16) -> Result<usize, Refusal>
     ensures { SampleWordAnswered s.now e chip channel time result }
 {
-    let frame = read(s)?;
-    find_sample(s, frame.kind, e, chip, channel, time).ok_or(Fault::Absent.into())
+    let items = Items::of(s)?;
+    items.find_sample(e, chip, channel, time).ok_or(Fault::Absent.into())
 }
 
 // The word index of the Bin of a number, of the histogram of a chip and a channel. Refuses as `read` does, then 13 where there is no such histogram
@@ -95,6 +91,6 @@ pub fn sample_word(s: &[u8], e: usize, chip: u16, channel: u16, time: u16) -> Re
 pub fn bin_word(s: &[u8], chip: u16, channel: u16, bin: u16) -> Result<usize, Refusal>
     ensures { BinWordAnswered s.now chip channel bin result }
 {
-    let frame = read(s)?;
-    find_bin(s, frame.kind, chip, channel, bin).ok_or(Fault::Absent.into())
+    let items = Items::of(s)?;
+    items.find_bin(chip, channel, bin).ok_or(Fault::Absent.into())
 }

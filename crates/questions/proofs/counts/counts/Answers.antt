@@ -1,22 +1,28 @@
 -- `questions::counts::counts` meets its contract.
 -- Assumes nothing.
-use mathlib.Core.Path.{ap}
+use Prim.Native.Nat.{ℕ}
+use mathlib.Core.Path.{ap, subst}
+use mathlib.Core.List.{List}
 use native.Mathlib.Omega.{arith}
 use Rattle.book.specs.Views.{refusal}
+use Rattle.format.specs.Questions.{Counted}
 use Rattle.questions.specs.Views.{view_filled}
 use Rattle.questions.proofs.Missing.{passed}
-use Rattle.questions.proofs.Reading.{read_accepted, read_refused, amid_first}
+use Rattle.questions.proofs.Reading.{accepted_of}
 use Rattle.questions.proofs.CountsAnswers.{counts_stopped, counts_short, counts_answered}
 use Rattle.questions.proofs.counts.counts.Goals as goal
 
-pub returns-in_err-frame : goal.returns-in_err-frame
-returns-in_err-frame c = counts_stopped _ _ _ _ _ _ _ (ap view_filled (passed _ _ c.from_residual.ensures.1)) (read_refused _ _ _ c.in_err-frame.ensures)
+pub returns-in_err-items : goal.returns-in_err-items
+returns-in_err-items c = counts_stopped _ _ _ _ _ _ _ (ap view_filled (passed _ _ c.from_residual.ensures.1)) c.in_err-items.ensures
 
 pub returns-then-out-lt-COUNTS : goal.returns-then-out-lt-COUNTS
-returns-then-out-lt-COUNTS c = counts_short _ _ _ _ _ (read_accepted _ _ c.in_ok-frame.ensures) (omega arith) _ (ap refusal c.into.ensures)
-
-pub counts_in-requires : goal.counts_in-requires
-counts_in-requires c = (amid_first _ (λ i. (c.type_inv.s i).fits) _ (read_accepted _ _ c.in_ok-frame.ensures), omega arith)
+returns-then-out-lt-COUNTS c =
+    let a = c.args in let x = c.in_ok-items.items in
+    subst (λ (s : List ℕ). Counted s a.chip a.channel a.out.now (refusal c.into.result) a.out.now) c.in_ok-items.ensures
+    (counts_short _ _ _ _ _ (accepted_of _ _ x.accepted) (omega arith) _ (ap refusal c.into.ensures))
 
 pub returns : goal.returns
-returns c = counts_answered _ _ _ _ _ (read_accepted _ _ c.in_ok-frame.ensures) (λ i. (c.type_inv.s i).fits) (omega arith) _ _ c.counts_in.ensures
+returns c =
+    let a = c.args in let x = c.in_ok-items.items in
+    subst (λ (s : List ℕ). Counted s a.chip a.channel a.out.now (view_filled c.counts.result) c.counts.new.out) c.in_ok-items.ensures
+    (counts_answered _ _ _ _ _ (accepted_of _ _ x.accepted) x.content (omega arith) _ _ c.counts.ensures)

@@ -1,7 +1,7 @@
--- `assembler::links::goes_on` meets its contract.
+-- `assembler::OpenEvent::goes_on` meets its contract.
 -- Assumes nothing.
 use Rattle.assembler.proofs.StepLaws.{goes_on_told}
-use Rattle.assembler.proofs.links.goes_on.Goals as goal
+use Rattle.assembler.proofs.OpenEvent.goes_on.Goals as goal
 
 pub returns : goal.returns
 returns c =
