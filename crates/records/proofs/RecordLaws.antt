@@ -4,14 +4,15 @@ use Prim.Native.Nat.{ℕ, zero, suc, ◌+◌, ◌-◌, ◌*◌, ◌<◌, ◌≤�
 use mathlib.Core.Path.{◌≡◌, refl, sym, ap, ap₂, subst, ◌∙◌}
 use mathlib.Core.List.{List, [], ◌∷◌}
 use mathlib.Core.Bool.{Bool, true, false, ◌&&◌, ◌||◌}
-use mathlib.Core.Logic.{⊎_elim}
+use mathlib.Core.Logic.{⊎_elim, inr}
 use mathlib.Core.Option.{Option, none}
 use native.Mathlib.Nat.{add-sub_cancel_left, mul-le-mul, mul-suc}
 use native.Mathlib.Omega.{arith}
-use lib.Dec.{eqb, leb}
+use lib.Dec.{eqb, leb, ltb}
 use lib.ListN.{length, get_or, take, drop, length-drop, replicate}
 use lib.Seq.{take_all, length-take-le, get_or-drop, sets}
-use borrow.Author.Tests.{leb-true, eqb-true, eqb-false, eq-eqb, ne_eqb, lt-ltb}
+use Rattle.std.proofs.lemmas.List.{length-take, get_or-take, get_or_past}
+use borrow.Author.Tests.{ltb-true, ltb-false, leb-true, eqb-true, eqb-false, eq-eqb, ne_eqb, lt-ltb}
 use Rattle.format.specs.Words.{Bytes, pick, word_at, long_at}
 use Rattle.format.specs.Answers.{Outcome, accepted, refused, Done, and_then, first_of}
 use Rattle.format.specs.Frames.{Frame, verdict}
@@ -20,6 +21,7 @@ use Rattle.format.specs.Questions.{done}
 use Rattle.format.specs.Spots.{Spot, spot, legal_value}
 use Rattle.format.proofs.book.PrefixLaws.{and_left, and_right}
 use Rattle.format.proofs.items.WordLaws.{below_drop, below_take}
+use Rattle.format.proofs.items.StoringLaws.{sets_room, sets_inside, sets_other}
 use Rattle.format.proofs.spots.PutLaws.{spot_refused}
 use Rattle.ledger.specs.Tests.{all}
 use Rattle.ledger.specs.Frames.{Accepted}
@@ -83,7 +85,7 @@ header_tests b a c d len e n t z size' ea ec ed el ee en et ez es =
     rw (two_versions a, es, ea, ec, ed, el, ee, en, et, ez, limit_for (word_at b 0) (entries_to (format_for (word_at b 0)) b (word_at b 5)), length_entries (format_for (word_at b 0)) b (word_at b 5))
 
 -- an entry has at most 24 bytes, so that products with a count are small
-size_small : (version : ℕ) → size (format_for version) ≤ 24
+pub size_small : (version : ℕ) → size (format_for version) ≤ 24
 size_small version = let x = (for_lawful version).extra_small in omega arith
 
 pub product_small : (version s n : ℕ) → s ≡ size (format_for version) → n < 65536 → s * n ≤ 1572864
@@ -121,6 +123,45 @@ unfolding version_two
 stamp_kept s version low high time desk n el eh ed et =
     ap₂ (λ (t d : ℕ). t ∷ d ∷ []) (et ∙ rw (el, eh, word_behind s 0, word_behind s 1, word_behind s 2)) (ed ∙ sym (word_behind s 3))
     ∙ sym (ap (λ (F : Format). F.read (drop 16 s)) (for_other version n))
+
+-- two slices with the same words begin with the same entry
+module _ (a b : List ℕ) (version : ℕ) (same : (i : ℕ) → i < 12 → word_at a i ≡ word_at b i) where
+  same_long : (i : ℕ) → i < 11 → long_at a i ≡ long_at b i
+  same_long i l = ap₂ (λ (m n : ℕ). m + 65536 * n) (same i (omega arith)) (same (i + 1) (omega arith))
+
+  same_kept : (format_for version).read (drop 16 a) ≡ (format_for version).read (drop 16 b)
+  same_kept = ⊎_elim (λ w. sym (nothing_kept a version w.0) ∙ nothing_kept b version w.0) (λ w. sym (stamp_kept a version _ _ _ _ w.0 refl refl refl refl) ∙ stamp_kept b version _ _ _ _ w.0 (same_long 8 (omega arith)) (same 10 (omega arith)) (same 11 (omega arith)) refl) (for_which version)
+
+  same_entry : entry_of (format_for version) a ≡ entry_of (format_for version) b
+  same_entry =
+      sym (entry_read a _ version _ _ _ _ _ _ refl refl refl refl refl refl refl)
+      ∙ entry_read b _ version _ _ _ _ _ _ (same 0 (omega arith)) (same 1 (omega arith)) (same_long 2 (omega arith)) (same_long 4 (omega arith)) (same 6 (omega arith)) (same 7 (omega arith)) same_kept
+
+-- a part of a list of zeros
+pub zeros : (n i : ℕ) → ◌≡◌ {A = ℕ} (get_or (replicate n 0) i 0) 0
+zeros zero i = refl
+zeros (suc n) zero = refl
+zeros (suc n) (suc i) = zeros n i
+
+-- what is past the end of a slice is 0, as in a copy of it in zeros
+module _ (s z : List ℕ) (n : ℕ) (long : length z ≡ n) (none : (i : ℕ) → get_or z i 0 ≡ 0) where
+  padded : (i : ℕ) → i < n → get_or (sets z 0 s) i 0 ≡ get_or s i 0
+  padded i l = ap (λ (t : List ℕ). get_or t i 0) (sym (sets_room z s)) ∙ go (ltb i (length s)) refl
+    where
+      few : 0 + length (take (length z) s) ≤ length z
+      few = omega (arith, length-take (length z) s)
+
+      go : (b : Bool) → ltb i (length s) ≡ b → get_or (sets z 0 (take (length z) s)) i 0 ≡ get_or s i 0
+      go true q = let e : i ≡ 0 + i = omega arith in ap (λ (j : ℕ). get_or (sets z 0 (take (length z) s)) j 0) e ∙ sets_inside (take (length z) s) z 0 i few (omega (arith, length-take (length z) s, ltb-true i (length s) q)) ∙ get_or-take (length z) s i 0 (omega arith)
+      go false q =
+          let p = ltb-false i (length s) q in
+          sets_other (take (length z) s) z 0 i (inr (omega (arith, length-take (length z) s))) ∙ none i ∙ sym (get_or_past s i 0 p)
+
+  padded_word : (i : ℕ) → 2 * i + 1 < n → word_at (sets z 0 s) i ≡ word_at s i
+  padded_word i l = ap₂ (λ (a b : ℕ). a + 256 * b) (padded (2 * i) (omega arith)) (padded (2 * i + 1) l)
+
+  pub padded_entry : (version : ℕ) (y : List ℕ) (e : Entry) → 24 ≤ n → y ≡ sets z 0 s → e ≡ entry_of (format_for version) y → e ≡ entry_of (format_for version) s
+  padded_entry version y e l q i = i ∙ ap (entry_of (format_for version)) q ∙ same_entry (sets z 0 s) s version (λ j k. padded_word j (omega arith))
 
 -- and from the part of a buffer that begins at byte `at`
 pub entry_from : (F : Format) (b : List ℕ) (at : ℕ) (e : Entry) → e ≡ entry_of F (take (length b - at) (drop at b)) → at ≤ length b → e ≡ entry_of F (drop at b)
@@ -390,12 +431,6 @@ few_entries b h =
     let l = leb-true (length (entries_in (format_in b) b)) 512 (sym (limit_for (word_at b 0) (entries_in (format_in b) b)) ∙ (room (format_in b) b h).few) in
     let n = length_entries (format_in b) b (count_in b) in
     omega arith
-
--- a part of a list of zeros
-pub zeros : (n i : ℕ) → ◌≡◌ {A = ℕ} (get_or (replicate n 0) i 0) 0
-zeros zero i = refl
-zeros (suc n) zero = refl
-zeros (suc n) (suc i) = zeros n i
 
 -- ---- restoring
 module _ (F : Format) (b : List ℕ) (k : ℕ) (found : List ℕ) where

@@ -1,13 +1,28 @@
 // What is asked for and answered about a record and the items of its frame.
+ghost use Rattle.std.specs.Prelude.{◌≡◌};
 ghost use Rattle.records.specs.Promises.{SpotKindOf};
+
+use book::items;
 
 // What a Channel or Histogram item says of the items that follow it; zeros before any. It has the shape of book's `Header`, and no prefix: a spot
 // may stand under an item of either class, and under none.
-#[derive(Clone, Copy, Debug, PartialEq, Eq)]
+#[derive(Clone, Copy, Debug, PartialEq, Eq, Default)]
 pub struct Header {
     pub card: u16,
     pub chip: u16,
     pub channel: u16,
+}
+
+impl<const PREFIX: u16> From<items::Header<PREFIX>> for Header {
+    ghost from_gives = { λ x h. h ≡ record { card = x.card; chip = x.chip; channel = x.channel } };
+
+    fn from(x: items::Header<PREFIX>) -> Header {
+        Header {
+            card: x.card,
+            chip: x.chip,
+            channel: x.channel,
+        }
+    }
 }
 
 // The kinds of item that may be corrected, by their number in an entry.

@@ -12,7 +12,7 @@ ghost use Rattle.records.specs.Promises.{EntrySized, EntryRead, EntryPut};
 use crate::answers::{Entry, Record, Stamp};
 use crate::scan::{long_in, word_in};
 use crate::values::{put_long, put_word};
-use book::words::{long, word};
+use book::words::copy;
 
 // The bytes of an entry in a record of that version.
 pub fn entry_size(version: u16) -> usize
@@ -48,22 +48,6 @@ fn stamp_in(s: &[u8], version: u16) -> Option<Stamp>
     })
 }
 
-// The same where what is past the end is 0.
-fn stamp_of(s: &[u8], version: u16) -> Option<Stamp>
-    ensures { view_stamp result ≡ (format_for version).read (drop 16 s.now) }
-{
-    if version == Record::FIRST_VERSION {
-        return None;
-    }
-    let low = long(s, Entry::TIME_WORD);
-    let high = word(s, Entry::TIME_WORD + 2);
-    let desk = word(s, Entry::DESK_WORD);
-    Some(Stamp {
-        time: joined(low, high),
-        desk,
-    })
-}
-
 // The entry that a slice begins with and has whole, in a record of that version.
 pub(crate) fn entry_in(s: &[u8], version: u16) -> Entry
     requires { size (format_for version) ≤ length s.now }
@@ -85,16 +69,9 @@ pub(crate) fn entry_in(s: &[u8], version: u16) -> Entry
 pub fn entry_of(s: &[u8], version: u16) -> Entry
     ensures { EntryRead s.now version result }
 {
-    let stamp = stamp_of(s, version);
-    Entry {
-        word: word(s, Entry::INDEX_WORD),
-        kind: word(s, Entry::KIND_WORD),
-        old: long(s, Entry::OLD_WORD),
-        new: long(s, Entry::NEW_WORD),
-        operator: word(s, Entry::OPERATOR_WORD),
-        reason: word(s, Entry::REASON_WORD),
-        stamp,
-    }
+    let mut whole = [0u8; Entry::SIZE];
+    copy(s, &mut whole);
+    entry_in(&whole, version)
 }
 
 // Stores a time in 6 bytes and a desk behind it, as far as there is room.

@@ -21,21 +21,11 @@ use book::refusal::{Fault, Refusal};
 use book::words::copy;
 use cursor::standing::item_at;
 
-// The lesser of two numbers.
-fn least(a: usize, b: usize) -> usize
-    ensures { (result ≤ a) × (result ≤ b) × (a ≤ b → result ≡ a) }
-{
-    if a <= b { a } else { b }
-}
-
 // The word noted for a word.
 fn head_at(map: &[u16], w: usize) -> u16
     ensures { result ≡ get_or map.now w 0 }
 {
-    if w < map.len() {
-        return map[w];
-    }
-    NONE
+    map.get(w).copied().unwrap_or(NONE)
 }
 
 // Operator 1 to 65,535, reason 1 to 5.
@@ -188,7 +178,7 @@ pub(crate) fn unwind_to(
     note_heads(frame, map);
     copy(frame, f);
     let h = Record::HEADER + frame.len();
-    let stop = least(k, n);
+    let stop = n.min(k);
     walk_back(f, map, b, version, h, n, stop)?;
     copy(f, kept);
     walk_back(f, map, b, version, h, stop, 0)

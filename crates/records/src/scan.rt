@@ -37,24 +37,14 @@ fn head_behind(item: Item, at: u16, head: u16) -> u16
     }
 }
 
-fn header(card: u16, chip: u16, channel: u16) -> Header
-    ensures { view_header result ≡ record { card = card; chip = chip; channel = channel } }
-{
-    Header {
-        card,
-        chip,
-        channel,
-    }
-}
-
 // What a header says; zeros of any other item.
 fn header_of(item: Item) -> Header
     ensures { view_header result ≡ spots.under spots.no_header (view_item item) }
 {
     match item {
-        Item::Channel(x) => header(x.card, x.chip, x.channel),
-        Item::Histogram(x) => header(x.card, x.chip, x.channel),
-        _ => header(0, 0, 0),
+        Item::Channel(x) => x.into(),
+        Item::Histogram(x) => x.into(),
+        _ => Header::default(),
     }
 }
 
@@ -63,7 +53,7 @@ pub(crate) fn header_at(f: &[u8], head: u16) -> Header
     ensures { view_header result ≡ header_at f.now head }
 {
     let Some(found) = item_at(f, head as usize) else {
-        return header(0, 0, 0);
+        return Header::default();
     };
     header_of(found.item)
 }
@@ -87,20 +77,12 @@ pub(crate) fn spot_of(item: Item, header: Header) -> Option<Spot>
     }
 }
 
-fn wide(x: u8) -> u16
-    ensures { (result ≡ x) × (result < 256) }
-{
-    x as u16
-}
-
 // The word at index i, which is there.
 pub(crate) fn word_in(s: &[u8], i: usize) -> u16
     requires { 2 * i + 1 < length s.now }
     ensures { result ≡ word_at s.now i }
 {
-    let low = wide(s[2 * i]);
-    let high = wide(s[2 * i + 1]);
-    low + 256 * high
+    u16::from_le_bytes([s[2 * i], s[2 * i + 1]])
 }
 
 // The number of 32 bits whose words at i and i + 1 are there.

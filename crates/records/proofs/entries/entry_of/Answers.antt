@@ -1,8 +1,13 @@
 -- `records::entries::entry_of` meets its contract.
 -- Assumes nothing.
-use Rattle.records.proofs.RecordLaws.{entry_read}
+use mathlib.Core.Path.{refl}
+use native.Mathlib.Omega.{arith}
+use lib.ListN.{replicate}
+use Rattle.records.proofs.RecordLaws.{size_small, zeros, padded_entry}
 use Rattle.records.proofs.entries.entry_of.Goals as goal
 
+pub entry_in-requires : goal.entry_in-requires
+entry_in-requires c = omega (arith, size_small c.args.version, c.copy.auto.dst)
+
 pub returns : goal.returns
-returns c =
-    entry_read _ _ _ _ _ _ _ _ _ c.word.ensures c.word-2.ensures c.long.ensures c.long-2.ensures c.word-3.ensures c.word-4.ensures c.stamp_of-stamp.ensures
+returns c = padded_entry _ (replicate 24 0) 24 refl (zeros 24) _ _ _ (omega arith) c.copy.ensures c.entry_in.ensures

@@ -17,7 +17,7 @@ walk_back-requires c = (
   undoing_start _ c.args.f.now _ c.requires.0.room c.copy.ensures c.requires.0.framed.accepted _ c.note_heads.ensures,
   ap (λ (n : ℕ). 16 + n) c.requires.0.framed.whole,
   omega (arith, c.requires.0.framed.whole, c.requires.0.framed.inside),
-  c.least-stop.ensures.1,
+  (let m = c.min-stop.ensures in omega arith),
 )
 
 pub returns-in_err-walk_back : goal.returns-in_err-walk_back
@@ -29,7 +29,7 @@ pub walk_back-requires-2 : goal.walk_back-requires-2
 walk_back-requires-2 c = (
   c.in_ok-walk_back.ensures.undoing refl,
   ap (λ (n : ℕ). 16 + n) c.requires.0.framed.whole,
-  fewer_inside (format_for c.args.version) c.args.b.now (16 + length c.args.frame.now) c.args.n _ (omega (arith, c.requires.0.framed.whole, c.requires.0.framed.inside)) c.least-stop.ensures.1,
+  fewer_inside (format_for c.args.version) c.args.b.now (16 + length c.args.frame.now) c.args.n _ (omega (arith, c.requires.0.framed.whole, c.requires.0.framed.inside)) (omega (arith, c.min-stop.ensures)),
   omega arith,
 )
 
@@ -37,5 +37,5 @@ pub returns : goal.returns
 returns c =
     let f = c.in_ok-walk_back.ensures in (
       same_history _ c.args.f.now _ c.requires.0.room c.copy.ensures _ _ _ (walked_all _ _ _ _ _ _ _ _ refl c.walk_back-2.ensures ∙ f.goes_on refl),
-      λ z h. kept_frame _ _ c.args.f.now _ c.args.kept.now _ _ _ _ _ _ c.requires.0.room c.copy.ensures c.requires.1 c.copy-2.ensures c.walk_back.auto.f (f.undoes refl) (c.least-stop.ensures.2 h),
+      λ z h. kept_frame _ _ c.args.f.now _ c.args.kept.now _ _ _ _ _ _ c.requires.0.room c.copy.ensures c.requires.1 c.copy-2.ensures c.walk_back.auto.f (f.undoes refl) (omega (arith, c.min-stop.ensures)),
     )
