@@ -1,7 +1,7 @@
 -- What the general promise of a header says at the two prefixes: the word, the fields and the value rules of a Channel and of a Histogram.
 -- Assumes nothing.
 use Prim.Native.Nat.{ℕ, ◌<◌}
-use mathlib.Core.Path.{◌≡◌, refl, sym, ◌∙◌}
+use mathlib.Core.Path.{◌≡◌, refl, ◌∙◌}
 use mathlib.Core.Bool.{Bool}
 use native.Mathlib.Omega.{arith}
 use lib.Bits.{bit_or}

@@ -1,7 +1,7 @@
 -- T39: no second result, function by function. Each theorem is over the promise that the function's contract names (specs/Promises.antt), so that
 -- a contract made weaker is refused here.
 -- Assumes nothing.
-use Prim.Native.Nat.{ℕ, ◌%◌, ◌≤◌}
+use Prim.Native.Nat.{ℕ, ◌%◌}
 use mathlib.Core.Path.{◌≡◌, refl, sym, ap, ◌∙◌}
 use native.Mathlib.Omega.{arith}
 use lib.Bits.{bit_or}

@@ -5,12 +5,12 @@ use mathlib.Core.Path.{◌≡◌, refl, sym, ap, ◌∙◌}
 use mathlib.Core.Bool.{Bool, true, false}
 use mathlib.Core.Logic.{◌↔◌}
 use mathlib.Core.List.{List, ◌++◌, map}
-use Prim.Native.Nat.{ℕ, zero, suc, ◌+◌, ◌*◌, ◌/◌, ◌%◌, ◌≤◌, ◌<◌}
+use Prim.Native.Nat.{ℕ, zero, suc, ◌+◌, ◌*◌, ◌/◌, ◌%◌, ◌<◌}
 use native.Mathlib.Nat.{add-zero, add-suc, suc-add, zero-add, le_of_suc-le-suc, not-suc-le-zero}
 use native.Mathlib.Omega.{arith}
 use lib.Dec.{eqb, ltb}
 use lib.ListN.{get_or, replicate}
-use borrow.Author.Tests.{eqb-true, eqb-false, ne_eqb, ltb-true, le-ltb}
+use borrow.Author.Tests.{eqb-true, eqb-false, ne_eqb, ltb-true}
 use Rattle.format.specs.Words.{pick}
 use Rattle.format.specs.Book.{Class, channel, histogram, hit_count, sample, bin, last_cell, time_bin, data_frame, monitor_frame, command_frame, text, start_event, continue_event, end_event, frame_end, unassigned, book, or_unassigned, class_of, row_of, class_at, assigned, page_range, Within}
 use Rattle.format.specs.Prefix.{find}
@@ -21,22 +21,6 @@ use Rattle.format.proofs.book.BookFigures.{row_stands}
 use Rattle.book.specs.Page.{named, low_byte, on_row, on_page, row_at, numbers, book_page}
 
 -- ---- what a row says
-
--- the number is none of those below n
-abbrev pub NoneBelow : ℕ → ℕ → Type 0
-NoneBelow row zero = Unit {0}
-NoneBelow row (suc n) = NoneBelow row n × (row ≡ n → ⊥)
-
-past_all : (row n : ℕ) → NoneBelow row n → n ≤ row
-past_all row zero h = omega arith
-past_all row (suc n) h =
-    let e : n ≤ row = past_all row n h.0 in
-    let d : row ≡ n → ⊥ = h.1 in
-    omega (arith, e, d)
-
--- a number that names no class leaves it to the low byte
-pub other_row : (row low : ℕ) → NoneBelow row named → class_of low ≡ on_row row low
-other_row row low h = rw (le-ltb row named (past_all row named h))
 
 -- each class is named
 row_below : (c : Class) → ltb (row_of c) named ≡ true

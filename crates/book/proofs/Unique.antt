@@ -7,7 +7,7 @@ use native.Mathlib.Omega.{arith}
 use lib.ListN.{get_or}
 use Rattle.std.specs.Prelude.{Option, Some, None, Result, Ok, Err}
 use Rattle.std.proofs.Math.Option as paper_option
-use Rattle.format.specs.Answers.{Outcome, accepted, refused}
+use Rattle.format.specs.Answers.{Outcome, accepted}
 use Rattle.format.specs.Book as paper
 use Rattle.format.specs.Book.{row_of}
 use Rattle.format.specs.Items as items

@@ -327,29 +327,14 @@ fn by_low_byte(low: u16) -> Class
     Class::Unassigned
 }
 
-// What a row says of a word with this low byte.
+// What a row says of a word with this low byte: it names the class whose number it holds.
 fn on_row(row: u8, low: u16) -> Class
     requires { low < 256 }
     ensures { view result ≡ on_row row low }
 {
-    match row {
-        NONE => Class::Unassigned,
-        CHANNEL => Class::Channel,
-        HISTOGRAM => Class::Histogram,
-        HIT_COUNT => Class::HitCount,
-        SAMPLE => Class::Sample,
-        BIN => Class::Bin,
-        LAST_CELL => Class::LastCell,
-        TIME_BIN => Class::TimeBin,
-        DATA_FRAME => Class::DataFrame,
-        MONITOR_FRAME => Class::MonitorFrame,
-        COMMAND_FRAME => Class::CommandFrame,
-        TEXT => Class::Text,
-        START_EVENT => Class::StartEvent,
-        END_EVENT => Class::EndEvent,
-        FRAME_END => Class::FrameEnd,
-        CONTINUE_EVENT => Class::ContinueEvent,
-        _ => by_low_byte(low),
+    match Class::try_from(row as u32) {
+        Ok(class) => class,
+        Err(_) => by_low_byte(low),
     }
 }
 
