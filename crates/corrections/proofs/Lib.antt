@@ -1,5 +1,4 @@
 pub mod front
-pub mod Relent
 pub mod Turns
 pub mod SinglyLaws
 pub mod MixedLaws

@@ -41,7 +41,13 @@ fn numbered(kind: SpotKind) -> u16
 }
 
 // The tests of an edit of an accepted record at an item of the kind with the value: 23, 24, 25, 12; to be read against the meaning's list of them.
-fn edit_tests(c: Correction, x: Record, kind: SpotKind, value: u32, room: usize) -> Result<(), Refusal>
+fn edit_tests(
+    c: Correction,
+    x: Record,
+    kind: SpotKind,
+    value: u32,
+    room: usize,
+) -> Result<(), Refusal>
     requires { x.total < 65536 }
     ensures { view_done result ≡ item_tests (asked c) (summary_of x) (view_spot_kind kind) value room }
 {
@@ -82,7 +88,13 @@ fn write_edit(buf: &mut [u8], c: Correction, x: Record, kind: SpotKind, value: u
 }
 
 // An edit of an accepted record at an item of the kind with the value.
-fn edit_value(buf: &mut [u8], c: Correction, x: Record, kind: SpotKind, value: u32) -> Result<(), Refusal>
+fn edit_value(
+    buf: &mut [u8],
+    c: Correction,
+    x: Record,
+    kind: SpotKind,
+    value: u32,
+) -> Result<(), Refusal>
     requires { Known version_two buf.old (summary_of x) × Holds buf.old c.word (view_spot_kind kind) value }
     ensures { Edited buf.old (asked c) (view_done result) buf.new }
 {

@@ -1,21 +1,28 @@
 -- `corrections::edit_all` meets its contract: each turn makes the correction at its position, which is what the list from there on begins with.
 -- Assumes nothing.
-use Rattle.std.proofs.Common.{ap, ◌∙◌, add-one-le}
+use Rattle.std.proofs.Common.{◌≡◌, ap, ◌∙◌, rules}
+use Rattle.std.proofs.lemmas.Result.{err_from_is_err_and}
+use Rattle.book.specs.Refusals.{number_of}
+use Rattle.book.proofs.Mapped.{as_accepted, as_refused}
 use Rattle.corrections.specs.Views.{view_corrected}
-use Rattle.corrections.proofs.Turns.{turn, through}
+use Rattle.corrections.proofs.Turns.{turn_made, turn_refused, through}
 use Rattle.corrections.proofs.edit_all.Goals as goal
 
-pub returns-in-Stopped : goal.returns-in-Stopped
-returns-in-Stopped c =
-    let t = turn _ _ _ _ _ _ c.loop-i-test.true c.in-Stopped.ensures in
-    record { answered = ap view_corrected c.in-Stopped.is ∙ t.0 ∙ c.loop-i.invariant.answered; left = t.1 ∙ c.loop-i.invariant.left }
+pub returns-in_err-map_err : goal.returns-in_err-map_err
+returns-in_err-map_err c =
+    let (q, e, l) = as_refused _ c.edit.result _ c.map_err.ensures.cases _ c.in_err-map_err.was in
+    let d : c.in_err-map_err.field-0.0 ≡ record { position = c.loop-position.position-counter; refusal = q } = search rules in
+    let p = err_from_is_err_and c.from_residual.result c.from_residual.ensures.1 in
+    let t = turn_refused _ _ _ _ _ c.loop-position-test.true (number_of q.fault) q.place (rw e at c.edit.ensures) in
+    rw (p.1, p.2, d) (record { answered = t.0 ∙ c.loop-position.invariant.answered; left = t.1 ∙ c.loop-position.invariant.left })
 
-pub loop-i-preserved : goal.loop-i-preserved
-loop-i-preserved c =
-    let t = turn _ _ _ _ _ _ c.loop-i-test.true c.in-Done.ensures in
-    record { in_list = add-one-le c.loop-i-test.true; answered = t.0 ∙ c.loop-i.invariant.answered; left = t.1 ∙ c.loop-i.invariant.left }
+pub loop-position-preserved : goal.loop-position-preserved
+loop-position-preserved c =
+    let e = as_accepted _ c.edit.result _ c.map_err.ensures.cases _ c.in_ok-map_err.was in
+    let t = turn_made _ _ _ _ _ c.loop-position-test.true (rw e at c.edit.ensures) in
+    record { answered = t.0 ∙ c.loop-position.invariant.answered; left = t.1 ∙ c.loop-position.invariant.left }
 
 pub returns : goal.returns
 returns c =
-    let t = through _ _ _ c.loop-i-test.false in
-    record { answered = t.0 ∙ c.loop-i.invariant.answered; left = t.1 ∙ c.loop-i.invariant.left }
+    let t = through _ _ _ c.loop-position-test.false in
+    record { answered = t.0 ∙ c.loop-position.invariant.answered; left = t.1 ∙ c.loop-position.invariant.left }
