@@ -1,8 +1,0 @@
--- `book::items::Sample::word` meets its contract: a field of the lowest bits below a head.
--- Assumes nothing.
-use mathlib.Core.Path.{refl}
-use Rattle.book.proofs.Bits.{low}
-use Rattle.book.proofs.items.Sample.word.Goals as goal
-
-pub returns : goal.returns
-returns c = low 12 _ 0x3000 refl

@@ -1,7 +1,0 @@
--- `book::items::Text::of_word` meets its contract: a mask of n ones is the remainder by 2 ^ n.
--- Assumes nothing.
-use lib.Bits.{and_mask}
-use Rattle.book.proofs.items.Text.of_word.Goals as goal
-
-pub returns : goal.returns
-returns c = and_mask _ 8

@@ -1,8 +1,0 @@
--- `book::items::Text::word` meets its contract: a field of the lowest bits below a head.
--- Assumes nothing.
-use mathlib.Core.Path.{refl}
-use Rattle.book.proofs.Bits.{low}
-use Rattle.book.proofs.items.Text.word.Goals as goal
-
-pub returns : goal.returns
-returns c = low 8 _ 0x0100 refl
