@@ -8,27 +8,27 @@ ghost use Rattle.questions.specs.Promises.{CountsAnswered};
 
 use crate::fill::{COUNTS, clear_counts, fill_counts};
 use crate::items::Items;
-use crate::scan::seek_histogram;
+use crate::scan::{Wanted, seek_histogram};
 use book::refusal::{Fault, Refusal};
 use rules::state::Kind;
 
 impl Items<'_> {
     // Where the bins of a histogram begin: only a monitor frame has histograms.
-    pub(crate) fn find_histogram(self, chip: u16, channel: u16) -> Option<usize>
-        ensures { HistogramSought self.entry.bytes.now chip channel result }
+    pub(crate) fn find_histogram(self, wanted: Wanted) -> Option<usize>
+        ensures { HistogramSought self.entry.bytes.now wanted.chip wanted.channel result }
     {
         if self.kind != Kind::Monitor {
             return None;
         }
-        seek_histogram(self.bytes, chip, channel)
+        seek_histogram(self.bytes, wanted)
     }
 
     // The counts of a histogram.
-    fn counts(self, chip: u16, channel: u16, out: &mut [u32]) -> Result<(), Refusal>
+    fn counts(self, wanted: Wanted, out: &mut [u32]) -> Result<(), Refusal>
         requires { 4096 ≤ length out.old }
-        ensures { Filling (present (past (is_histogram chip channel) (items_from self.entry.bytes.now 3))) counts_left out.old (view_filled result) out.new }
+        ensures { Filling (present (past (is_histogram wanted.chip wanted.channel) (items_from self.entry.bytes.now 3))) counts_left out.old (view_filled result) out.new }
     {
-        let at = self.find_histogram(chip, channel).ok_or(Fault::Absent)?;
+        let at = self.find_histogram(wanted).ok_or(Fault::Absent)?;
         clear_counts(out);
         fill_counts(self.bytes, at, out);
         Ok(())
@@ -44,5 +44,5 @@ pub fn counts(s: &[u8], chip: u16, channel: u16, out: &mut [u32]) -> Result<(), 
     if out.len() < COUNTS {
         return Err(Fault::Room.into());
     }
-    items.counts(chip, channel, out)
+    items.counts(Wanted { chip, channel }, out)
 }

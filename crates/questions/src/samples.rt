@@ -9,24 +9,24 @@ ghost use Rattle.questions.specs.Promises.{SamplesAnswered};
 use crate::event::inside_at;
 use crate::fill::{SAMPLES, clear_samples, fill_samples};
 use crate::items::Items;
-use crate::scan::seek_channel;
+use crate::scan::{Wanted, seek_channel};
 use book::refusal::{Fault, Refusal};
 
 impl Items<'_> {
     // Where the samples of a channel begin: behind its header, in event e.
-    pub(crate) fn find_channel(self, e: usize, chip: u16, channel: u16) -> Option<usize>
-        ensures { SamplesSought self.entry.bytes.now e chip channel result }
+    pub(crate) fn find_channel(self, e: usize, wanted: Wanted) -> Option<usize>
+        ensures { SamplesSought self.entry.bytes.now e wanted.chip wanted.channel result }
     {
         let at = self.find_event(e)?;
-        seek_channel(self.bytes, inside_at(self.bytes, at), chip, channel)
+        seek_channel(self.bytes, inside_at(self.bytes, at), wanted)
     }
 
     // The samples of a channel in an event.
-    fn samples(self, e: usize, chip: u16, channel: u16, out: &mut [u16]) -> Result<(), Refusal>
+    fn samples(self, e: usize, wanted: Wanted, out: &mut [u16]) -> Result<(), Refusal>
         requires { 512 ≤ length out.old }
-        ensures { Filling (channel_in e chip channel (items_from self.entry.bytes.now 3)) samples_left out.old (view_filled result) out.new }
+        ensures { Filling (channel_in e wanted.chip wanted.channel (items_from self.entry.bytes.now 3)) samples_left out.old (view_filled result) out.new }
     {
-        let at = self.find_channel(e, chip, channel).ok_or(Fault::Absent)?;
+        let at = self.find_channel(e, wanted).ok_or(Fault::Absent)?;
         clear_samples(out);
         fill_samples(self.bytes, at, out);
         Ok(())
@@ -43,5 +43,5 @@ pub fn samples(s: &[u8], e: usize, chip: u16, channel: u16, out: &mut [u16]) -> 
     if out.len() < SAMPLES {
         return Err(Fault::Room.into());
     }
-    items.samples(e, chip, channel, out)
+    items.samples(e, Wanted { chip, channel }, out)
 }

@@ -1,6 +1,6 @@
 // Scans over the items of an accepted frame, whose words are counted from the frame's first. A test of a word tells what most items are at once;
 // whatever it does not tell goes by the cursor, item by item.
-ghost use Rattle.std.specs.Prelude.{◌≡◌, ◌+◌, ◌*◌, ◌<◌, length};
+ghost use Rattle.std.specs.Prelude.{◌≡◌, ◌+◌, ◌*◌, ◌<◌, ◌&&◌, eqb, length};
 ghost use Rattle.format.specs.Words.{word_at, long_at};
 ghost use Rattle.format.specs.Rules.{data_kind, monitor_kind, gather};
 ghost use Rattle.format.specs.Cursor.{items_from};
@@ -10,7 +10,7 @@ ghost use Rattle.questions.specs.Views.{view_ended};
 ghost use Rattle.questions.specs.Sought.{Amid, opens_event, ends_event, is_header, EventSought, ChannelSought, HistogramSought};
 
 use book::class::Class;
-use book::items::{Channel, Histogram, Item};
+use book::items::{Channel, Header, Histogram, Item};
 use book::words::long;
 use cursor::item_at;
 
@@ -49,14 +49,30 @@ fn is_end(item: Item) -> bool
     matches!(item, Item::EndEvent(_))
 }
 
-// A Channel or a Histogram header of the chip and the channel. No frame has both.
-fn is_header(item: Item, chip: u16, channel: u16) -> bool
-    ensures { result ≡ is_header chip channel (view_item item) }
-{
-    match item {
-        Item::Channel(x) => (x.chip == chip) & (x.channel == channel),
-        Item::Histogram(x) => (x.chip == chip) & (x.channel == channel),
-        _ => false,
+// The channel of a chip that a question asks for, of whatever card.
+#[derive(Clone, Copy)]
+pub(crate) struct Wanted {
+    pub chip: u16,
+    pub channel: u16,
+}
+
+impl Wanted {
+    // The header is one of it.
+    fn is<const PREFIX: u16>(self, x: Header<PREFIX>) -> bool
+        ensures { result ≡ (eqb x.entry.chip self.chip && eqb x.entry.channel self.channel) }
+    {
+        (x.chip == self.chip) & (x.channel == self.channel)
+    }
+
+    // The item is a Channel or a Histogram header of it. No frame has both.
+    fn is_header(self, item: Item) -> bool
+        ensures { result ≡ is_header self.chip self.channel (view_item item) }
+    {
+        match item {
+            Item::Channel(x) => self.is(x),
+            Item::Histogram(x) => self.is(x),
+            _ => false,
+        }
     }
 }
 
@@ -109,9 +125,9 @@ pub(crate) fn end_size(s: &[u8], from: usize) -> Option<u32>
 }
 
 // Where the items behind a Channel header begin, of those before the first End event from here on.
-pub(crate) fn seek_channel(s: &[u8], from: usize, chip: u16, channel: u16) -> Option<usize>
+pub(crate) fn seek_channel(s: &[u8], from: usize, wanted: Wanted) -> Option<usize>
     requires { Amid s.now data_kind from }
-    ensures { ChannelSought s.now from chip channel result }
+    ensures { ChannelSought s.now from wanted.chip wanted.channel result }
 {
     let last = s.len() / 2 - 1;
     let mut at = from;
@@ -123,7 +139,7 @@ pub(crate) fn seek_channel(s: &[u8], from: usize, chip: u16, channel: u16) -> Op
         }
         if Class::CHANNEL <= w {
             let x = Channel::of_word(w);
-            if (x.chip == chip) & (x.channel == channel) {
+            if wanted.is(x) {
                 return Some(at + 1);
             }
             at += 1;
@@ -133,7 +149,7 @@ pub(crate) fn seek_channel(s: &[u8], from: usize, chip: u16, channel: u16) -> Op
         if is_end(x.item) {
             return None;
         }
-        if is_header(x.item, chip, channel) {
+        if wanted.is_header(x.item) {
             return Some(x.next);
         }
         at = x.next;
@@ -142,9 +158,9 @@ pub(crate) fn seek_channel(s: &[u8], from: usize, chip: u16, channel: u16) -> Op
 }
 
 // Where the items behind a Histogram header begin, of a monitor frame's items. No Channel stands in such a frame, nor Samples and Hit counts.
-pub(crate) fn seek_histogram(s: &[u8], chip: u16, channel: u16) -> Option<usize>
+pub(crate) fn seek_histogram(s: &[u8], wanted: Wanted) -> Option<usize>
     requires { Amid s.now monitor_kind 3 }
-    ensures { HistogramSought s.now chip channel result }
+    ensures { HistogramSought s.now wanted.chip wanted.channel result }
 {
     let last = s.len() / 2 - 1;
     let mut at: usize = FIRST;
@@ -156,14 +172,14 @@ pub(crate) fn seek_histogram(s: &[u8], chip: u16, channel: u16) -> Option<usize>
         }
         if Class::HISTOGRAM <= w {
             let x = Histogram::of_word(w);
-            if (x.chip == chip) & (x.channel == channel) {
+            if wanted.is(x) {
                 return Some(at + 1);
             }
             at += 1;
             continue;
         }
         let x = item_at(s, at)?;
-        if is_header(x.item, chip, channel) {
+        if wanted.is_header(x.item) {
             return Some(x.next);
         }
         at = x.next;

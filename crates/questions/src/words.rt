@@ -7,7 +7,7 @@ ghost use Rattle.questions.specs.Sought.{place_of, sample_word_in, bin_word_in};
 ghost use Rattle.questions.specs.Promises.{SampleWordAnswered, BinWordAnswered};
 
 use crate::items::Items;
-use crate::scan::word_in;
+use crate::scan::{Wanted, word_in};
 use book::class::Class;
 use book::items::{Bin, TimeBin};
 use book::refusal::{Fault, Refusal};
@@ -61,18 +61,18 @@ fn seek_bin(s: &[u8], from: usize, bin: u16) -> Option<usize>
 
 impl Items<'_> {
     // Behind the header of a channel in event e.
-    fn find_sample(self, e: usize, chip: u16, channel: u16, time: u16) -> Option<usize>
-        ensures { present (place_of result) ≡ sample_word_in (items_from self.entry.bytes.now 3) e chip channel time }
+    fn find_sample(self, e: usize, wanted: Wanted, time: u16) -> Option<usize>
+        ensures { present (place_of result) ≡ sample_word_in (items_from self.entry.bytes.now 3) e wanted.chip wanted.channel time }
     {
-        let at = self.find_channel(e, chip, channel)?;
+        let at = self.find_channel(e, wanted)?;
         seek_sample(self.bytes, at, time as usize)
     }
 
     // Behind the header of a histogram.
-    fn find_bin(self, chip: u16, channel: u16, bin: u16) -> Option<usize>
-        ensures { present (place_of result) ≡ bin_word_in (items_from self.entry.bytes.now 3) chip channel bin }
+    fn find_bin(self, wanted: Wanted, bin: u16) -> Option<usize>
+        ensures { present (place_of result) ≡ bin_word_in (items_from self.entry.bytes.now 3) wanted.chip wanted.channel bin }
     {
-        let at = self.find_histogram(chip, channel)?;
+        let at = self.find_histogram(wanted)?;
         seek_bin(self.bytes, at, bin)
     }
 }
@@ -83,7 +83,7 @@ pub fn sample_word(s: &[u8], e: usize, chip: u16, channel: u16, time: u16) -> Re
     ensures { SampleWordAnswered s.now e chip channel time result }
 {
     let items = Items::of(s)?;
-    items.find_sample(e, chip, channel, time).ok_or(Fault::Absent.into())
+    items.find_sample(e, Wanted { chip, channel }, time).ok_or(Fault::Absent.into())
 }
 
 // The word index of the Bin of a number, of the histogram of a chip and a channel. Refuses as `read` does, then 13 where there is no such histogram
@@ -92,5 +92,5 @@ pub fn bin_word(s: &[u8], chip: u16, channel: u16, bin: u16) -> Result<usize, Re
     ensures { BinWordAnswered s.now chip channel bin result }
 {
     let items = Items::of(s)?;
-    items.find_bin(chip, channel, bin).ok_or(Fault::Absent.into())
+    items.find_bin(Wanted { chip, channel }, bin).ok_or(Fault::Absent.into())
 }

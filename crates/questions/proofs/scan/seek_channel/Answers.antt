@@ -28,8 +28,8 @@ loop-at-preserved-then-w c = let v = c.loop-at.invariant in (v.0, seeking_one _ 
 pub overflow_add-result : goal.overflow_add-result
 overflow_add-result c = omega arith
 
-pub returns-then-x-chip : goal.returns-then-x-chip
-returns-then-x-chip c = let v = c.loop-at.invariant in seeking_hit _ _ _ _ _ v.1 (omega arith) _ c.word_in-w.ensures c.if-w-ge-CHANNEL.true _ c.of_word-x.ensures c.if-x-chip.true
+pub returns-then-is : goal.returns-then-is
+returns-then-is c = let v = c.loop-at.invariant in seeking_hit _ _ _ _ _ v.1 (omega arith) _ c.word_in-w.ensures c.if-w-ge-CHANNEL.true _ c.of_word-x.ensures (sym c.is.ensures ∙ c.if-is.true)
 
 pub overflow_add-at-then-w-ge-CHANNEL : goal.overflow_add-at-then-w-ge-CHANNEL
 overflow_add-at-then-w-ge-CHANNEL c = omega arith
@@ -38,7 +38,7 @@ pub loop-at-smaller-then-w-ge-CHANNEL : goal.loop-at-smaller-then-w-ge-CHANNEL
 loop-at-smaller-then-w-ge-CHANNEL c = omega arith
 
 pub loop-at-preserved-then-w-ge-CHANNEL : goal.loop-at-preserved-then-w-ge-CHANNEL
-loop-at-preserved-then-w-ge-CHANNEL c = let v = c.loop-at.invariant in (v.0, seeking_header _ _ _ _ _ v.1 (omega arith) _ c.word_in-w.ensures c.if-w-ge-CHANNEL.true _ c.of_word-x.ensures c.if-x-chip.false)
+loop-at-preserved-then-w-ge-CHANNEL c = let v = c.loop-at.invariant in (v.0, seeking_header _ _ _ _ _ v.1 (omega arith) _ c.word_in-w.ensures c.if-w-ge-CHANNEL.true _ c.of_word-x.ensures (sym c.is.ensures ∙ c.if-is.false))
 
 pub returns-then-is_end : goal.returns-then-is_end
 returns-then-is_end c = let v = c.loop-at.invariant in seeking_end _ _ _ _ _ v.1 _ _ c.in_ok-x.ensures (sym c.is_end.ensures ∙ c.if-is_end.true)

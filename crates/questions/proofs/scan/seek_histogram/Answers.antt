@@ -28,8 +28,8 @@ loop-at-preserved-then-w c = let v = c.loop-at.invariant in (v.0, seeking_bin _ 
 pub overflow_add-result : goal.overflow_add-result
 overflow_add-result c = omega arith
 
-pub returns-then-x-chip : goal.returns-then-x-chip
-returns-then-x-chip c = let v = c.loop-at.invariant in seeking_hit _ _ _ _ v.1 (omega arith) _ c.word_in-w.ensures c.if-w-ge-HISTOGRAM.true _ c.of_word-x.ensures c.if-x-chip.true
+pub returns-then-is : goal.returns-then-is
+returns-then-is c = let v = c.loop-at.invariant in seeking_hit _ _ _ _ v.1 (omega arith) _ c.word_in-w.ensures c.if-w-ge-HISTOGRAM.true _ c.of_word-x.ensures (sym c.is.ensures ∙ c.if-is.true)
 
 pub overflow_add-at-then-w-ge-HISTOGRAM : goal.overflow_add-at-then-w-ge-HISTOGRAM
 overflow_add-at-then-w-ge-HISTOGRAM c = omega arith
@@ -38,7 +38,7 @@ pub loop-at-smaller-then-w-ge-HISTOGRAM : goal.loop-at-smaller-then-w-ge-HISTOGR
 loop-at-smaller-then-w-ge-HISTOGRAM c = omega arith
 
 pub loop-at-preserved-then-w-ge-HISTOGRAM : goal.loop-at-preserved-then-w-ge-HISTOGRAM
-loop-at-preserved-then-w-ge-HISTOGRAM c = let v = c.loop-at.invariant in (v.0, seeking_header _ _ _ _ v.1 (omega arith) _ c.word_in-w.ensures c.if-w-ge-HISTOGRAM.true _ c.of_word-x.ensures c.if-x-chip.false)
+loop-at-preserved-then-w-ge-HISTOGRAM c = let v = c.loop-at.invariant in (v.0, seeking_header _ _ _ _ v.1 (omega arith) _ c.word_in-w.ensures c.if-w-ge-HISTOGRAM.true _ c.of_word-x.ensures (sym c.is.ensures ∙ c.if-is.false))
 
 pub returns-then-is_header : goal.returns-then-is_header
 returns-then-is_header c = let v = c.loop-at.invariant in seeking_found _ _ _ _ v.1 _ _ c.in_ok-x.ensures (sym c.is_header.ensures ∙ c.if-is_header.true)
