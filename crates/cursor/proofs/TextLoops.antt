@@ -4,13 +4,12 @@ use Prim.Native.Nat.{ℕ, zero, suc, ◌+◌, ◌-◌, ◌*◌, ◌%◌, ◌≤�
 use mathlib.Core.Path.{◌≡◌, refl, sym, ap, ◌∙◌}
 use mathlib.Core.List.{List, ◌∷◌}
 use mathlib.Core.Bool.{Bool, true, false, not, ◌&&◌}
-use native.Mathlib.Nat.{sub-zero}
 use native.Mathlib.Numerals.{add-one}
 use native.Mathlib.Omega.{arith}
 use lib.Dec.{leb, eqb}
 use lib.ListN.{length, get_or, take, drop, length-drop, drop_of_length-le}
 use lib.Seq.{drop-cons, length-take-le}
-use borrow.Author.Tests.{le-leb, eq-eqb, ne_eqb, lt-leb, leb-true, leb-false}
+use borrow.Author.Tests.{le-leb, eq-eqb, ne_eqb, leb-true, leb-false}
 use Rattle.format.specs.Words.{non_zero, all_zero}
 use Rattle.format.specs.Book.{text_words}
 use Rattle.format.specs.Items.{closed}
@@ -80,24 +79,6 @@ module _ (s : List ℕ) (n : ℕ) where
           let z : length s - 1 ≡ n = omega (arith, leb-false (length s) n q) in
           let g : b ≡ all_zero (drop n s) = f ∙ ap (λ (k : ℕ). eqb (get_or s k 0) 0) z ∙ sym (one_left (leb-false (length s) n q) m) in
           ap (λ (t : Bool). a && t) g ∙ sym whole
-
--- the bytes of the text whose word is w, or other ones
-module _ (s : List ℕ) (w : ℕ) where
-  pub other_long : (length s ≡ 2 * text_words w → ⊥) → TextClosed s w false
-  other_long h = rw (ne_eqb (length s) (2 * text_words w) h)
-
-  long : (b : Bool) → length s ≡ 2 * text_words w → b ≡ closed (w % 256) s → TextClosed s w b
-  long b h e = rw (eq-eqb (length s) (2 * text_words w) h) e
-
-  pub no_length : length s ≡ 2 * text_words w → w % 256 < 1 → TextClosed s w false
-  no_length h l = long false h (rw (lt-leb 1 (w % 256) l))
-
-  pub closed_by : (a b : Bool) (n : ℕ) → length s ≡ 2 * text_words w → n ≡ w % 256 → 1 ≤ n → a ≡ non_zero (take (n - 1 - 0) s) → b ≡ all_zero (drop (n - 1) s)
-      → TextClosed s w (a && b)
-  closed_by a b n h q l f g =
-      let e : non_zero (take (n - 1) s) ≡ a = ap (λ (k : ℕ). non_zero (take k s)) (sym (sub-zero (n - 1))) ∙ sym f in
-      let z : a && b ≡ closed n s = rw (le-leb 1 n l, e, sym g) refl in
-      long (a && b) h (z ∙ ap (λ (k : ℕ). closed k s) q)
 
 -- the part of some bytes in which a text's bytes stand has their length
 pub closed_there : (s : List ℕ) (at m w : ℕ) (t : Bool) → m ≡ text_words w → 2 * (at + 1 + m) ≤ length s

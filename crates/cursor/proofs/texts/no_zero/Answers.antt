@@ -1,11 +1,7 @@
 -- `cursor::texts::no_zero` meets its contract. The loop keeps: what was found so far, and the bytes that are left, make the answer.
 -- Assumes nothing.
-use mathlib.Core.Path.{refl}
 use Rattle.cursor.proofs.TextLoops.{more, none}
 use Rattle.cursor.proofs.texts.no_zero.Goals as goal
-
-pub loop-x-init : goal.loop-x-init
-loop-x-init c = refl
 
 pub loop-x-preserved : goal.loop-x-preserved
 loop-x-preserved c = more _ _ c.loop-x.good c.loop-x-test.true c.loop-x.invariant

@@ -12,21 +12,6 @@ use Rattle.cursor.proofs.standing.FirstWord.item.Goals as goal
 class_is : (r k : Class) (w : ℕ) → view r ≡ class_of w → r ≡ k → view k ≡ class_of w
 class_is r k w h e = ap view (sym e) ∙ h
 
-pub bin-requires : goal.bin-requires
-bin-requires c = class_is _ _ _ c.classify-class.ensures c.in-Bin.is
-
-pub text-requires : goal.text-requires
-text-requires c = class_is _ _ _ c.classify-class.ensures c.in-Text.is
-
-pub start_event-requires : goal.start_event-requires
-start_event-requires c = class_is _ _ _ c.classify-class.ensures c.in-StartEvent.is
-
-pub end_event-requires : goal.end_event-requires
-end_event-requires c = class_is _ _ _ c.classify-class.ensures c.in-EndEvent.is
-
-pub continue_event-requires : goal.continue_event-requires
-continue_event-requires c = class_is _ _ _ c.classify-class.ensures c.in-ContinueEvent.is
-
 pub returns-in-Channel : goal.returns-in-Channel
 returns-in-Channel c =
     let p = c.args.self.stands in
