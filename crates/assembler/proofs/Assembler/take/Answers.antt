@@ -20,7 +20,7 @@ returns-in_err-followed c =
     ap view_taken p.1 ∙ ap refusal p.2 ∙ read_accepted _ _ (λ i. (c.type_inv.frame i).fits) _ _ c.in_ok-f.ensures (follow_refused _ _ _ _ _ c.in_err-followed.ensures)
 
 pub invariant_of-link : goal.invariant_of-link
-invariant_of-link c = marks_reach _ (λ i. (c.type_inv.frame i).fits) _ (sym c.in_ok-f.ensures)
+invariant_of-link c = record { reach = marks_reach _ (λ i. (c.type_inv.frame i).fits) _ (sym c.in_ok-f.ensures) }
 
 pub returns : goal.returns
 returns c = read_accepted _ _ (λ i. (c.type_inv.frame i).fits) _ _ c.in_ok-f.ensures (c.link.ensures ∙ ap (linking_by _ _ _) c.in_ok-followed.ensures)
