@@ -1,7 +1,4 @@
 // The class of a word, by prefixes of varying length, tried shortest first; the page tells it.
-ghost use Rattle.std.specs.Prelude.{◌≡◌};
-ghost use Rattle.format.specs.Book.{after, text_words};
-ghost use Rattle.book.specs.Views.{view};
 ghost use Rattle.book.specs.Promises.{Classified, RowTold, ClassOf, TextLong, WordsAfter};
 
 use crate::page::{classify_on, page};
@@ -110,36 +107,14 @@ pub fn text_words(w: u16) -> u16
     (w & 0xFF) + 1 >> 1
 }
 
-// How many words come after a word of the class, where a text would have `text` of them: worked out before, since a call in an arm costs the proof
-// more. Every class has an arm; `_` would tell a proof only that it is none of the others.
-fn after_class(class: Class, w: u16, text: u16) -> u16
-    requires { text ≡ text_words w }
-    ensures { result ≡ after (view class) w }
-{
-    match class {
-        Class::Bin => 2,
-        Class::Text => text,
-        Class::StartEvent => 5,
-        Class::EndEvent => 2,
-        Class::ContinueEvent => 2,
-        Class::Channel => 0,
-        Class::Histogram => 0,
-        Class::HitCount => 0,
-        Class::Sample => 0,
-        Class::LastCell => 0,
-        Class::TimeBin => 0,
-        Class::DataFrame => 0,
-        Class::MonitorFrame => 0,
-        Class::CommandFrame => 0,
-        Class::FrameEnd => 0,
-        Class::Unassigned => 0,
-    }
-}
-
 // How many words come after a word as its own.
 pub fn words_after(w: u16) -> u16
     ensures { WordsAfter w result }
 {
-    let text = text_words(w);
-    after_class(classify(w), w, text)
+    match classify(w) {
+        Class::Bin | Class::EndEvent | Class::ContinueEvent => 2,
+        Class::Text => text_words(w),
+        Class::StartEvent => 5,
+        _ => 0,
+    }
 }
