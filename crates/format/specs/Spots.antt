@@ -14,7 +14,7 @@ pub record Header : Type 0 where
   pub chip : ℕ
   pub channel : ℕ
 
--- before any header; no Sample or Bin of an accepted frame stands there (proofs/SpotKeys.antt `spot_headed`)
+-- before any header; no Sample or Bin of an accepted frame stands there (proofs/spots/SpotKeys.antt `spot_headed`)
 abbrev pub no_header : Header
 no_header = record { card = 0; chip = 0; channel = 0 }
 

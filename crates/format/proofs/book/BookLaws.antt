@@ -1,4 +1,4 @@
--- T2. The house book is prefix_free, and each class is exactly its range of document 01's table.
+-- T2. The house book is prefix-free, and each class is exactly its range of document 01's table.
 -- Assumes nothing.
 use mathlib.Core.Path.{◌≡◌, refl, sym, ap, subst, ◌∙◌}
 use mathlib.Core.Logic.{◌↔◌}

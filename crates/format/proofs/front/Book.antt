@@ -51,7 +51,7 @@ module _ {A : Type 0} (t : List (Row A)) (free : prefix_free t ≡ true) where
 pub book_prefix_free : prefix_free book ≡ true
 book_prefix_free = ranges.book_free
 
--- Each class has exactly the words of its printed range (specs/Book, `printed`), for every word,
+-- Each class has exactly the words of its printed range (specs/Book, `page_range`), for every word,
 pub book_ranges : (w : ℕ) (c : Class) → assigned c ≡ true → (class_of w ≡ c) ↔ Within w (page_range c)
 book_ranges = table.class_range
 

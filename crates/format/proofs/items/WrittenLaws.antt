@@ -93,7 +93,7 @@ content_cut x f = cut_packed (widths (class_for x)) (nth (row_for x)).prefix (co
 same_whole : (x y : Item) (a b : List Token) → whole x ∷ a ≡ whole y ∷ b → x ≡ y
 same_whole x y a b e = cc
 
--- T4, prefix_free: of two items whose words begin one list neither begins the other, unless they are one
+-- T4, prefix-free: of two items whose words begin one list neither begins the other, unless they are one
 pub words_prefix_free : (x y : Item) (a b : List ℕ) → fits x ≡ true → fits y ≡ true → words_of x ++ a ≡ words_of y ++ b → (x ≡ y) × (a ≡ b)
 words_prefix_free x y a b f g e =
     let i = same_whole x y _ _ (sym (read_written x a f) ∙ ap (tokens 0) e ∙ read_written y b g) in
