@@ -37,18 +37,21 @@ use Rattle.ledger.proofs.records.Headers.{header_words}
 use Rattle.ledger.proofs.plane.VersionLaws.{limit_is, for_one, for_other, for_which, for_lawful}
 use Rattle.ledger.proofs.records.Judging.{verdict_parts, parts_verdict, frame_refused}
 use Rattle.std.proofs.Common.{Result, Ok, Err}
-use Rattle.std.specs.Prelude.{⊤, is_ok, IsErrAnd}
+use Rattle.std.specs.Prelude.{⊤, is_ok, IsErrAnd, MatchResult}
 use Rattle.book.specs.Refusals.{number_of}
 use Rattle.book.specs.declared.refusal.Refusal.{Refusal}
 use Rattle.book.specs.Views.{refusal}
 use Rattle.records.specs.Views.{unfit, framed_answer, history_judged}
-use Rattle.records.specs.Undoing.{Framed, Kept}
+use Rattle.records.specs.Undoing.{Framed, Kept, HistoryIn}
 
 -- ---- what a `?` passes on
 
 pub passed_on : {A : Type 0} (r : Result A Refusal) (e : Refusal) → IsErrAnd r (λ (q : Refusal). q ≡ e) → r ≡ Err e
 passed_on (Ok x) e i = absurd i
 passed_on (Err q) e i = ap Err i
+
+pub passed_by : {A : Type 0} (P : A → Type 0) (Q : Refusal → Type 0) (r : Result A Refusal) (e : Refusal) → IsErrAnd r (λ (q : Refusal). q ≡ e) → Q e → MatchResult r P Q
+passed_by P Q r e i q = subst (λ (r : Result _ Refusal). MatchResult r P Q) (sym (passed_on r e i)) q
 
 -- ---- the tests of the code, as the rules have them
 
@@ -275,22 +278,12 @@ framed_known F b x e = go (header_right F b) refl (plane_frames.judge (frame_in 
         let i = inner x (record { length = length_in b; count = count_in b; total = total_in F b }) (e ∙ rw (h, q)) in
         record { header = h; judged = q; length = ap (λ (y : Summary). y.length) i; count = ap (λ (y : Summary). y.count) i; total = ap (λ (y : Summary). y.total) i }
 
-module _ (F : Format) (b : List ℕ) (x : Summary) (k : FramedKnown F b x) where
-  frame_lent : take (16 + x.length - 16) (drop 16 b) ≡ frame_in b
-  frame_lent = frame_part b x.length k.length
-
-  pub framed_part : Bytes b → Framed F (take (16 + x.length - 16) (drop 16 b)) b x.count
-  framed_part y =
-      let r = room F b k.header in
-      subst (λ (f : List ℕ). Framed F f b x.count) (sym frame_lent)
-      (record {
-        accepted = record { bytes = frame_bytes b y; judged = k.judged };
-        whole = r.frame;
-        inside = rw k.count r.within;
-      })
-
-  pub part_inside : 16 + x.length ≤ length b
-  part_inside = let r = (room F b k.header).within in let l = k.length in omega arith
+-- the history of a record whose header and frame are right
+pub history_framed : (b : List ℕ) → Bytes b → header_right (format_in b) b ≡ true → plane_frames.judge (frame_in b) ≡ accepted tt → (version n : ℕ) (f : List ℕ) → version ≡ word_at b 0 → n ≡ count_in b → f ≡ frame_in b
+    → Framed (format_for version) f b n
+history_framed b y h j version n f v e q =
+    let r = room (format_in b) b h in
+    rw (v, e, q) (record { accepted = record { bytes = frame_bytes b y; judged = j }; whole = r.frame; inside = r.within })
 
 pub record_refused : (F : Format) (b : List ℕ) (n p : ℕ) → refused n p ≡ framed_answer F b → refused n p ≡ record_answer plane_frames F b
 unfolding record_answer
@@ -307,8 +300,6 @@ module _ (F : Format) (b : List ℕ) (w : ℕ) where
   unfolding judged_at history_judged
   right_frame h j len n total el en et f ef o eo = eo ∙ rw (parts_verdict plane_frames F b h j, et, ef, el, en)
 
-  pub judged_framed : (x : Summary) → FramedKnown F b x → (o : Outcome Judged) → o ≡ history_judged F (take (16 + x.length - 16) (drop 16 b)) b x w → o ≡ judged_at plane_frames F b w
-  judged_framed x k o e = right_frame k.header k.judged x.length x.count x.total k.length k.count k.total (take (16 + x.length - 16) (drop 16 b)) (frame_lent F b x k) o e
 
   -- the record's answer is what is told, without what stands at the word
   judged_told : and_then (judged_at plane_frames F b w) (λ j. accepted (lengths j)) ≡ record_answer plane_frames F b
@@ -324,6 +315,12 @@ module _ (F : Format) (b : List ℕ) (w : ℕ) where
 
   pub record_told : (o : Outcome Judged) → o ≡ judged_at plane_frames F b w → and_then o (λ j. accepted (lengths j)) ≡ record_answer plane_frames F b
   record_told o e = ap (λ (i : Outcome Judged). and_then i (λ j. accepted (lengths j))) e ∙ judged_told
+
+-- by the history of the record
+pub judged_history : (b : List ℕ) (w : ℕ) (x : Summary) (buf f : List ℕ) (version : ℕ) → HistoryIn b x buf f version → (o : Outcome Judged) → o ≡ history_judged (format_for version) f buf x w → o ≡ judged_at plane_frames (format_in b) b w
+judged_history b w x buf f version h o e =
+    let k = framed_known (format_in b) b x h.answered in
+    right_frame (format_in b) b w k.header k.judged x.length x.count x.total k.length k.count k.total f h.part o (rw (h.first, h.lent) at e)
 
 -- the walk back over the entries, and what stands at the word
 module _ (F : Format) (f b : List ℕ) (x : Summary) (w : ℕ) where
@@ -449,13 +446,16 @@ module _ (F : Format) (b : List ℕ) (k : ℕ) (found : List ℕ) where
       go true p false q = rw (e, p, q)
       go true p true q = rw (e, p, q)
 
-module _ (b : List ℕ) (x : Summary) (f : FramedKnown (format_in b) b x) (k : ℕ) (found exit : List ℕ) (version : ℕ) (v : version ≡ word_at b 0)
-    (done : Result ⊤ Refusal) (t : Kept (format_for version) (take (16 + x.length - 16) (drop 16 b)) b x.count k found done exit) where
+module _ (b : List ℕ) (x : Summary) (buf frame : List ℕ) (version : ℕ) (h : HistoryIn b x buf frame version) (k : ℕ) (found exit : List ℕ)
+    (done : Result ⊤ Refusal) (t : Kept (format_for version) frame buf x.count k found done exit) where
+  f : FramedKnown (format_in b) b x
+  f = framed_known (format_in b) b x h.answered
+
+  lent : Kept (format_in b) (frame_in b) b (count_in b) k found done exit
+  lent = rw (h.first, h.lent, h.part, f.count) at t
+
   history : unfit done ≡ history_verdict plane_frames (format_in b) (frame_in b) (entries_in (format_in b) b)
-  history =
-      t.verdict
-      ∙ ap₂ (λ (F : Format) (g : List ℕ). history_verdict plane_frames F g (entries_to F b x.count)) (ap format_for v) (frame_lent (format_in b) b x f)
-      ∙ ap (λ (n : ℕ). history_verdict plane_frames (format_in b) (frame_in b) (entries_to (format_in b) b n)) f.count
+  history = lent.verdict
 
   verdict_is : record_verdict plane_frames (format_in b) b ≡ unfit done
   verdict_is = parts_verdict plane_frames (format_in b) b f.header f.judged ∙ sym history
@@ -478,7 +478,7 @@ module _ (b : List ℕ) (x : Summary) (f : FramedKnown (format_in b) b x) (k : �
 
   told : exit ≡ pick ((is_ok done && leb k (count_in b)) && leb (length_in b) (length found)) (sets found 0 (restored plane_frames (format_in b) b k)) found
   unfolding restored
-  told = rw (v, frame_lent (format_in b) b x f, f.count, (room (format_in b) b f.header).frame) at t.left
+  told = rw (room (format_in b) b f.header).frame at lent.left
 
   pub kept_left : exit ≡ restore_exit plane_frames (format_in b) b k found
   kept_left = go done refl

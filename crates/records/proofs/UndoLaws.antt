@@ -53,7 +53,7 @@ use Rattle.records.specs.declared.answers.SpotKind.TheVariants as kinds
 use Rattle.records.specs.Views.{view_spot_kind, unfit}
 use Rattle.records.specs.Sound.{sound_at, left_by}
 use Rattle.records.specs.Stored.{stored, Inside}
-use Rattle.records.specs.Undoing.{Heads, Undoing, Walked, Kept}
+use Rattle.records.specs.Undoing.{Heads, Undoing, Framed, Walked, Kept}
 use Rattle.records.proofs.RecordLaws.{entry_from}
 
 -- the words of an item that stands there lie in the frame
@@ -272,11 +272,13 @@ pub record Lies (F : Format) (b : List ℕ) (h p s : ℕ) : Type 0 where
   pub begins : h + s * p ≡ 16 + length_in b + size F * p
   pub whole : h + s * p + size F ≤ length b
 
-pub lies : (F : Format) (b : List ℕ) (h n p s : ℕ) → h ≡ 16 + length_in b → h + size F * n ≤ length b → s ≡ size F → p < n → Lies F b h p s
-lies F b h n p s e r z k =
+pub lies : (F : Format) (frame b : List ℕ) (n p s : ℕ) → Framed F frame b n → s ≡ size F → p < n → Lies F b (16 + length frame) p s
+lies F frame b n p s t z k =
     let a = mul-suc (size F) p in
     let w : size F * suc p ≤ size F * n = mul-le-mul (let g : size F ≤ size F = omega arith in g) k in
-    record { begins = rw (z, e); whole = rw z (let g : h + size F * p + size F ≤ length b = omega arith in g) }
+    let e = t.whole in
+    let r = t.inside in
+    record { begins = rw (z, e); whole = rw z (let g : 16 + length frame + size F * p + size F ≤ length b = omega arith in g) }
 
 module _ (F : Format) (f b : List ℕ) (e : Entry) where
   pub turn_back : (m at : ℕ) → 0 < m → e ≡ entry_of F (take (length b - at) (drop at b)) → at ≤ length b → at ≡ 16 + length_in b + size F * (m - 1) → fits plane_frames F f e ≡ true → (g : List ℕ) → g ≡ before plane_frames f e
@@ -346,12 +348,6 @@ module _ (frame found g : List ℕ) (l : length found ≡ length frame) (e : g �
 
   pub same_history : (F : Format) (es : List Entry) (o : Done) → o ≡ history_verdict plane_frames F g es → o ≡ history_verdict plane_frames F frame es
   same_history F es o q = q ∙ ap (λ (s : List ℕ). history_verdict plane_frames F s es) copied
-
--- fewer entries lie in the buffer too
-pub fewer_inside : (F : Format) (b : List ℕ) (h n k : ℕ) → h + size F * n ≤ length b → k ≤ n → h + size F * k ≤ length b
-fewer_inside F b h n k r l =
-    let m : size F * k ≤ size F * n = mul-le-mul (let g : size F ≤ size F = omega arith in g) l in
-    omega arith
 
 -- the frame on the way, kept: a copy of a copy of the frame with the newer entries undone
 pub kept_frame : (F : Format) (frame f g₀ kept kept' g b : List ℕ) (n k stop : ℕ) → length f ≡ length frame → g₀ ≡ sets f 0 frame → length kept ≡ length frame → kept' ≡ sets kept 0 g

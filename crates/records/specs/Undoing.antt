@@ -3,16 +3,18 @@
 -- Assumes nothing.
 use Rattle.std.specs.Prelude.{ℕ, ◌+◌, ◌-◌, ◌*◌, ◌≤◌, ◌≡◌, ◌&&◌, List, leb, length, get_or, take, Result, Err, is_ok, IsOk, ⊤}
 use Rattle.std.proofs.lemmas.List.Edits.{sets}
-use Rattle.format.specs.Words.{pick}
+use Rattle.format.specs.Words.{pick, word_at}
+use Rattle.format.specs.Answers.{accepted}
 use Rattle.format.specs.Scans.{head}
 use Rattle.ledger.specs.Frames.{Accepted}
 use Rattle.ledger.specs.Formats.{Format, size}
-use Rattle.ledger.specs.Records.{length_in, entries_to, history_verdict}
-use Rattle.ledger.specs.Calls.{undone}
+use Rattle.ledger.specs.Records.{length_in, frame_in, entries_to, history_verdict}
+use Rattle.ledger.specs.Calls.{Summary, undone}
+use Rattle.ledger.specs.Versions.{format_in}
 use Rattle.ledger.specs.PlaneFrames.{plane_frames}
 use Rattle.book.specs.declared.refusal.Refusal.{Refusal}
 use Rattle.book.specs.Views.{refusal}
-use Rattle.records.specs.Views.{unfit}
+use Rattle.records.specs.Views.{unfit, framed_answer}
 
 -- at each word where an item begins the word of the header that it stands under, 0 elsewhere
 abbrev pub Heads : List ℕ → List ℕ → Type 0
@@ -28,12 +30,18 @@ pub record Framed (F : Format) (frame b : List ℕ) (n : ℕ) : Type 0 where
   pub whole : length frame ≡ length_in b
   pub inside : 16 + length_in b + size F * n ≤ length b
 
--- with room for a copy of it, and a map of zeros
-pub record Unwinding (F : Format) (frame f map b : List ℕ) (n : ℕ) : Type 0 where
-  pub framed : Framed F frame b n
-  pub room : length f ≡ length frame
+-- room for a copy of it, and a map of zeros
+pub record Room (frame f map : List ℕ) : Type 0 where
+  pub copy : length f ≡ length frame
   pub long : 4096 ≤ length map
   pub zeros : (i : ℕ) → get_or map i 0 ≡ 0
+
+-- the history of the record in b: a buffer, the frame in it, and the version
+pub record HistoryIn (b : List ℕ) (x : Summary) (buf frame : List ℕ) (version : ℕ) : Type 0 where
+  pub answered : accepted x ≡ framed_answer (format_in b) b
+  pub lent : buf ≡ b
+  pub part : frame ≡ frame_in b
+  pub first : version ≡ word_at b 0
 
 -- the entries from number n down to number k + 1, undone in f, which left g: the history is refused as the first that does not fit says, or each
 -- fits, and what the older ones are judged by is g

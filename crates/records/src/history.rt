@@ -1,25 +1,27 @@
 // The history of a record: its entries, tested and undone from the newest back on a copy of the frame.
-ghost use Rattle.std.specs.Prelude.{◌≡◌, ◌&&◌, ℕ, ◌+◌, ◌-◌, ◌*◌, ◌≤◌, length, get_or, take, IsOk};
+ghost use Rattle.std.specs.Prelude.{◌≡◌, ◌&&◌, ℕ, ◌+◌, ◌-◌, ◌*◌, ◌≤◌, length, get_or, take, IsOk, MatchResult};
 ghost use Rattle.ledger.specs.Frames.{Accepted};
-ghost use Rattle.ledger.specs.Formats.{size};
-ghost use Rattle.ledger.specs.Records.{length_in, entries_to, fits, history_verdict};
+ghost use Rattle.ledger.specs.Records.{entries_to, fits, history_verdict};
 ghost use Rattle.ledger.specs.Calls.{undone};
-ghost use Rattle.ledger.specs.Versions.{format_for};
+ghost use Rattle.ledger.specs.Versions.{format_for, format_in};
 ghost use Rattle.ledger.specs.PlaneFrames.{plane_frames};
 ghost use Rattle.format.specs.Spots as spots;
-ghost use Rattle.records.specs.Views.{view_spot, view_spot_kind, view_stamp, as_entry, unfit};
+ghost use Rattle.book.specs.Views.{refusal};
+ghost use Rattle.records.specs.Views.{view_spot, view_spot_kind, view_stamp, as_entry, summary_of, unfit, framed_answer};
 ghost use Rattle.records.specs.Sound.{sound_at, left_by};
-ghost use Rattle.records.specs.Undoing.{Heads, Undoing, Unwinding, Walked};
+ghost use Rattle.records.specs.Undoing.{Heads, Undoing, Framed, Room, Walked, HistoryIn};
 ghost use Rattle.records.specs.Promises.{SignedBy};
 
 use crate::answers::{Entry, Record, Spot, SpotKind, Stamp};
 use crate::entries::{entry_in, entry_size};
+use crate::header::header_right;
 use crate::scan::{NONE, header_at, item_noted, note_heads, spot_of};
 use crate::values::{legal, put_in};
 use book::items::Item;
 use book::refusal::{Fault, Refusal};
-use book::words::copy;
-use cursor::standing::item_at;
+use book::words::{copy, word};
+use cursor::item_at;
+use frame::reading::read;
 
 // The word noted for a word.
 fn head_at(map: &[u16], w: usize) -> u16
@@ -117,69 +119,95 @@ pub(crate) fn spot_noted(f: &[u8], map: &[u16], w: usize) -> Option<Spot>
     spot_of(found.item, header)
 }
 
-// The entries from number n down to number k + 1, undone in f; refused by 21 with the number of the newest that does not fit. The history begins at
-// byte h.
-fn walk_back(
-    f: &mut [u8],
-    map: &[u16],
-    b: &[u8],
-    version: u16,
-    h: usize,
-    n: usize,
-    k: usize,
-) -> Result<(), Refusal>
-    requires { Undoing map.now f.old × (h ≡ 16 + length_in b.now) × (h + size (format_for version) * n ≤ length b.now) × (k ≤ n) }
-    ensures { Walked (format_for version) map.now f.old b.now n k result f.new }
-{
-    let size = entry_size(version);
-    for m in (k..n).rev() {
-        let at = h + size * m;
-        let e = entry_in(&b[at..], version);
-        if !entry_fits(f, map, e, version) {
-            return Err(Fault::Entry.at(m + 1));
+// The history of a record whose header and frame are right: the buffer that begins with the record, the frame in it, the version, which says how long
+// an entry is, and the lengths and the count that the header gives.
+#[derive(Clone, Copy)]
+pub(crate) struct History<'a> {
+    pub buf: &'a [u8],
+    pub frame: &'a [u8],
+    pub version: u16,
+    pub lengths: Record,
+    ghost framed: { Framed (format_for version) frame.now buf.now lengths.count },
+}
+
+impl History<'_> {
+    // The header and the frame of a record: refused, or its history, with no entry tested. Both versions are judged here: the version word says how long
+    // an entry is.
+    pub(crate) fn of(buf: &[u8]) -> Result<History<'_>, Refusal>
+        ensures { MatchResult result (λ h. HistoryIn buf.entry.now (summary_of h.lengths) h.buf.now h.frame.now h.version) (λ r. refusal r ≡ framed_answer (format_in buf.entry.now) buf.entry.now) }
+    {
+        if !header_right(buf) {
+            return Err(Fault::Header.into());
         }
-        put_in(f, e.kind, e.word as usize, e.old);
+        let length = word(buf, Record::LENGTH_WORD) as usize;
+        let count = word(buf, Record::COUNT_WORD) as usize;
+        let total = word(buf, Record::TOTAL_WORD) as usize;
+        let version = word(buf, Record::VERSION_WORD);
+        let start = Record::HEADER;
+        let end = start + length;
+        let frame = &buf[start..end];
+        read(frame)?;
+        let lengths = Record {
+            length,
+            count,
+            total,
+        };
+        Ok(History {
+            buf,
+            frame,
+            version,
+            lengths,
+        })
     }
-    Ok(())
-}
 
-// The same of all entries over a copy of the frame, made in f, with its headers noted in a map of zeros. A copy and not the frame itself: the frame is
-// lent to be read only and a refused call changes nothing, but each entry is judged on the frame as it stood before the newer ones were made.
-pub(crate) fn unwind(
-    f: &mut [u8],
-    map: &mut [u16],
-    frame: &[u8],
-    b: &[u8],
-    version: u16,
-    n: usize,
-) -> Result<(), Refusal>
-    requires { Unwinding (format_for version) frame.now f.old map.old b.now n }
-    ensures { (unfit result ≡ history_verdict plane_frames (format_for version) frame.now (entries_to (format_for version) b.now n)) × Heads frame.now map.new }
-{
-    note_heads(frame, map);
-    copy(frame, f);
-    walk_back(f, map, b, version, Record::HEADER + frame.len(), n, 0)
-}
+    // The entries from number n down to number k + 1, undone in f; refused by 21 with the number of the newest that does not fit.
+    fn walk_back(self, f: &mut [u8], map: &[u16], n: usize, k: usize) -> Result<(), Refusal>
+        requires { Undoing map.now f.old × (k ≤ n) × (n ≤ self.lengths.count) }
+        ensures { Walked (format_for self.entry.version) map.now f.old self.entry.buf.now n k result f.new }
+    {
+        let b = self.buf;
+        let version = self.version;
+        let h = Record::HEADER + self.frame.len();
+        let size = entry_size(version);
+        for m in (k..n).rev() {
+            let at = h + size * m;
+            let e = entry_in(&b[at..], version);
+            if !entry_fits(f, map, e, version) {
+                return Err(Fault::Entry.at(m + 1));
+            }
+            put_in(f, e.kind, e.word as usize, e.old);
+        }
+        Ok(())
+    }
 
-// The same, and the frame as it stood after the first k entries, where there are so many, kept on the way: no entry is undone twice.
-pub(crate) fn unwind_to(
-    f: &mut [u8],
-    map: &mut [u16],
-    kept: &mut [u8],
-    frame: &[u8],
-    b: &[u8],
-    version: u16,
-    n: usize,
-    k: usize,
-) -> Result<(), Refusal>
-    requires { Unwinding (format_for version) frame.now f.old map.old b.now n × (length kept.old ≡ length frame.now) }
-    ensures { (unfit result ≡ history_verdict plane_frames (format_for version) frame.now (entries_to (format_for version) b.now n)) × (IsOk result → k ≤ n → kept.new ≡ undone plane_frames frame.now (take (n - k) (entries_to (format_for version) b.now n))) }
-{
-    note_heads(frame, map);
-    copy(frame, f);
-    let h = Record::HEADER + frame.len();
-    let stop = n.min(k);
-    walk_back(f, map, b, version, h, n, stop)?;
-    copy(f, kept);
-    walk_back(f, map, b, version, h, stop, 0)
+    // The same of all entries over a copy of the frame, made in f, with its headers noted in a map of zeros. A copy and not the frame itself: the frame is
+    // lent to be read only and a refused call changes nothing, but each entry is judged on the frame as it stood before the newer ones were made.
+    pub(crate) fn unwind(self, f: &mut [u8], map: &mut [u16]) -> Result<(), Refusal>
+        requires { Room self.frame.now f.old map.old }
+        ensures { (unfit result ≡ history_verdict plane_frames (format_for self.entry.version) self.entry.frame.now (entries_to (format_for self.entry.version) self.entry.buf.now self.entry.lengths.count)) × Heads self.entry.frame.now map.new }
+    {
+        note_heads(self.frame, map);
+        copy(self.frame, f);
+        self.walk_back(f, map, self.lengths.count, 0)
+    }
+
+    // The same, and the frame as it stood after the first k entries, where there are so many, kept on the way: no entry is undone twice.
+    pub(crate) fn unwind_to(
+        self,
+        f: &mut [u8],
+        map: &mut [u16],
+        kept: &mut [u8],
+        k: usize,
+    ) -> Result<(), Refusal>
+        requires { Room self.frame.now f.old map.old × (length kept.old ≡ length self.frame.now) }
+        ensures { (unfit result ≡ history_verdict plane_frames (format_for self.entry.version) self.entry.frame.now (entries_to (format_for self.entry.version) self.entry.buf.now self.entry.lengths.count)) × (IsOk result → k ≤ self.entry.lengths.count → kept.new ≡ undone plane_frames self.entry.frame.now (take (self.entry.lengths.count - k) (entries_to (format_for self.entry.version) self.entry.buf.now self.entry.lengths.count))) }
+    {
+        note_heads(self.frame, map);
+        copy(self.frame, f);
+        let n = self.lengths.count;
+        let stop = n.min(k);
+        self.walk_back(f, map, n, stop)?;
+        copy(f, kept);
+        self.walk_back(f, map, stop, 0)
+    }
 }

@@ -15,7 +15,7 @@ ghost use Rattle.records.specs.Undoing.{Heads};
 use crate::answers::{Header, Spot, SpotKind};
 use book::class::Class;
 use book::items::{Bin, Item, Sample};
-use cursor::standing::{FoundItem, item_at};
+use cursor::{FoundItem, item_at};
 
 // The index of a frame's first item.
 const FIRST: usize = 3;
