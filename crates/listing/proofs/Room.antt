@@ -10,6 +10,8 @@ use native.Mathlib.Omega.{arith}
 use lib.Dec.{leb, ltb, eqb}
 use lib.ListN.{length, drop, length-append, length-take}
 use borrow.Author.Tests.{leb-true, leb-false, ltb-true, ltb-false, le-leb}
+use Rattle.std.specs.Prelude.{Result, Ok, Err}
+use Rattle.std.specs.Result.{IsOk}
 use Rattle.format.specs.Words.{pick, Bytes, word_at, long_at, time_at}
 use Rattle.format.specs.Answers.{Outcome, Done, accepted, refused, and_then}
 use Rattle.format.specs.Items.{Item}
@@ -36,7 +38,9 @@ use Rattle.records.proofs.RecordLaws.{frame_bytes}
 use Rattle.listing.specs.Ascii.{ascii}
 use Rattle.listing.specs.Text.{decimal, hex}
 use Rattle.listing.specs.Listing.{letter, kind_text, frame_line, change_text, time_text, signer_text, entry_line, end_line, refused_line, entry_lines, frame_of, listing_of, listing, listing_answer}
+use Rattle.book.specs.declared.refusal.Refusal.{Refusal}
 use Rattle.listing.specs.Promises.{Listed}
+use Rattle.listing.specs.Views.{view_listing}
 use Rattle.listing.proofs.Decimals.{decimal_small, decimal_large}
 use Rattle.listing.proofs.Listings.{few}
 
@@ -250,3 +254,18 @@ module _ (b : List ℕ) (y : Bytes b) where
       let f = listing_fits in
       let r : leb (length (listing b)) (length found) ≡ true = le-leb (length (listing b)) (length found) (omega arith) in
       l.answered ∙ rw r
+
+  -- So of code that lends as many: an answer that is no refusal, and no longer than what was lent.
+  pub listed_ok : (r : Result ℕ Refusal) (found exit : List ℕ) → 92520 ≤ length found → Listed b found (view_listing r) exit → IsOk r
+  listed_ok (Ok n) found exit h l = refl
+  listed_ok (Err r) found exit h l =
+      let e = always_listed found h (view_listing (Err r)) exit l in
+      let z : ◌≡◌ {A = ℕ} 0 1 = cc in
+      absurd (omega arith)
+
+  pub listed_within : (n : ℕ) (found exit : List ℕ) → 92520 ≤ length found → Listed b found (view_listing (Ok n)) exit → n ≤ 92520
+  listed_within n found exit h l =
+      let e : ◌≡◌ {A = Outcome ℕ} (accepted n) (accepted (length (listing b))) = always_listed found h (accepted n) exit l in
+      let i : n ≡ length (listing b) = cc in
+      let f = listing_fits in
+      omega arith
