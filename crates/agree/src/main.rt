@@ -20,123 +20,84 @@ mod ops_writer;
 mod reply;
 mod sums;
 
-ghost use Rattle.std.specs.Prelude.{◌≤◌, length};
+ghost use Rattle.std.specs.Prelude.{◌≤◌};
 
-use cases::Case;
+use cases::{Case, Fault};
 use reply::Reply;
-use std::io::Read;
+use std::alloc::{AllocError, Global};
+use std::io;
+use std::io::{BufWriter, Read, Write};
+use std::ops::ControlFlow;
 
-// What a turn leaves: how many bytes of the output wait to be written, and whether a further case is to be read.
-#[derive(Clone, Copy)]
-struct After {
-    waiting: usize,
-    more: bool,
-}
-
-// Reads a payload, and tells whether it came whole.
-fn fill(stdin: &mut impl Read, payload: &mut [u8]) -> bool {
-    if payload.len() == 0 {
-        return true;
-    }
-    cases::read_full(stdin, payload) == payload.len()
-}
-
-// Reads the payloads, which are lent at their own lengths, and answers the case.
-fn read_and_answer(stdin: &mut impl Read, case: Case, p: &mut [u8], q: &mut [u8]) -> Reply {
-    if fill(stdin, p) & fill(stdin, q) {
-        return ops::answer(case, p, q);
-    }
-    reply::no_case()
-}
-
-// Answers a case. p and q are as long as a payload may be.
-fn answered(stdin: &mut impl Read, case: Case, p: &mut [u8], q: &mut [u8]) -> Reply {
-    let n = case.n;
-    let m = case.m;
-    if p.len() < n {
-        return reply::no_case();
-    }
-    if q.len() < m {
-        return reply::no_case();
-    }
-    read_and_answer(stdin, case, &mut p[0..n], &mut q[0..m])
-}
-
-// Adds the line of a run, whose payload is in p.
-fn run_line(out: &mut [u8], waiting: usize, case: Case, p: &[u8]) -> usize
-    requires { waiting ≤ length out.old }
-    ensures { result ≤ length out.new }
+// Reads so many bytes, or as many as come: where a read fails, the input is taken to end. Room for one more is made before, so that no room is
+// missing while it is read.
+fn read_up_to(alloc: Global, input: &mut impl Read, n: usize) -> Result<Vec<u8>, AllocError>
+    requires { n ≤ 24576 }
 {
-    let n = case.n;
-    if p.len() < n {
-        return waiting;
-    }
-    ops_runs::write(out, waiting, &p[0..n], cases::low16(case.a0))
+    let mut bytes = Vec::with_capacity(alloc, n + 1)?;
+    let _ = input.by_ref().take(n as u64).read_to_end(&mut bytes);
+    Ok(bytes)
 }
 
-// Reads one case and adds its line to what waits. Input that ends here is the end.
-fn turn(stdin: &mut impl Read, p: &mut [u8], q: &mut [u8], out: &mut [u8], waiting: usize) -> After
-    requires { waiting ≤ length out.old }
-    ensures { result.waiting ≤ length out.new }
-{
-    let case = cases::read(stdin);
-    if case.got == 0 {
-        return After {
-            waiting,
-            more: false,
-        };
+// Reads a payload of so many bytes.
+fn payload(alloc: Global, input: &mut impl Read, n: usize) -> Result<Vec<u8>, Fault> {
+    if Case::MOST < n {
+        return Err(Fault::BadCase);
     }
-    let answer = answered(stdin, case, p, q);
-    if answer.word == Reply::RUN {
-        return After {
-            waiting: run_line(out, waiting, case, p),
-            more: true,
-        };
+    let bytes = read_up_to(alloc, input, n)?;
+    if bytes.len() < n {
+        return Err(Fault::BadCase);
     }
-    After {
-        waiting: reply::write(out, waiting, answer),
-        more: answer.word != Reply::BAD_CASE,
-    }
+    Ok(bytes)
 }
 
-// Writes what waits.
-fn write(rt: &impl Print, out: &[u8], waiting: usize) {
-    if waiting <= out.len() {
-        let _ = rt.write_all(&out[0..waiting]);
-    }
+// Reads the payloads of a case and answers it.
+fn answer(alloc: Global, input: &mut impl Read, head: &[u8]) -> Result<Reply, Fault> {
+    let Some(head) = head.as_array() else {
+        return Err(Fault::BadCase);
+    };
+    let case = Case::of_head(head);
+    let mut p = payload(alloc, input, case.p_length)?;
+    let mut q = payload(alloc, input, case.q_length)?;
+    ops::answer(alloc, &case, p.as_mut_slice(), q.as_mut_slice())
 }
 
-// Writes what waits if a further line might find no room, and gives how much waits from here on.
-fn flushed(rt: &impl Print, out: &[u8], waiting: usize) -> usize
-    ensures { result ≤ length out.now }
-{
-    if waiting < out.len() / 2 {
-        return waiting;
+// Reads one case and writes its line, unless the input ends here. A bad case is the last.
+fn turn(
+    alloc: Global,
+    input: &mut impl Read,
+    output: &mut impl Write,
+) -> io::Result<ControlFlow<()>> {
+    let head = read_up_to(alloc, input, Case::HEAD)?;
+    if head.is_empty() {
+        return Ok(ControlFlow::Break(()));
     }
-    write(rt, out, waiting);
-    0
+    let reply = match answer(alloc, input, head.as_slice()) {
+        Ok(reply) => reply,
+        Err(Fault::BadCase) => Reply::bad_case(),
+        Err(Fault::OutOfMemory) => return Err(AllocError.into()),
+    };
+    writeln!(output, "{reply}")?;
+    if reply.is_bad_case() {
+        return Ok(ControlFlow::Break(()));
+    }
+    Ok(ControlFlow::Continue(()))
 }
 
-// All cases, up to the end of the input or the first that is none. A proved loop has to end, and nothing says that the input does: so the
-// loop counts its turns down, from a number that no run uses up.
-fn run(rt: &impl Print, stdin: &mut impl Read, p: &mut [u8], q: &mut [u8], out: &mut [u8]) {
-    let mut turns = u64::MAX;
-    let mut waiting = 0;
-    let mut more = true;
-    while turns > 0 && more {
-        let after = turn(stdin, p, q, out, flushed(rt, out, waiting));
-        waiting = after.waiting;
-        more = after.more;
-        turns -= 1;
+// All cases, up to the end of the input or the first that is none. A proved loop has to end, and nothing says that the input does: so this one
+// counts its turns, up to a number that no run uses up.
+fn run(alloc: Global, input: &mut impl Read, output: &mut impl Write) -> io::Result<()> {
+    for _ in 0..u64::MAX {
+        if turn(alloc, input, output)?.is_break() {
+            break;
+        }
     }
-    write(rt, out, waiting);
+    output.flush()
 }
 
-// The arrays for the payloads are as long as a payload may be.
-fn main(rt: HostRuntime) {
-    let mut stdin = rt.stdin();
-    let mut p = [0u8; 24576];
-    let mut q = [0u8; 24576];
-    let mut out = [0u8; 32768];
-    run(&rt, &mut stdin, &mut p, &mut q, &mut out);
+fn main(rt: HostRuntime) -> io::Result<()> {
+    let alloc = rt.alloc();
+    let mut input = rt.stdin();
+    let mut output = BufWriter::new(alloc, io::writer(&rt))?;
+    run(alloc, &mut input, &mut output)
 }

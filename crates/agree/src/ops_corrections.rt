@@ -1,73 +1,47 @@
 // The op over a list of corrections.
-ghost use Rattle.std.specs.Prelude.{◌≤◌, map, take};
-ghost use Rattle.editor.specs.Views.{asked};
-ghost use Rattle.exports.specs.Promises.{EditedAll};
-
-use crate::cases::number;
-use crate::reply;
-use crate::reply::{Reply, no_case};
+use crate::cases::{Case, Fault, Payloads};
+use crate::reply::{Answer, NotOk, Refused, Told};
 use book::words::long;
 use editor::editing::Correction;
 use exports::answers::PlaneStopped;
 use exports::recording::plane_edit_all;
+use std::alloc::Global;
 
-// The bytes of a correction in a payload, and how many a payload can hold.
-const SIZE: usize = 24;
-
-const MOST: u16 = 1024;
-
-// Correction i of the payload.
-fn correction_at(q: &[u8], i: u16) -> Correction {
-    let w = 12 * (i as usize);
+// The correction of 24 bytes.
+fn correction(bytes: &[u8; 24]) -> Correction {
     Correction {
-        word: long(q, w) as usize,
-        value: long(q, w + 2),
-        operator: long(q, w + 4),
-        reason: long(q, w + 6),
-        time: number(long(q, w + 8), long(q, w + 10)),
+        word: long(bytes, 0) as usize,
+        value: long(bytes, 2),
+        operator: long(bytes, 4),
+        reason: long(bytes, 6),
+        time: long(bytes, 8) as u64 + ((long(bytes, 10) as u64) << 32),
     }
-}
-
-// The corrections of the payload; behind its end they are all zeros.
-fn corrections_of(q: &[u8]) -> [Correction; 1024] {
-    let mut list = [correction_at(q, 0); 1024];
-    let mut i = 0;
-    while i < MOST {
-        list[i as usize] = correction_at(q, i);
-        i += 1;
-    }
-    list
-}
-
-// Lends the first n corrections.
-fn edit_first(p: &mut [u8], list: [Correction; 1024], n: usize) -> PlaneStopped
-    requires { n ≤ 1024 }
-    ensures { EditedAll p.old (map asked (take n list)) result p.new }
-{
-    plane_edit_all(p, &list[..n])
 }
 
 // What a list was answered: where it stopped, the refusal and the position.
-fn stopped(x: PlaneStopped) -> Reply {
+fn stopped(x: PlaneStopped) -> Answer {
     if x.refused == 0 {
-        return reply::few(0, 0, 0, 0, 0, 0);
+        return Ok(Told::Nothing);
     }
-    let number = x.refused as u64;
-    reply::line(
-        Reply::REFUSED,
-        Reply::AT_POSITION,
-        [number, x.place as u64, x.position as u64, 0, 0, 0, 0],
-    )
+    let refused = Refused {
+        number: x.refused,
+        place: x.place,
+    };
+    Err(NotOk::Stopped(refused, x.position))
 }
 
-// Op 22: makes the corrections of q in p, in order.
-pub(crate) fn edit_all(p: &mut [u8], q: &[u8]) -> Reply {
-    let n = q.len() / SIZE;
-    if 1024 < n {
-        return no_case();
+// Op 22: makes the corrections of q in p, in order. The line of a case whose last correction is not whole has the buffer behind it all the same.
+pub(crate) fn edit_all(
+    alloc: Global,
+    case: &Case,
+    p: &mut [u8],
+    q: &[u8],
+) -> Result<Answer, Fault> {
+    case.args::<0>(Payloads::PAndQ)?;
+    let (corrections, rest) = q.as_chunks::<24>();
+    if !rest.is_empty() {
+        return Ok(Err(NotOk::BadCase));
     }
-    if q.len() % SIZE != 0 {
-        return no_case();
-    }
-    stopped(edit_first(p, corrections_of(q), n))
+    let list: Vec<Correction> = corrections.iter().map(correction).collect(alloc)?;
+    Ok(stopped(plane_edit_all(p, list.as_slice())))
 }

@@ -1,22 +1,24 @@
 // The op over the follower of sequence numbers.
-use crate::cases::{Case, low8, low16};
-use crate::reply;
-use crate::reply::Reply;
+use crate::cases::{Case, Fault, Payloads, up_to};
+use crate::reply::{Answer, Told, answer};
 use exports::answers::PlaneFollower;
 use exports::following::plane_follow;
 
 // The follower's state as a case codes it: 0 idle, 1 + e expecting e.
-pub(crate) fn state_of(code: u64) -> PlaneFollower {
-    if code == 0 {
-        return PlaneFollower {
-            expecting: 0,
-            number: 0,
-        };
-    }
-    PlaneFollower {
+pub(crate) fn state_of(code: u64) -> Result<PlaneFollower, Fault> {
+    let number = match code.checked_sub(1) {
+        None => {
+            return Ok(PlaneFollower {
+                expecting: 0,
+                number: 0,
+            });
+        }
+        Some(number) => u8::try_from(number)?,
+    };
+    Ok(PlaneFollower {
         expecting: 1,
-        number: low8(code - 1),
-    }
+        number,
+    })
 }
 
 pub(crate) fn code_of(state: PlaneFollower) -> u64 {
@@ -27,15 +29,12 @@ pub(crate) fn code_of(state: PlaneFollower) -> u64 {
 }
 
 // Op 11: the follower in the state a0 is fed the word a1.
-pub(crate) fn follow(case: Case) -> Reply {
-    let x = plane_follow(state_of(case.a0), low16(case.a1));
-    let next = x.next;
-    reply::few(
-        x.refused,
-        x.place,
-        Reply::TWO,
-        x.lost as u64,
-        code_of(next),
-        0,
-    )
+pub(crate) fn follow(case: &Case) -> Result<Answer, Fault> {
+    let [state, word] = case.args::<2>(Payloads::None)?;
+    let x = plane_follow(state_of(state)?, u16::try_from(word)?);
+    let told = Told::Followed {
+        lost: x.lost,
+        state: code_of(x.next),
+    };
+    Ok(answer(x.refused, x.place, told))
 }

@@ -1,85 +1,92 @@
 // The ops over the writer: begin, add, add text, close.
-use crate::cases::{Case, low16, low32};
-use crate::reply;
-use crate::reply::Reply;
+use crate::cases::{Case, Fault, Payloads, up_to};
+use crate::reply::{Answer, NotOk, Told, answer};
 use book::class::Class;
 use exports::answers::{PlaneItem, PlaneWritten};
 use exports::writing::{plane_add, plane_add_text, plane_begin, plane_close};
 
-fn written(x: PlaneWritten) -> Reply {
-    reply::few(x.refused, x.place, Reply::ONE, x.length as u64, 0, 0)
+fn written(x: PlaneWritten) -> Answer {
+    answer(x.refused, x.place, Told::Number(x.length as u64))
 }
 
 // Op 7: begins a frame of kind a0, card a1 and sequence word a2 in p.
-pub(crate) fn begin(case: Case, p: &mut [u8]) -> Reply {
-    let kind = 1 + case.a0 % 3;
-    written(plane_begin(p, low16(kind), low16(case.a1), low16(case.a2)))
+pub(crate) fn begin(case: &Case, p: &mut [u8]) -> Result<Answer, Fault> {
+    let [kind, card, sequence] = case.args::<3>(Payloads::P)?;
+    let kind = 1 + u16::try_from(up_to(2, kind)?)?;
+    Ok(written(plane_begin(p, kind, u16::try_from(card)?, u16::try_from(sequence)?)))
 }
 
-// Whether op 8 may have these fields of the class: each is within its width, and those that the class does not have are zero.
-fn has_fields(case: Case) -> bool {
-    let class = low32(case.a1);
-    match class {
-        Class::ROW_CHANNEL => case.fields(Case::WORD, Case::WORD, Case::WORD),
-        Class::ROW_HISTOGRAM => case.fields(Case::WORD, Case::WORD, Case::WORD),
-        Class::ROW_HIT_COUNT => case.fields(Case::WORD, Case::WORD, Case::WORD),
-        Class::ROW_SAMPLE => case.fields(Case::WORD, 0, 0),
-        Class::ROW_BIN => case.fields(Case::WORD, Case::LONG, 0),
-        Class::ROW_LAST_CELL => case.fields(Case::WORD, Case::WORD, 0),
-        Class::ROW_TIME_BIN => case.fields(Case::WORD, 0, 0),
-        Class::ROW_START_EVENT => case.fields(Case::WORD, u64::MAX, Case::LONG),
-        Class::ROW_END_EVENT => case.fields(Case::LONG, 0, 0),
-        Class::ROW_CONTINUE_EVENT => case.fields(Case::LONG, 0, 0),
-        _ => false,
-    }
-}
-
-// The item of class a1 with the fields a2, a3, a4 in the book's order. Those that the class does not have are not looked at.
-fn item_of(case: Case) -> PlaneItem {
-    let class = low32(case.a1);
-    let mut chip = case.a3;
-    let mut number = case.a2;
-    if class == Class::ROW_LAST_CELL {
-        chip = case.a2;
-    }
-    if class == Class::ROW_START_EVENT {
-        number = case.a4;
-    }
-    let first = low16(case.a2);
-    let third = low16(case.a4);
-    PlaneItem {
-        item_class: class,
-        card: first,
-        chip: low16(chip),
-        channel: third,
-        hits: third,
-        value: first,
-        bin: first,
-        cell: low16(case.a3),
-        time: first,
+// The item of a class with its fields in the book's order: each is within its width, and those that the class does not have are zero.
+fn item_of(class: Class, fields: [u64; 3]) -> Result<PlaneItem, Fault> {
+    let mut item = PlaneItem {
+        item_class: class.row(),
+        card: 0,
+        chip: 0,
+        channel: 0,
+        hits: 0,
+        value: 0,
+        bin: 0,
+        cell: 0,
+        time: 0,
         length: 0,
-        kind: first,
-        count: low32(case.a3),
-        number: low32(number),
-        size: low32(case.a2),
-        timestamp: case.a3,
+        kind: 0,
+        count: 0,
+        number: 0,
+        size: 0,
+        timestamp: 0,
+    };
+    match (class, fields) {
+        (Class::Channel | Class::Histogram, [card, chip, channel]) => {
+            item.card = u16::try_from(card)?;
+            item.chip = u16::try_from(chip)?;
+            item.channel = u16::try_from(channel)?;
+        }
+        (Class::HitCount, [card, chip, hits]) => {
+            item.card = u16::try_from(card)?;
+            item.chip = u16::try_from(chip)?;
+            item.hits = u16::try_from(hits)?;
+        }
+        (Class::Sample, [value, 0, 0]) => item.value = u16::try_from(value)?,
+        (Class::Bin, [bin, count, 0]) => {
+            item.bin = u16::try_from(bin)?;
+            item.count = u32::try_from(count)?;
+        }
+        (Class::LastCell, [chip, cell, 0]) => {
+            item.chip = u16::try_from(chip)?;
+            item.cell = u16::try_from(cell)?;
+        }
+        (Class::TimeBin, [time, 0, 0]) => item.time = u16::try_from(time)?,
+        (Class::StartEvent, [kind, timestamp, number]) => {
+            item.kind = u16::try_from(kind)?;
+            item.timestamp = timestamp;
+            item.number = u32::try_from(number)?;
+        }
+        (Class::EndEvent, [size, 0, 0]) => item.size = u32::try_from(size)?,
+        (Class::ContinueEvent, [number, 0, 0]) => item.number = u32::try_from(number)?,
+        _ => return Err(Fault::BadCase),
     }
+    Ok(item)
 }
 
-// Op 8: adds an item of class a1 with the fields a2, a3, a4 to p of length a0.
-pub(crate) fn add(case: Case, p: &mut [u8]) -> Reply {
-    if has_fields(case) {
-        return written(plane_add(p, case.a0 as usize, item_of(case)));
-    }
-    reply::no_case()
+// Op 8: adds an item of class a1 with the fields a2, a3, a4 to p of length a0. The line of a case whose fields are none of an item has the buffer
+// behind it all the same.
+pub(crate) fn add(case: &Case, p: &mut [u8]) -> Result<Answer, Fault> {
+    let [length, class, a, b, c] = case.args::<5>(Payloads::P)?;
+    let class = Class::try_from(u32::try_from(class)?)?;
+    Ok(match item_of(class, [a, b, c]) {
+        Ok(item) => written(plane_add(p, length as usize, item)),
+        Err(_) => Err(NotOk::BadCase),
+    })
 }
 
 // Op 9: adds the text q to p of length a0.
-pub(crate) fn add_text(case: Case, p: &mut [u8], q: &[u8]) -> Reply {
-    written(plane_add_text(p, case.a0 as usize, q))
+pub(crate) fn add_text(case: &Case, p: &mut [u8], q: &[u8]) -> Result<Answer, Fault> {
+    let [length] = case.args::<1>(Payloads::PAndQ)?;
+    Ok(written(plane_add_text(p, length as usize, q)))
 }
 
 // Op 10: closes p of length a0.
-pub(crate) fn close(case: Case, p: &mut [u8]) -> Reply {
-    written(plane_close(p, case.a0 as usize))
+pub(crate) fn close(case: &Case, p: &mut [u8]) -> Result<Answer, Fault> {
+    let [length] = case.args::<1>(Payloads::P)?;
+    Ok(written(plane_close(p, length as usize)))
 }
