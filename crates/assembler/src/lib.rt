@@ -86,7 +86,11 @@ impl Assembler {
     {
         let f = read(frame)?;
         let followed = self.follower.follow(f.sequence)?;
-        self.link(Part { bytes: frame, frame: f }, followed)
+        let part = Part {
+            bytes: frame,
+            frame: f,
+        };
+        self.link(part, followed)
     }
 
     // The frame links to what is open, or does not.

@@ -25,6 +25,9 @@ impl Items<'_> {
         ensures { MatchResult result (λ x. x.bytes.now ≡ bytes.entry.now) (λ r. verdict bytes.entry.now ≡ refusal r) }
     {
         let frame = read(bytes)?;
-        Ok(Items { bytes, kind: frame.kind })
+        Ok(Items {
+            bytes,
+            kind: frame.kind,
+        })
     }
 }

@@ -83,7 +83,8 @@ pub fn sample_word(s: &[u8], e: usize, chip: u16, channel: u16, time: u16) -> Re
     ensures { SampleWordAnswered s.now e chip channel time result }
 {
     let items = Items::of(s)?;
-    items.find_sample(e, Wanted { chip, channel }, time).ok_or(Fault::Absent.into())
+    let sample = items.find_sample(e, Wanted { chip, channel }, time);
+    sample.ok_or(Fault::Absent.into())
 }
 
 // The word index of the Bin of a number, of the histogram of a chip and a channel. Refuses as `read` does, then 13 where there is no such histogram
@@ -92,5 +93,6 @@ pub fn bin_word(s: &[u8], chip: u16, channel: u16, bin: u16) -> Result<usize, Re
     ensures { BinWordAnswered s.now chip channel bin result }
 {
     let items = Items::of(s)?;
-    items.find_bin(Wanted { chip, channel }, bin).ok_or(Fault::Absent.into())
+    let found = items.find_bin(Wanted { chip, channel }, bin);
+    found.ok_or(Fault::Absent.into())
 }

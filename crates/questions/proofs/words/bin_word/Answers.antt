@@ -16,5 +16,5 @@ returns-in_err-items c = ap view_word (passed _ _ c.from_residual.ensures.1) ∙
 pub returns : goal.returns
 returns c =
     let a = c.args in let x = c.in_ok-items.items in
-    bin_answered _ x.content _ (accepted_of _ _ x.accepted) _ _ _ _ (told _ _ _ c.into.ensures c.ok_or.ensures.value ∙ c.find_bin.ensures)
+    bin_answered _ x.content _ (accepted_of _ _ x.accepted) _ _ _ _ (told _ _ _ c.into.ensures c.ok_or.ensures.value ∙ c.find_bin-found.ensures)
     ∙ ap (λ (s : List ℕ). bin_word_at s a.chip a.channel a.bin) c.in_ok-items.ensures

@@ -16,5 +16,5 @@ returns-in_err-items c = ap view_word (passed _ _ c.from_residual.ensures.1) ∙
 pub returns : goal.returns
 returns c =
     let a = c.args in let x = c.in_ok-items.items in
-    sample_answered _ x.content _ (accepted_of _ _ x.accepted) _ _ _ _ _ (told _ _ _ c.into.ensures c.ok_or.ensures.value ∙ c.find_sample.ensures)
+    sample_answered _ x.content _ (accepted_of _ _ x.accepted) _ _ _ _ _ (told _ _ _ c.into.ensures c.ok_or.ensures.value ∙ c.find_sample-sample.ensures)
     ∙ ap (λ (s : List ℕ). sample_word_at s a.e a.chip a.channel a.time) c.in_ok-items.ensures
