@@ -24,6 +24,7 @@ use Rattle.ledger.specs.PlaneFrames.{plane_frames}
 use Rattle.records.specs.declared.answers.Header.{Header}
 use Rattle.records.specs.declared.answers.SpotKind.{SpotKind}
 use Rattle.records.specs.declared.answers.SpotKind.TheVariants as kind
+use Rattle.records.specs.declared.answers.NoKind.{NoKind}
 use Rattle.records.specs.declared.answers.Spot.{Spot}
 use Rattle.records.specs.declared.answers.Record.{Record}
 use Rattle.records.specs.declared.answers.Judged.{Judged}
@@ -31,7 +32,7 @@ use Rattle.records.specs.declared.answers.Stamp.{Stamp}
 use Rattle.records.specs.declared.answers.Entry.{Entry}
 use Rattle.records.specs.Views.{view_spot_kind, view_found_spot, view_spot, summary_of, view_record, judged_of, view_judged, view_stamp, as_entry, view_entry}
 use Rattle.records.specs.Stored.{stored}
-use Rattle.records.specs.Promises.{SpotTold, Recorded, JudgedTo, EntryTold, RestoredTo, EntrySized, EntryRead, EntryPut, SignedBy, MayHold, WordPut, ValuePut}
+use Rattle.records.specs.Promises.{SpotKindOf, SpotTold, Recorded, JudgedTo, EntryTold, RestoredTo, EntrySized, EntryRead, EntryPut, SignedBy, MayHold, WordPut, ValuePut}
 
 -- T40: the way back from each answer on paper
 
@@ -92,6 +93,15 @@ same_entry = same_result as_entry same_plain
 
 -- T39: no second result, function by function; each is over the promise that the function's contract names (specs/Promises.antt). `spot`,
 -- `record`, `judge` and `entry` lend no memory to write
+
+-- `SpotKind::try_from`: a number is one kind's, or none's
+pub spot_kind_once : (n : ℕ) (r q : Result SpotKind NoKind) → SpotKindOf n r → SpotKindOf n q → r ≡ q
+spot_kind_once n (Ok k) (Ok l) e f = ap Ok (undone view_spot_kind kind_back kind_back_lem k l (sym e ∙ f))
+spot_kind_once n (Ok kind.Sample) (Err x) e f = absurd (f.0 e)
+spot_kind_once n (Ok kind.Bin) (Err x) e f = absurd (f.1 e)
+spot_kind_once n (Err x) (Ok kind.Sample) e f = absurd (e.0 f)
+spot_kind_once n (Err x) (Ok kind.Bin) e f = absurd (e.1 f)
+spot_kind_once n (Err x) (Err y) e f = refl
 
 pub spot_once : (f : List ℕ) (w : ℕ) (r q : Option Spot) → SpotTold f w r → SpotTold f w q → r ≡ q
 spot_once f w = one view_spot same_spot (spots.spot f w)
