@@ -11,6 +11,7 @@ use Rattle.std.proofs.Common.{Option, Some, None, Result, Ok, Err}
 use Rattle.format.specs.Spots as spots
 use Rattle.format.specs.Spots.{legal_value}
 use Rattle.book.proofs.Unique.{one, undone, equal_once, same_result, same_option}
+use Rattle.book.specs.declared.items.Header as items
 use Rattle.book.specs.declared.refusal.Refusal.{Refusal}
 use Rattle.ledger.specs.Formats as formats
 use Rattle.ledger.specs.Records as ledger
@@ -32,7 +33,7 @@ use Rattle.records.specs.declared.answers.Stamp.{Stamp}
 use Rattle.records.specs.declared.answers.Entry.{Entry}
 use Rattle.records.specs.Views.{view_spot_kind, view_found_spot, view_spot, summary_of, view_record, judged_of, view_judged, view_stamp, as_entry, view_entry}
 use Rattle.records.specs.Stored.{stored}
-use Rattle.records.specs.Promises.{SpotKindOf, SpotTold, Recorded, JudgedTo, EntryTold, RestoredTo, EntrySized, EntryRead, EntryPut, SignedBy, MayHold, WordPut, ValuePut}
+use Rattle.records.specs.Promises.{HeaderOf, SpotKindOf, SpotTold, Recorded, JudgedTo, EntryTold, RestoredTo, EntrySized, EntryRead, EntryPut, SignedBy, MayHold, WordPut, ValuePut}
 
 -- T40: the way back from each answer on paper
 
@@ -93,6 +94,10 @@ same_entry = same_result as_entry same_plain
 
 -- T39: no second result, function by function; each is over the promise that the function's contract names (specs/Promises.antt). `spot`,
 -- `record`, `judge` and `entry` lend no memory to write
+
+-- `Header::from`
+pub header_of_once : (prefix : ℕ) (x : items.Header prefix) (r q : Header) → HeaderOf x r → HeaderOf x q → r ≡ q
+header_of_once prefix x = equal_once (record { card = x.card; chip = x.chip; channel = x.channel })
 
 -- `SpotKind::try_from`: a number is one kind's, or none's
 pub spot_kind_once : (n : ℕ) (r q : Result SpotKind NoKind) → SpotKindOf n r → SpotKindOf n q → r ≡ q

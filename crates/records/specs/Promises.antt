@@ -14,7 +14,9 @@ use Rattle.ledger.specs.Formats.{size}
 use Rattle.ledger.specs.VersionTwo.{version_two}
 use Rattle.ledger.specs.Versions.{format_for, format_in}
 use Rattle.ledger.specs.PlaneFrames.{plane_frames}
+use Rattle.book.specs.declared.items.Header as items
 use Rattle.book.specs.declared.refusal.Refusal.{Refusal}
+use Rattle.records.specs.declared.answers.Header.{Header}
 use Rattle.records.specs.declared.answers.SpotKind.{SpotKind}
 use Rattle.records.specs.declared.answers.NoKind.{NoKind}
 use Rattle.records.specs.declared.answers.Spot.{Spot}
@@ -65,6 +67,10 @@ abbrev pub SignedBy : ℕ → ℕ → Bool → Type 0
 SignedBy operator reason r = r ≡ records.signed operator reason
 
 -- ---- values
+
+-- the header that a Channel or Histogram item is, with no prefix
+abbrev pub HeaderOf : {prefix : ℕ} → items.Header prefix → Header → Type 0
+HeaderOf x r = r ≡ record { card = x.card; chip = x.chip; channel = x.channel }
 
 -- the kind of a number; a number that is no kind's is none
 abbrev pub SpotKindOf : ℕ → Result SpotKind NoKind → Type 0

@@ -1,6 +1,5 @@
 // What is asked for and answered about a record and the items of its frame.
-ghost use Rattle.std.specs.Prelude.{◌≡◌};
-ghost use Rattle.records.specs.Promises.{SpotKindOf};
+ghost use Rattle.records.specs.Promises.{HeaderOf, SpotKindOf};
 
 use book::items;
 
@@ -14,7 +13,7 @@ pub struct Header {
 }
 
 impl<const PREFIX: u16> From<items::Header<PREFIX>> for Header {
-    ghost from_gives = { λ x h. h ≡ record { card = x.card; chip = x.chip; channel = x.channel } };
+    ghost from_gives = { HeaderOf };
 
     fn from(x: items::Header<PREFIX>) -> Header {
         Header {
