@@ -9,7 +9,8 @@ use lib.ListN.{length}
 use lib.Dec.{eqb}
 use borrow.Author.Tests.{le-leb, lt-ltb, ne_eqb, eqb-true}
 use Rattle.format.proofs.book.PrefixLaws.{and_left, and_right}
-use Rattle.format.specs.Words.{word_at, long_at}
+use Rattle.format.proofs.items.WordLaws.{word_below}
+use Rattle.format.specs.Words.{Bytes, word_at, long_at}
 use Rattle.format.specs.Items.{in_range, whole, Sample, Bin, HitCount}
 use Rattle.format.specs.Rules.{ReaderMode, inside, after_sample, headed}
 use Rattle.format.specs.Steps.{Marks, ReaderState, moved, marked, check_by, step_of}
@@ -18,13 +19,6 @@ use Rattle.book.specs.Fields.{hits_of, hits_item}
 use Rattle.book.specs.declared.items.HitCount as hc
 use Rattle.frame.specs.Repeats.{turns_of, Turns, Repeated}
 use Rattle.frame.proofs.Steps.{sample_step, hit_step, bin_step}
-
--- no item of a run is the one asked for
-pub before : (count n i : ℕ) → count ≤ n → i < n - count → eqb (count + i) n ≡ false
-before count n i h l = ne_eqb (count + i) n (λ (e : count + i ≡ n). omega arith)
-
-pub behind : (count n i : ℕ) → n < count → eqb (count + i) n ≡ false
-behind count n i h = ne_eqb (count + i) n (λ (e : count + i ≡ n). omega arith)
 
 -- whole Bins behind us, and before us
 pub bin_past : (at i : ℕ) → at ≤ i → (i - at) % 3 ≡ 0 → (i + 3 - at) % 3 ≡ 0
@@ -72,15 +66,17 @@ module _ (card : ℕ) (s : List ℕ) (last : ℕ) where
         ∙ sample_step card s last i w _ e _ (w % 4096) (sample_is w p q) refl (sample_turn n i (w % 4096) h (omega arith)))
 
     -- two Samples more, by the number that their words make
-    pub pair_more : (next i a b : ℕ) → at ≤ i → i + 2 ≤ last → a ≡ word_at s i → b ≡ word_at s (i + 1) → a < 65536 → b < 65536
-        → eqb ((a + 65536 * b) / 4096 % 16) 3 && eqb ((a + 65536 * b) / 268435456) 3 ≡ true → next + (i + 2 - at) ≤ 512
+    pub pair_more : (next i x : ℕ) → at ≤ i → i + 2 ≤ last → x ≡ long_at s i → Bytes s → eqb (x / 4096 % 16) 3 && eqb (x / 268435456) 3 ≡ true → next + (i + 2 - at) ≤ 512
         → Turns card s last (i - at) after_sample key next marks at (next + (i - at)) i
         → Turns card s last (i + 2 - at) after_sample key next marks at (next + (i + 2 - at)) (i + 2)
-    pair_more next i a b h l e f p q g m t =
-        let low : (a + 65536 * b) / 4096 % 16 ≡ 3 = eqb-true _ _ (and_left (eqb ((a + 65536 * b) / 4096 % 16) 3) (eqb ((a + 65536 * b) / 268435456) 3) g) in
-        let high : (a + 65536 * b) / 268435456 ≡ 3 = eqb-true _ _ (and_right (eqb ((a + 65536 * b) / 4096 % 16) 3) (eqb ((a + 65536 * b) / 268435456) 3) g) in
-        let one = sample_more next (next + (i - at)) i a h (omega arith) e (omega arith) (omega arith) (omega arith) refl t in
-        let two = sample_more next (next + (i + 1 - at)) (i + 1) b (omega arith) (omega arith) f (omega arith) (omega arith) (omega arith) refl one in
+    pair_more next i x h l e y g m t =
+        let low : x / 4096 % 16 ≡ 3 = eqb-true _ _ (and_left (eqb (x / 4096 % 16) 3) (eqb (x / 268435456) 3) g) in
+        let high : x / 268435456 ≡ 3 = eqb-true _ _ (and_right (eqb (x / 4096 % 16) 3) (eqb (x / 268435456) 3) g) in
+        let p = word_below s y i in
+        let q = word_below s y (i + 1) in
+        let z : word_at s i + 65536 * word_at s (i + 1) ≡ x = sym e in
+        let one = sample_more next (next + (i - at)) i (word_at s i) h (omega arith) refl (omega arith) (omega arith) (omega arith) refl t in
+        let two = sample_more next (next + (i + 1 - at)) (i + 1) (word_at s (i + 1)) (omega arith) (omega arith) refl (omega arith) (omega arith) (omega arith) refl one in
         subst (λ (j : ℕ). Turns card s last (j - at) after_sample key next marks at (next + (j - at)) j) (let z : i + 1 + 1 ≡ i + 2 = omega arith in z) two
 
     hit_turn : (next w a b c : ℕ) → true ≡ in_range card (HitCount a b c)

@@ -26,8 +26,7 @@ pub const END: u16 = Class::FRAME_END;
 pub(crate) fn is_start(w: u16) -> bool
     ensures { result ≡ start_fits w }
 {
-    let high = w >> 5;
-    (high == 0x40) | ((high == 0x30) | (high == 0x20))
+    matches!(w >> 5, 0x40 | 0x30 | 0x20)
 }
 
 // The kind of a frame start.
@@ -35,14 +34,11 @@ pub(crate) fn kind_of(w: u16) -> Kind
     requires { start_fits w ≡ true }
     ensures { view_kind result ≡ kind_of (class_of w) }
 {
-    let high = w >> 5;
-    if high == 0x40 {
-        return Kind::Data;
+    match w >> 5 {
+        0x40 => Kind::Data,
+        0x30 => Kind::Monitor,
+        _ => Kind::Command,
     }
-    if high == 0x30 {
-        return Kind::Monitor;
-    }
-    Kind::Command
 }
 
 // Err with the first of rules 1 to 5 that is broken. Apart from the walk: with these early exits before its loop the compiler takes what
@@ -51,13 +47,7 @@ pub(crate) fn head_fault(s: &[u8]) -> Result<(), Fault>
     ensures { number_or_zero result ≡ head_fault s.now }
 {
     let n = s.len();
-    if n % 2 != 0 {
-        return Err(Fault::Length);
-    }
-    if n < LEAST {
-        return Err(Fault::Length);
-    }
-    if MOST < n {
+    if n % 2 != 0 || n < LEAST || MOST < n {
         return Err(Fault::Length);
     }
     if !is_start(word(s, 0)) {

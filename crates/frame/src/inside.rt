@@ -8,9 +8,7 @@ pub(crate) fn word(s: &[u8], i: usize) -> u16
     requires { 2 * (i + 1) ≤ length s.now }
     ensures { result ≡ word_at s.now i }
 {
-    let low = s[2 * i] as u16;
-    let high = s[2 * i + 1] as u16;
-    low + 256 * high
+    u16::from_le_bytes([s[2 * i], s[2 * i + 1]])
 }
 
 // The number of 32 bits whose low word stands at index i.
@@ -18,9 +16,7 @@ pub(crate) fn long(s: &[u8], i: usize) -> u32
     requires { 2 * (i + 2) ≤ length s.now }
     ensures { result ≡ long_at s.now i }
 {
-    let low = word(s, i) as u32;
-    let high = word(s, i + 1) as u32;
-    low + 65536 * high
+    u32::from_le_bytes([s[2 * i], s[2 * i + 1], s[2 * i + 2], s[2 * i + 3]])
 }
 
 // The number of 48 bits whose low word stands at index i.

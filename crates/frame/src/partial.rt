@@ -20,7 +20,7 @@ pub const FULL: usize = 8190;
 fn measured(room: usize, n: usize) -> bool
     ensures { result ≡ eqb (n % 2) 0 && leb 6 n && leb n 8190 && leb n room }
 {
-    (n % 2 == 0) & (FEWEST <= n) & (n <= FULL) & (n <= room)
+    n % 2 == 0 && FEWEST <= n && n <= FULL && n <= room
 }
 
 // Err with the first of rules 1 to 4 that is broken.

@@ -34,30 +34,14 @@ pub(crate) struct Repeats {
 pub(crate) fn ahead(count: usize, n: usize) -> usize
     ensures { ((i : ℕ) → i < result → eqb (count + i) n ≡ false) × (count ≤ n → result ≡ n - count) × (n < count → result ≡ 4096) }
 {
-    if count <= n {
-        return n - count;
-    }
-    MANY
-}
-
-// The lesser of two; the language has no `min`.
-fn least(a: usize, b: usize) -> usize
-    ensures { result ≡ min a b }
-{
-    if a <= b {
-        return a;
-    }
-    b
+    n.checked_sub(count).unwrap_or(MANY)
 }
 
 // The times that are left from this one on.
 fn times_left(time: u32) -> usize
     ensures { result ≡ 512 - time }
 {
-    if time <= TIMES {
-        return (TIMES - time) as usize;
-    }
-    0
+    TIMES.saturating_sub(time) as usize
 }
 
 // A Sample's prefix, of four bits.
@@ -99,13 +83,11 @@ fn past_samples(s: &[u8], at: usize, stop: usize) -> usize
         return end;
     }
     let w = word(s, end);
-    if w < Class::SAMPLE {
-        return end;
+    if Class::SAMPLE <= w && w < Class::HIT_COUNT {
+        end + 1
+    } else {
+        end
     }
-    if Class::HIT_COUNT <= w {
-        return end;
-    }
-    end + 1
 }
 
 // Behind the Hit counts from here on that are right in a frame of the card.
@@ -113,22 +95,13 @@ fn past_hits(s: &[u8], at: usize, stop: usize, card: u16) -> usize
     requires { (at ≤ stop) × (2 * stop ≤ length s.now) }
     ensures { (at ≤ result) × (result ≤ stop) × ((last key next : ℕ) (marks : Marks) → stop ≤ last → Turns card s.now last (result - at) inside key next marks at next result) }
 {
-    let mut i = at;
-    while i < stop {
+    for i in at..stop {
         let w = word(s, i);
-        if w < Class::HIT_COUNT {
-            return i;
-        }
-        if Class::HISTOGRAM <= w {
-            return i;
-        }
-        if HitCount::of_word(w).valid(card) {
-            i += 1;
-        } else {
+        if w < Class::HIT_COUNT || Class::HISTOGRAM <= w || !HitCount::of_word(w).valid(card) {
             return i;
         }
     }
-    i
+    stop
 }
 
 // The word before the first one that a Bin may have.
@@ -151,19 +124,7 @@ fn past_bins(s: &[u8], at: usize, stop: usize, past: u64) -> Binned
     let mut latest = past;
     while i < stop {
         let w = word(s, i) as u64;
-        if w <= latest {
-            return Binned {
-                at: i,
-                word: latest,
-            };
-        }
-        if Class::SAMPLE as u64 <= w {
-            return Binned {
-                at: i,
-                word: latest,
-            };
-        }
-        if long(s, i + 1) < Bin::LEAST_COUNT {
+        if w <= latest || Class::SAMPLE as u64 <= w || long(s, i + 1) < Bin::LEAST_COUNT {
             return Binned {
                 at: i,
                 word: latest,
@@ -182,7 +143,7 @@ fn repeated_samples(s: &[u8], last: usize, at: usize, next: u32, most: usize) ->
     requires { (at ≤ last) × (2 * last ≤ length s.now) }
     ensures { (card key : ℕ) (marks : Marks) → Repeated card s.now last at after_sample key next marks most result.at result.count result.next }
 {
-    let room = least(last - at, least(times_left(next), most));
+    let room = most.min(times_left(next)).min(last - at);
     let end = past_samples(s, at, at + room);
     let count = end - at;
     let time = next + count as u32;
@@ -197,7 +158,7 @@ fn repeated_hits(s: &[u8], last: usize, card: u16, at: usize, next: u32, most: u
     requires { (at ≤ last) × (2 * last ≤ length s.now) }
     ensures { (key : ℕ) (marks : Marks) → Repeated card s.now last at inside key next marks most result.at result.count result.next }
 {
-    let room = least(last - at, most);
+    let room = most.min(last - at);
     let end = past_hits(s, at, at + room, card);
     let count = end - at;
     Repeats {
@@ -211,7 +172,7 @@ fn repeated_bins(s: &[u8], last: usize, at: usize, next: u32, most: usize) -> Re
     requires { (at ≤ last) × (2 * last ≤ length s.now) }
     ensures { (card key : ℕ) (marks : Marks) → Repeated card s.now last at headed key next marks most result.at result.count result.next }
 {
-    let room = least((last - at) / BIN_WORDS, most);
+    let room = most.min((last - at) / BIN_WORDS);
     let past = BEFORE_BINS + next as u64;
     let binned = past_bins(s, at, at + BIN_WORDS * room, past);
     let count = (binned.at - at) / BIN_WORDS;
@@ -235,21 +196,14 @@ pub(crate) fn repeats_at(
     requires { (at ≤ last) × (2 * last ≤ length s.now) }
     ensures { Repeated card s.now last at (view_state st).mode st.key st.next (view_state st).marks most result.at result.count result.next }
 {
-    let mode = st.mode;
-    let none = Repeats {
-        at,
-        count: 0,
-        next: st.next,
-    };
-    match mode {
+    match st.mode {
         Mode::AfterSample => repeated_samples(s, last, at, st.next, most),
         Mode::Inside => repeated_hits(s, last, card, at, st.next, most),
         Mode::Headed => repeated_bins(s, last, at, st.next, most),
-        Mode::AfterTime => none,
-        Mode::AfterChannel => none,
-        Mode::Outside => none,
-        Mode::Unheaded => none,
-        Mode::Commands => none,
-        Mode::Fresh => none,
+        _ => Repeats {
+            at,
+            count: 0,
+            next: st.next,
+        },
     }
 }

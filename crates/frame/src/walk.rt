@@ -98,7 +98,14 @@ fn text_at(s: &[u8], last: usize, at: usize, w: u16, st: State) -> Result<Moved,
 
 // One turn at the word `at`, of the words before word `last`, by its class on the book's page. It has one caller, the loop below: with a second one
 // the compiler no longer inlines it.
-fn step(s: &[u8], rows: &[u8; 256], last: usize, at: usize, card: u16, st: State) -> Result<Moved, Fault>
+fn step(
+    s: &[u8],
+    rows: &[u8; 256],
+    last: usize,
+    at: usize,
+    card: u16,
+    st: State,
+) -> Result<Moved, Fault>
     requires { (at < last) × (2 * last ≤ length s.now) × (rows.now ≡ book_page) }
     ensures { view_step result ≡ step_of card s.now last at (view_state st) }
 {
@@ -112,15 +119,14 @@ fn step(s: &[u8], rows: &[u8; 256], last: usize, at: usize, card: u16, st: State
         Class::Bin => bin_at(s, last, at, w, st),
         Class::LastCell => last_cell(st, LastCell::of_word(w), at + 1),
         Class::TimeBin => time_bin(st, TimeBin::of_word(w), at + 1),
-        Class::DataFrame => Err(Fault::Place),
-        Class::MonitorFrame => Err(Fault::Place),
-        Class::CommandFrame => Err(Fault::Place),
         Class::Text => text_at(s, last, at, w, st),
         Class::StartEvent => start_at(s, last, at, w, st),
         Class::EndEvent => end_at(s, last, at, w, st),
-        Class::FrameEnd => Err(Fault::Place),
-        Class::Unassigned => Err(Fault::Class),
         Class::ContinueEvent => continue_at(s, last, at, w, st),
+        Class::Unassigned => Err(Fault::Class),
+        Class::DataFrame | Class::MonitorFrame | Class::CommandFrame | Class::FrameEnd => {
+            Err(Fault::Place)
+        }
     }
 }
 
@@ -144,7 +150,13 @@ fn noted(count: usize, n: usize, at: usize, index: usize) -> usize
 
 // Item by item from the left, over the words before word `last`, and many at once where they repeat; the index of item n is noted on the
 // way. The page is taken once and lent to each turn.
-pub(crate) fn walk(s: &[u8], last: usize, kind: Kind, card: u16, n: usize) -> Result<Summary, Refusal>
+pub(crate) fn walk(
+    s: &[u8],
+    last: usize,
+    kind: Kind,
+    card: u16,
+    n: usize,
+) -> Result<Summary, Refusal>
     requires { 2 * last ≤ length s.now }
     ensures { view_walk result ≡ summed (view_kind kind) card s.now last n }
 {
@@ -155,7 +167,10 @@ pub(crate) fn walk(s: &[u8], last: usize, kind: Kind, card: u16, n: usize) -> Re
     let mut st = State::start(kind);
     while at < last {
         index = noted(count, n, at, index);
-        let turn = step(s, &rows, last, at, card, st).map_err(|fault| fault.at(at))?;
+        let turn = match step(s, &rows, last, at, card, st) {
+            Ok(turn) => turn,
+            Err(fault) => return Err(fault.at(at)),
+        };
         count += 1;
         let after = turn.state;
         let run = repeats_at(s, last, card, turn.next, after, ahead(count, n));

@@ -5,18 +5,15 @@ use native.Mathlib.Omega.{arith}
 use Rattle.format.specs.Frames.{start_fits}
 use Rattle.format.proofs.reader.HeadTests.{odd, low, high, start_wrong, size_wrong, sequence_wrong, end_wrong, head_right}
 use Rattle.frame.proofs.head.head_fault.Goals as goal
+use Rattle.frame.proofs.head.head_fault.Goals.{then-n-ne0-via-then-n-ne0, then-n-ne0-via-else-n-ne0+then-n-lt-LEAST, then-n-ne0-via-else-n-ne0+else-n-lt-LEAST+then-n-gt-MOST}
 
 pub returns-then-n-ne0 : goal.returns-then-n-ne0
 returns-then-n-ne0 c =
-    odd c.args.s.now c.if-n-ne0.true
-
-pub returns-then-n-lt-LEAST : goal.returns-then-n-lt-LEAST
-returns-then-n-lt-LEAST c =
-    low c.args.s.now c.if-n-ne0.false c.if-n-lt-LEAST.true
-
-pub returns-then-n-gt-MOST : goal.returns-then-n-gt-MOST
-returns-then-n-gt-MOST c =
-    high c.args.s.now c.if-n-ne0.false c.if-n-gt-MOST.true
+    elim c.then-n-ne0.branch [
+      | then-n-ne0-via-then-n-ne0 w ↦ odd c.args.s.now w.if-n-ne0.true
+      | then-n-ne0-via-else-n-ne0+then-n-lt-LEAST w ↦ low c.args.s.now w.if-n-ne0.false w.if-n-lt-LEAST.true
+      | then-n-ne0-via-else-n-ne0+else-n-lt-LEAST+then-n-gt-MOST w ↦ high c.args.s.now w.if-n-ne0.false w.if-n-gt-MOST.true
+    ]
 
 pub returns-then-word-n : goal.returns-then-word-n
 returns-then-word-n c =

@@ -9,29 +9,8 @@ use Rattle.frame.proofs.repeats.past_bins.Goals as goal
 pub loop-i-init : goal.loop-i-init
 loop-i-init c = (omega arith, omega arith, omega arith, omega arith, omega arith, omega arith, omega arith, λ card last key marks h b. none_from card _ last _ headed key _ marks _ _ (omega arith) refl)
 
-pub word-w-requires : goal.word-w-requires
-word-w-requires c = omega arith
-
 pub returns-then-w-latest : goal.returns-then-w-latest
 returns-then-w-latest c = let v = c.loop-i.invariant in (v.0, v.1, v.5, v.6, v.7)
-
-pub returns-then-w : goal.returns-then-w
-returns-then-w c = let v = c.loop-i.invariant in (v.0, v.1, v.5, v.6, v.7)
-
-pub overflow_add-i : goal.overflow_add-i
-overflow_add-i c = omega arith
-
-pub long-requires : goal.long-requires
-long-requires c = omega arith
-
-pub returns-then-long-lt-LEAST_COUNT : goal.returns-then-long-lt-LEAST_COUNT
-returns-then-long-lt-LEAST_COUNT c = let v = c.loop-i.invariant in (v.0, v.1, v.5, v.6, v.7)
-
-pub overflow_add-i-in-loop-i : goal.overflow_add-i-in-loop-i
-overflow_add-i-in-loop-i c = omega arith
-
-pub loop-i-smaller : goal.loop-i-smaller
-loop-i-smaller c = omega arith
 
 pub loop-i-preserved : goal.loop-i-preserved
 loop-i-preserved c =

@@ -1,5 +1,6 @@
 -- `frame::repeats::past_pairs` meets its contract: the Samples behind us took their turns.
 -- Assumes nothing.
+use Prim.Native.Nat.{◌+◌, ◌*◌}
 use mathlib.Core.Path.{sym, ◌∙◌}
 use native.Mathlib.Omega.{arith}
 use Rattle.format.specs.Rules.{after_sample}
@@ -9,24 +10,6 @@ use Rattle.frame.proofs.repeats.past_pairs.Goals as goal
 pub loop-i-init : goal.loop-i-init
 loop-i-init c = (omega arith, omega arith, omega arith, λ card last key next marks h b. none_from card _ last _ after_sample key next marks _ _ (omega arith) (omega arith))
 
-pub overflow_add-i : goal.overflow_add-i
-overflow_add-i c = omega arith
-
-pub word-low-requires : goal.word-low-requires
-word-low-requires c = omega arith
-
-pub overflow_add-i-in-loop-i : goal.overflow_add-i-in-loop-i
-overflow_add-i-in-loop-i c = omega arith
-
-pub word-high-requires : goal.word-high-requires
-word-high-requires c = omega arith
-
-pub overflow_add-i-then-two_samples : goal.overflow_add-i-then-two_samples
-overflow_add-i-then-two_samples c = omega arith
-
-pub loop-i-smaller : goal.loop-i-smaller
-loop-i-smaller c = omega arith
-
 pub loop-i-preserved : goal.loop-i-preserved
 loop-i-preserved c =
     let v = c.loop-i.invariant in (
@@ -35,8 +18,7 @@ loop-i-preserved c =
       v.2,
       λ card last key next marks h b.
           let m = b (omega arith) in
-          pair_more card _ last _ key marks next _ _ _ v.0 (omega arith) c.word-low.ensures c.word-high.ensures (omega arith) (omega arith)
-          (sym c.two_samples.ensures ∙ c.if-two_samples.true) (omega (arith, m)) (v.3 card last key next marks h b),
+          pair_more card _ last _ key marks next _ (c.word-low.result + 65536 * c.word-high.result) v.0 (omega arith) (omega arith) (λ i. (c.type_inv.s i).fits) (sym c.two_samples.ensures ∙ c.if-two_samples.true) (omega (arith, m)) (v.3 card last key next marks h b),
     )
 
 pub returns-else-two_samples : goal.returns-else-two_samples

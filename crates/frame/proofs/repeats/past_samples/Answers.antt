@@ -8,24 +8,15 @@ use Rattle.frame.proofs.repeats.past_samples.Goals as goal
 pub returns-then-stop-end : goal.returns-then-stop-end
 returns-then-stop-end c = c.past_pairs-end.ensures
 
-pub word-w-requires : goal.word-w-requires
-word-w-requires c = omega arith
+pub returns-else-w-ge-SAMPLE : goal.returns-else-w-ge-SAMPLE
+returns-else-w-ge-SAMPLE c = c.past_pairs-end.ensures
 
-pub returns-then-w-lt-SAMPLE : goal.returns-then-w-lt-SAMPLE
-returns-then-w-lt-SAMPLE c = c.past_pairs-end.ensures
-
-pub returns-then-w-ge-HIT_COUNT : goal.returns-then-w-ge-HIT_COUNT
-returns-then-w-ge-HIT_COUNT c = c.past_pairs-end.ensures
-
-pub overflow_add-result : goal.overflow_add-result
-overflow_add-result c = omega arith
-
-pub returns : goal.returns
-returns c =
+pub returns-then-w-lt-HIT_COUNT : goal.returns-then-w-lt-HIT_COUNT
+returns-then-w-lt-HIT_COUNT c =
     let e = c.past_pairs-end.ensures in (
       omega arith,
       omega arith,
       λ card last key next marks h b.
           let m = b (omega arith) in
-          sample_more card _ last _ key marks next _ _ _ e.0 (omega arith) c.word-w.ensures c.if-w-lt-SAMPLE.false c.if-w-ge-HIT_COUNT.false (omega (arith, m)) refl (e.2 card last key next marks h b),
+          sample_more card _ last _ key marks next _ _ _ e.0 (omega arith) c.word-w.ensures c.if-w-ge-SAMPLE.true c.if-w-lt-HIT_COUNT.true (omega (arith, m)) refl (e.2 card last key next marks h b),
     )

@@ -12,20 +12,5 @@ returns-in-Inside c = rw c.in-Inside.is (c.repeated_hits.ensures _ _)
 pub returns-in-Headed : goal.returns-in-Headed
 returns-in-Headed c = rw c.in-Headed.is (c.repeated_bins.ensures _ _ _)
 
-pub returns-in-AfterTime : goal.returns-in-AfterTime
-returns-in-AfterTime c = ran_none _ _ _ _ _ _ _ _ _
-
-pub returns-in-AfterChannel : goal.returns-in-AfterChannel
-returns-in-AfterChannel c = ran_none _ _ _ _ _ _ _ _ _
-
-pub returns-in-Outside : goal.returns-in-Outside
-returns-in-Outside c = ran_none _ _ _ _ _ _ _ _ _
-
-pub returns-in-Unheaded : goal.returns-in-Unheaded
-returns-in-Unheaded c = ran_none _ _ _ _ _ _ _ _ _
-
-pub returns-in-Commands : goal.returns-in-Commands
-returns-in-Commands c = ran_none _ _ _ _ _ _ _ _ _
-
-pub returns-in-Fresh : goal.returns-in-Fresh
-returns-in-Fresh c = ran_none _ _ _ _ _ _ _ _ _
+pub returns-in_default : goal.returns-in_default
+returns-in_default c = ran_none _ _ _ _ _ _ _ _ _

@@ -2,6 +2,7 @@
 -- Assumes nothing.
 use Prim.Native.Nat.{ℕ, ◌<◌}
 use mathlib.Core.List.{List}
+use mathlib.Core.Logic.{inl, inr}
 use mathlib.Core.Path.{◌≡◌, ap, sym, ◌∙◌}
 use native.Mathlib.Omega.{arith}
 use Rattle.format.specs.Book.{class_of}
@@ -71,15 +72,12 @@ returns-in-TimeBin c =
 
 pub returns-in-DataFrame : goal.returns-in-DataFrame
 returns-in-DataFrame c =
-    data_step _ _ _ _ _ _ c.word-w.ensures (class_is _ _ _ _ c.requires.2 c.classify_on-class.ensures (omega arith) c.in-DataFrame.is)
-
-pub returns-in-MonitorFrame : goal.returns-in-MonitorFrame
-returns-in-MonitorFrame c =
-    monitor_step _ _ _ _ _ _ c.word-w.ensures (class_is _ _ _ _ c.requires.2 c.classify_on-class.ensures (omega arith) c.in-MonitorFrame.is)
-
-pub returns-in-CommandFrame : goal.returns-in-CommandFrame
-returns-in-CommandFrame c =
-    command_step _ _ _ _ _ _ c.word-w.ensures (class_is _ _ _ _ c.requires.2 c.classify_on-class.ensures (omega arith) c.in-CommandFrame.is)
+    elim c.in-DataFrame.is [
+      | inl e ↦ data_step _ _ _ _ _ _ c.word-w.ensures (class_is _ _ _ _ c.requires.2 c.classify_on-class.ensures (omega arith) e)
+      | inr (inl e) ↦ monitor_step _ _ _ _ _ _ c.word-w.ensures (class_is _ _ _ _ c.requires.2 c.classify_on-class.ensures (omega arith) e)
+      | inr (inr (inl e)) ↦ command_step _ _ _ _ _ _ c.word-w.ensures (class_is _ _ _ _ c.requires.2 c.classify_on-class.ensures (omega arith) e)
+      | inr (inr (inr e)) ↦ end_step _ _ _ _ _ _ c.word-w.ensures (class_is _ _ _ _ c.requires.2 c.classify_on-class.ensures (omega arith) e)
+    ]
 
 pub returns-in-Text : goal.returns-in-Text
 returns-in-Text c =
@@ -92,10 +90,6 @@ returns-in-StartEvent c =
 pub returns-in-EndEvent : goal.returns-in-EndEvent
 returns-in-EndEvent c =
     c.end_at.ensures _
-
-pub returns-in-FrameEnd : goal.returns-in-FrameEnd
-returns-in-FrameEnd c =
-    end_step _ _ _ _ _ _ c.word-w.ensures (class_is _ _ _ _ c.requires.2 c.classify_on-class.ensures (omega arith) c.in-FrameEnd.is)
 
 pub returns-in-Unassigned : goal.returns-in-Unassigned
 returns-in-Unassigned c =

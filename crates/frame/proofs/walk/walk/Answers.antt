@@ -15,17 +15,6 @@ use Rattle.rules.specs.Views.{view_kind, view_step}
 use Rattle.frame.proofs.Loop.{live_start, live_moved, live_run, live_stopped, live_end, live_few}
 use Rattle.frame.proofs.walk.walk.Goals as goal
 
--- what an answer whose error was made another one says of the answer before it
-went : {T E D : Type 0} (P : E → D → Type 0) (r : Result T E) (q : Result T D) → MatchResult r (λ x. q ≡ Ok x) (λ e. IsErrAnd q (P e)) → (x : T) → q ≡ Ok x → r ≡ Ok x
-went P (Ok y) q h x e = let z : ◌≡◌ {A = Result _ _} (Ok y) (Ok x) = sym h ∙ e in cc
-went P (Err y) (Ok z) h x e = absurd h
-went P (Err y) (Err z) h x e = cc
-
-stays : {T E D : Type 0} (P : E → D → Type 0) (r : Result T E) (q : Result T D) → MatchResult r (λ x. q ≡ Ok x) (λ e. IsErrAnd q (P e)) → (d : D) → q ≡ Err d → (e : E) × (r ≡ Err e) × P e d
-stays P (Ok y) q h d e = let z : ◌≡◌ {A = Result _ _} (Ok y) (Err d) = sym h ∙ e in cc
-stays P (Err y) (Ok z) h d e = absurd h
-stays P (Err y) (Err z) h d e = let k : z ≡ d = cc in (y, refl, subst (P y) k h)
-
 pub loop-at-init : goal.loop-at-init
 loop-at-init c = (c.requires, live_start _ _ _ _ _ (view_kind c.args.kind) c.requires c.start-st.ensures)
 
@@ -39,33 +28,31 @@ overflow_add-count c =
 
 pub repeats_at-run-requires : goal.repeats_at-run-requires
 repeats_at-run-requires c =
-    let m = live_moved _ _ _ _ _ _ _ _ _ c.loop-at.invariant.1 c.loop-at-test.true _ c.step.ensures _ _ _ (ap view_step (went _ _ _ c.map_err.ensures.cases _ (c.in_ok-turn.was))) c.noted-index.ensures in
+    let m = live_moved _ _ _ _ _ _ _ _ _ c.loop-at.invariant.1 c.loop-at-test.true _ c.step.ensures _ _ _ (ap view_step c.in-Ok.is) c.noted-index.ensures in
     (m.1, c.loop-at.invariant.0)
 
 pub overflow_add-count-in-loop-at : goal.overflow_add-count-in-loop-at
 overflow_add-count-in-loop-at c =
-    let m = live_moved _ _ _ _ _ _ _ _ _ c.loop-at.invariant.1 c.loop-at-test.true _ c.step.ensures _ _ _ (ap view_step (went _ _ _ c.map_err.ensures.cases _ (c.in_ok-turn.was))) c.noted-index.ensures in
+    let m = live_moved _ _ _ _ _ _ _ _ _ c.loop-at.invariant.1 c.loop-at-test.true _ c.step.ensures _ _ _ (ap view_step c.in-Ok.is) c.noted-index.ensures in
     let e = c.repeats_at-run.ensures in
     let l = live_run _ _ _ _ _ _ _ _ _ m.2 _ (λ i h. c.ahead.ensures.0 i (omega (arith, e.few))) _ _ e.turns in
     omega (arith, (live_few _ _ _ _ _ _ _ _ _ l).0)
 
 pub loop-at-smaller : goal.loop-at-smaller
 loop-at-smaller c =
-    let m = live_moved _ _ _ _ _ _ _ _ _ c.loop-at.invariant.1 c.loop-at-test.true _ c.step.ensures _ _ _ (ap view_step (went _ _ _ c.map_err.ensures.cases _ (c.in_ok-turn.was))) c.noted-index.ensures in
+    let m = live_moved _ _ _ _ _ _ _ _ _ c.loop-at.invariant.1 c.loop-at-test.true _ c.step.ensures _ _ _ (ap view_step c.in-Ok.is) c.noted-index.ensures in
     omega (arith, m.0, c.repeats_at-run.ensures.onwards)
 
 pub loop-at-preserved : goal.loop-at-preserved
 loop-at-preserved c =
-    let m = live_moved _ _ _ _ _ _ _ _ _ c.loop-at.invariant.1 c.loop-at-test.true _ c.step.ensures _ _ _ (ap view_step (went _ _ _ c.map_err.ensures.cases _ (c.in_ok-turn.was))) c.noted-index.ensures in
+    let m = live_moved _ _ _ _ _ _ _ _ _ c.loop-at.invariant.1 c.loop-at-test.true _ c.step.ensures _ _ _ (ap view_step c.in-Ok.is) c.noted-index.ensures in
     let e = c.repeats_at-run.ensures in
     (c.loop-at.invariant.0, live_run _ _ _ _ _ _ _ _ _ m.2 _ (λ i h. c.ahead.ensures.0 i (omega (arith, e.few))) _ _ e.turns)
 
-pub returns-in_err-turn : goal.returns-in_err-turn
-returns-in_err-turn c =
-    let (f, e, l) = stays _ _ _ c.map_err.ensures.cases _ c.in_err-turn.was in
-    let d : c.in_err-turn.field-0.0 ≡ record { fault = f; place = c.loop-at.at } = search rules in
-    let p = err_from_is_err_and c.from_residual.result c.from_residual.ensures.1 in
-    rw (p.1, p.2, d) (live_stopped _ _ _ _ _ _ _ _ _ c.loop-at.invariant.1 c.loop-at-test.true _ c.step.ensures _ (view_kind c.args.kind) (ap view_step e) c.start-st.ensures)
+pub returns-in-Err : goal.returns-in-Err
+returns-in-Err c =
+    rw c.at.ensures
+    (live_stopped _ _ _ _ _ _ _ _ _ c.loop-at.invariant.1 c.loop-at-test.true _ c.step.ensures _ (view_kind c.args.kind) (ap view_step c.in-Err.is) c.start-st.ensures)
 
 pub returns : goal.returns
 returns c = live_end _ _ _ _ _ _ _ _ _ c.loop-at.invariant.1 c.loop-at-test.false (view_kind c.args.kind) c.start-st.ensures
