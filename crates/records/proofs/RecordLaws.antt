@@ -12,7 +12,7 @@ use lib.Dec.{eqb, leb, ltb}
 use lib.ListN.{length, get_or, take, drop, length-drop, replicate}
 use lib.Seq.{take_all, length-take-le, get_or-drop, sets}
 use Rattle.std.proofs.lemmas.List.{length-take, get_or-take, get_or_past}
-use borrow.Author.Tests.{ltb-true, ltb-false, leb-true, eqb-true, eqb-false, eq-eqb, ne_eqb, lt-ltb}
+use borrow.Author.Tests.{ltb-true, ltb-false, leb-true, eq-eqb, ne_eqb, lt-ltb}
 use Rattle.format.specs.Words.{Bytes, pick, word_at, long_at}
 use Rattle.format.specs.Answers.{Outcome, accepted, refused, Done, and_then, first_of}
 use Rattle.format.specs.Frames.{Frame, verdict}
@@ -24,7 +24,6 @@ use Rattle.format.proofs.items.WordLaws.{below_drop, below_take}
 use Rattle.format.proofs.items.StoringLaws.{sets_room, sets_inside, sets_other}
 use Rattle.format.proofs.spots.PutLaws.{spot_refused}
 use Rattle.ledger.specs.Tests.{all}
-use Rattle.ledger.specs.Frames.{Accepted}
 use Rattle.ledger.specs.Formats.{Entry, Format, size}
 use Rattle.ledger.specs.Records.{length_in, count_in, total_in, frame_in, entry_of, numbered, entries_to, entries_in, length_entries, header_right, history_verdict, record_verdict}
 use Rattle.ledger.specs.Calls.{Summary, record_answer, entry_answer, restored, restore_answer, restore_exit}
@@ -299,7 +298,6 @@ module _ (F : Format) (b : List ℕ) (w : ℕ) where
       → (o : Outcome Judged) → o ≡ history_judged F f b (record { length = len; count = n; total = total }) w → o ≡ judged_at plane_frames F b w
   unfolding judged_at history_judged
   right_frame h j len n total el en et f ef o eo = eo ∙ rw (parts_verdict plane_frames F b h j, et, ef, el, en)
-
 
   -- the record's answer is what is told, without what stands at the word
   judged_told : and_then (judged_at plane_frames F b w) (λ j. accepted (lengths j)) ≡ record_answer plane_frames F b

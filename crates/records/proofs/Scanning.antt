@@ -1,7 +1,7 @@
 -- The two loops over an accepted frame: the one that looks for the item at a word, and the one that notes the header of every item. Each turn is
 -- a case of the cursor's law (format's CursorLaws), and what it tells of the word is in format's ScanLaws.
 -- Assumes nothing.
-use Prim.Native.Nat.{ℕ, zero, suc, ◌+◌, ◌-◌, ◌*◌, ◌/◌, ◌%◌, ◌<◌, ◌≤◌}
+use Prim.Native.Nat.{ℕ, zero, suc, ◌+◌, ◌/◌, ◌%◌, ◌<◌, ◌≤◌}
 use mathlib.Core.Path.{◌≡◌, refl, sym, ap, ap₂, subst, ◌∙◌}
 use mathlib.Core.List.{List, [], ◌∷◌}
 use denote.Enum.Declared.{tag_of}
@@ -19,7 +19,7 @@ use Rattle.format.specs.Items.{ItemOf, Item, Channel, Histogram, HitCount, Sampl
 use Rattle.format.specs.Book.{Class, after, channel, histogram, hit_count, sample, bin, text, start_event, continue_event, end_event, class_of}
 use Rattle.format.specs.Steps.{next_at}
 use Rattle.format.specs.Frames.{Frame, last_of, head_fault, judged, verdict}
-use Rattle.format.specs.Questions.{done, shown}
+use Rattle.format.specs.Questions.{done}
 use Rattle.format.specs.Cursor.{standing_at, shown_by, On}
 use Rattle.format.specs.Spots.{Header, no_header, Spot, spot_of, under, spot}
 use Rattle.format.specs.Scans.{head_by, head, header_by, header_at, Noted}
@@ -28,7 +28,7 @@ use Rattle.format.proofs.book.BookLaws.{ranged}
 use Rattle.format.proofs.book.RangeLaws.{bin_is, sample_is, hits_is, histogram_is, channel_is}
 use Rattle.format.proofs.verdict.HeadLaws.{head_of}
 use Rattle.format.proofs.reader.CursorLaws.{last_is, Turn, turn, answered, nothing_answered, channel_turn, histogram_turn, hits_turn, sample_turn, bin_turn}
-use Rattle.format.proofs.spots.ScanLaws.{shown_head, shown_spot, Blank, Ahead, ahead_start, blank_first, Passed, pass, ahead_end}
+use Rattle.format.proofs.spots.ScanLaws.{shown_head, shown_spot, Ahead, ahead_start, blank_first, Passed, pass, ahead_end}
 use Rattle.cursor.proofs.Shows.{sample_shown, bin_shown}
 use Rattle.ledger.specs.Frames.{Accepted}
 use Rattle.ledger.specs.PlaneFrames.{plane_frames, plane_frames_judge}

@@ -13,15 +13,15 @@ use native.Mathlib.Decide.{dec_lt}
 use lib.Dec.{eqb, leb, ltb}
 use lib.ListN.{length, get_or, take, drop, length-drop, length-append}
 use lib.Seq.{sets, length-take-le, take_at}
-use borrow.Author.Tests.{leb-true, eqb-true, eqb-false, eq-eqb, ne_eqb, lt-ltb, le-ltb, le-leb, lt-leb}
-use Rattle.format.specs.Words.{Bytes, bytes}
+use borrow.Author.Tests.{leb-true, eq-eqb, ne_eqb, lt-ltb, le-ltb, le-leb, lt-leb}
+use Rattle.format.specs.Words.{Bytes}
 use Rattle.format.specs.Answers.{Done, accepted, refused}
 use Rattle.format.specs.Items.{ItemOf, Item, Channel, Histogram, HitCount, Sample, Bin, LastCell, TimeBin, Text, StartEvent, ContinueEvent, EndEvent, words_of}
 use Rattle.format.specs.Frames.{last_of}
 use Rattle.format.specs.Cursor.{standing_at, shown_by}
-use Rattle.format.specs.Spots.{Header, no_header, Spot, spot_of, under_all, spot, put, legal_value}
+use Rattle.format.specs.Spots.{Header, no_header, Spot, spot_of, under_all, spot, legal_value}
 use Rattle.format.specs.Scans.{head, header_at, spot_by, Noted}
-use Rattle.format.proofs.book.PrefixLaws.{and_left, and_right}
+use Rattle.format.proofs.book.PrefixLaws.{and_left}
 use Rattle.format.proofs.spots.PutLaws.{stands, put_stores}
 use Rattle.format.proofs.questions.ItemQuestions.{no_some}
 use Rattle.format.proofs.reader.CursorLaws.{next_there}

@@ -46,7 +46,10 @@ impl History<'_> {
         let len = self.frame.len();
         self.unwind(&mut scratch[..len], map)?;
         let spot = spot_noted(self.frame, map, w);
-        Ok(Judged { record: self.lengths, spot })
+        Ok(Judged {
+            record: self.lengths,
+            spot,
+        })
     }
 
     // The same with memory of its own. The arrays stand here and are lent on: in the function that works on them every goal would show all their zeros.

@@ -4,8 +4,8 @@ ghost use Rattle.ledger.specs.Versions.{format_for};
 ghost use Rattle.records.specs.Undoing.{Kept};
 ghost use Rattle.records.specs.Promises.{RestoredTo};
 
-use crate::answers::Record;
 use crate::WORDS;
+use crate::answers::Record;
 use crate::history::History;
 use book::refusal::Refusal;
 use book::words::copy;

@@ -1,17 +1,15 @@
 -- `records::entry` meets its contract.
 -- Assumes nothing.
 use Prim.Native.Nat.{ℕ, ◌+◌, ◌-◌, ◌*◌, ◌≤◌, ◌<◌}
-use mathlib.Core.Path.{◌≡◌, ap, sym, ◌∙◌}
+use mathlib.Core.Path.{◌≡◌, ap, ◌∙◌}
 use mathlib.Core.List.{List}
 use mathlib.Core.Bool.{true, ◌&&◌}
 use lib.Dec.{leb}
 use lib.ListN.{length}
 use Rattle.format.specs.Words.{word_at}
-use Rattle.format.specs.Answers.{Outcome, accepted}
 use Rattle.book.specs.Views.{refusal}
 use Rattle.ledger.specs.Formats.{size}
-use Rattle.ledger.specs.Calls.{Summary, record_answer}
-use Rattle.ledger.specs.PlaneFrames.{plane_frames}
+use Rattle.ledger.specs.Calls.{Summary}
 use Rattle.ledger.specs.Versions.{format_for, format_in}
 use Rattle.records.specs.Views.{summary_of, view_entry}
 use Rattle.records.proofs.RecordLaws.{passed_on, RecordKnown, record_known, few_entries, product_small, numbers, entry_refused, entry_inside, entry_none, entry_numbered}

@@ -1,10 +1,8 @@
 -- `records::scan::note_heads` meets its contract: the words passed are noted, the others still blank.
 -- Assumes nothing.
-use Prim.Native.Nat.{◌-◌}
-use mathlib.Core.Path.{refl, ap, sym, ◌∙◌}
+use mathlib.Core.Path.{refl}
 use lib.ListN.{length-set}
 use native.Mathlib.Omega.{arith}
-use Rattle.cursor.specs.Views.{view_standing}
 use Rattle.records.proofs.Scanning.{note_start, tested_before, note_before, note_plain, note_bin, note_header, note_short, note_item, note_end}
 use Rattle.records.proofs.scan.note_heads.Goals as goal
 

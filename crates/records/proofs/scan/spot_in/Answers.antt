@@ -1,6 +1,5 @@
 -- `records::scan::spot_in` meets its contract: what it has passed is not the word asked for.
 -- Assumes nothing.
-use Prim.Native.Nat.{◌-◌}
 use mathlib.Core.Path.{refl, ap, sym, ◌∙◌}
 use native.Mathlib.Omega.{arith}
 use Rattle.records.specs.Views.{view_spot}

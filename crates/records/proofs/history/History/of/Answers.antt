@@ -1,13 +1,9 @@
 -- `records::history::History::of` meets its contract: the header, then the frame.
 -- Assumes nothing.
-use Prim.Native.Nat.{◌+◌, ◌-◌}
-use mathlib.Core.Path.{◌≡◌, refl, ap, sym, ◌∙◌}
-use mathlib.Core.Bool.{true}
-use lib.ListN.{take, drop}
+use mathlib.Core.Path.{refl, ap, sym, ◌∙◌}
 use native.Mathlib.Omega.{arith}
 use Rattle.format.specs.Steps.{read_of}
 use Rattle.book.specs.Views.{refusal}
-use Rattle.ledger.specs.Records.{length_in, frame_in, header_right}
 use Rattle.ledger.specs.Versions.{format_in}
 use Rattle.records.proofs.RecordLaws.{passed_by, judge_refused, judge_accepted, frame_part, room, framed_header, framed_frame, framed_right, history_framed, length_is, count_is}
 use Rattle.records.proofs.history.History.of.Goals as goal
@@ -25,8 +21,10 @@ returns-in_err-read c =
 
 pub invariant_of-result : goal.invariant_of-result
 invariant_of-result c =
-    record { framed = history_framed _ (λ i. (c.type_inv.buf i).fits) (sym c.header_right.ensures ∙ c.if-not-header_right.false) (judge_accepted _ _ (c.in_ok-read.ensures ∙ ap read_of (frame_part _ _ (length_is _ _ c.word-length.ensures))))
-    _ _ _ c.word-version.ensures (count_is _ _ c.word-count.ensures) (frame_part _ _ (length_is _ _ c.word-length.ensures)) }
+    record {
+      framed = history_framed _ (λ i. (c.type_inv.buf i).fits) (sym c.header_right.ensures ∙ c.if-not-header_right.false) (judge_accepted _ _ (c.in_ok-read.ensures ∙ ap read_of (frame_part _ _ (length_is _ _ c.word-length.ensures))))
+          _ _ _ c.word-version.ensures (count_is _ _ c.word-count.ensures) (frame_part _ _ (length_is _ _ c.word-length.ensures));
+    }
 
 pub returns : goal.returns
 returns c =
