@@ -44,6 +44,7 @@ impl Follower {
     }
 
     // The start word is accepted in any state, a word above it refused by 4; a number is refused by 14 before a start, unless it is 0.
+    #[tactic(auto, using(crate::proofs::LineLaws::starts, crate::proofs::LineLaws::numbers, crate::proofs::LineLaws::passes))]
     pub fn follow(self, word: u16) -> Result<Followed, SequenceError>
         ensures { FollowedBy self word result }
     {
@@ -64,6 +65,7 @@ impl Follower {
 }
 
 // A number while idle: 0 says that numbers are not in use.
+#[tactic(auto, using(crate::proofs::LineLaws::unused, crate::proofs::LineLaws::early))]
 fn unstarted(number: u8) -> Result<Followed, SequenceError>
     ensures { view result ≡ numbered idle number }
 {
@@ -77,6 +79,7 @@ fn unstarted(number: u8) -> Result<Followed, SequenceError>
 }
 
 // A number while another, or this one, is expected: (number - expected) modulo 256 frames were lost, and the number after this one is next.
+#[tactic(auto, using(crate::proofs::LineLaws::counts_by))]
 fn counted(expected: u8, number: u8) -> Followed
     ensures { view (Ok result) ≡ numbered (expecting expected) number }
 {
