@@ -1,14 +1,15 @@
 -- Decimals: what a reader expects of them, and that the digits a number is spelt in are its decimals.
 -- Assumes nothing.
-use Prim.Native.Nat.{ℕ, zero, suc, ◌+◌, ◌*◌, ◌-◌, ◌/◌, ◌%◌, ◌^◌, ◌≤◌, ◌<◌}
+use Prim.Native.Nat.{ℕ, zero, suc, ◌/◌, ◌%◌, ◌≤◌, ◌<◌}
 use mathlib.Core.Path.{◌≡◌, refl, sym, ap, ◌∙◌}
 use mathlib.Core.Bool.{Bool, true, false}
 use mathlib.Core.List.{List, [], ◌∷◌, ◌++◌}
-use native.Mathlib.Nat.{pow-suc, one-le-pow, pow-le-pow_right}
 use native.Mathlib.Omega.{arith}
-use lib.Dec.{ltb, leb}
-use borrow.Author.Tests.{ltb-false, lt-ltb, le-ltb, leb-true, leb-false}
-use Rattle.io.specs.Digits.{hex_digit_ascii, last_digits, IsDigitCount}
+use lib.Dec.{ltb}
+use lib.ListN.{length}
+use borrow.Author.Tests.{ltb-false, lt-ltb, le-ltb}
+use Rattle.std.specs.Fmt as fmt
+use Rattle.std.proofs.lemmas.Fmt.{decimal_by_steps, length-decimal-le}
 use Rattle.format.specs.Words.{pick}
 use Rattle.listing.specs.Text.{digit, decimal_in, decimal}
 
@@ -36,32 +37,13 @@ decimal_large zero h = absurd (omega arith)
 decimal_large (suc n) h =
     rw (le-ltb (suc n) 10 h) (ap (λ (l : List ℕ). l ++ (digit (suc n % 10) ∷ [])) (enough n (suc n / 10) (suc n / 10) (omega arith) (omega arith)))
 
--- the fewest digits that hold a number
-pub spelt : (k n : ℕ) → IsDigitCount 10 1 n k → last_digits 10 k n ≡ decimal n
-spelt zero n f = absurd (omega (arith, f.0))
-spelt (suc zero) n f =
-    let h : n < 10 = f.1 in
-    let m : n % 10 ≡ n = omega arith in
-    rw (m, lt-ltb n 10 h, decimal_small n h)
-spelt (suc (suc j)) n f =
-    let p : 10 ^ suc (suc j) ≡ 10 ^ suc j * 10 = pow-suc 10 (suc j) in
-    let q : 10 ^ suc j ≡ 10 ^ j * 10 = pow-suc 10 j in
-    let o : 1 ≤ 10 ^ j = one-le-pow j 10 (omega arith) in
-    let s : suc (suc j) - 1 ≡ suc j = omega arith in
-    let t : suc j - 1 ≡ j = omega arith in
-    let a : n < 10 ^ suc (suc j) = f.1 in
-    let b : 10 ^ suc j ≤ n = rw s at (f.2 (omega arith)) in
-    let d : n % 10 < 10 = omega arith in
-    rw (spelt (suc j) (n / 10) (omega arith, omega arith, λ h. rw t (omega arith)), lt-ltb (n % 10) 10 d) (sym (decimal_large n (omega arith)))
+-- std's decimals are the same
+pub spelt : (n : ℕ) → n < 18446744073709551616 → fmt.decimal n ≡ decimal n
+spelt =
+    decimal_by_steps (λ n ds. ds ≡ decimal n)
+    (λ n h. sym (decimal_small n h))
+    (λ n ds h e. ap (λ (l : List ℕ). l ++ (digit (n % 10) ∷ [])) e ∙ sym (decimal_large n h))
 
 -- a number of 64 bits has at most 20 digits
-pub twenty : (n k : ℕ) → n < 18446744073709551616 → IsDigitCount 10 1 n k → k ≤ 20
-twenty n k h f = go (leb k 20) refl
-  where
-    go : (t : Bool) → leb k 20 ≡ t → k ≤ 20
-    go true e = leb-true k 20 e
-    go false e =
-        let a : 20 < k = leb-false k 20 e in
-        let p : 10 ^ 20 ≤ 10 ^ (k - 1) = pow-le-pow_right {n = 10} (omega arith) {i = 20} {j = k - 1} (omega arith) in
-        let q : 10 ^ (k - 1) ≤ n = f.2 (omega arith) in
-        absurd (omega arith)
+pub twenty : (n : ℕ) → n < 18446744073709551616 → length (fmt.decimal n) ≤ 20
+twenty n h = length-decimal-le 20 n (omega arith) (omega arith) h

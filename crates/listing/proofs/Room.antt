@@ -1,8 +1,8 @@
 -- Room: the listing of any buffer, of whatever length, has at most 92,520 bytes, so that a call that is lent as many is never refused.
 -- Assumes nothing.
 use Prim.Native.Nat.{ℕ, zero, suc, ◌+◌, ◌*◌, ◌-◌, ◌/◌, ◌%◌, ◌^◌, ◌≤◌, ◌<◌}
-use mathlib.Core.Path.{◌≡◌, refl, sym, ap, ◌∙◌}
-use mathlib.Core.Logic.{◌⊎◌, ⊎_elim}
+use mathlib.Core.Path.{◌≡◌, refl, sym, ◌∙◌}
+use mathlib.Core.Logic.{⊎_elim}
 use mathlib.Core.Bool.{Bool, true, false}
 use mathlib.Core.List.{List, [], ◌∷◌, ◌++◌}
 use native.Mathlib.Nat.{pow-suc}
@@ -37,7 +37,7 @@ use Rattle.ledger.proofs.plane.VersionLaws.{for_which}
 use Rattle.records.proofs.RecordLaws.{frame_bytes}
 use Rattle.listing.specs.Ascii.{ascii}
 use Rattle.listing.specs.Text.{decimal, hex}
-use Rattle.listing.specs.Listing.{letter, kind_text, frame_line, change_text, time_text, signer_text, entry_line, end_line, refused_line, entry_lines, frame_of, listing_of, listing, listing_answer}
+use Rattle.listing.specs.Listing.{letter, frame_line, change_text, time_text, signer_text, entry_line, end_line, refused_line, entry_lines, frame_of, listing_of, listing, listing_answer}
 use Rattle.book.specs.declared.refusal.Refusal.{Refusal}
 use Rattle.listing.specs.Promises.{Listed}
 use Rattle.listing.specs.Views.{view_listing}

@@ -10,8 +10,8 @@ use lib.Dec.{eqb, leb, ltb}
 use lib.ListN.{length, get_or, take}
 use borrow.Author.Tests.{eqb-true, eqb-false}
 use Rattle.format.specs.Words.{Bytes, word_at}
-use Rattle.format.specs.Answers.{Outcome, Done, accepted, refused, and_then}
-use Rattle.format.specs.Frames.{Frame, Legal, verdict}
+use Rattle.format.specs.Answers.{Done, accepted, refused, and_then}
+use Rattle.format.specs.Frames.{Frame, verdict}
 use Rattle.format.specs.Spots.{legal_value}
 use Rattle.format.proofs.verdict.Acceptance.{exactly}
 use Rattle.format.proofs.book.PrefixLaws.{and_left}
@@ -28,7 +28,7 @@ use Rattle.ledger.proofs.plane.VersionLaws.{for_which}
 use Rattle.ledger.proofs.plane.OneJudge.{names_version}
 use Rattle.records.proofs.RecordLaws.{frame_bytes}
 use Rattle.listing.specs.Listing.{frame_line, entry_line, end_line, entry_lines, frame_of, listing, SameRecord}
-use Rattle.listing.proofs.Splits.{SameFrame, frame_split, Alike, entry_split, end_split, entry_not_end}
+use Rattle.listing.proofs.Splits.{frame_split, Alike, entry_split, end_split, entry_not_end}
 
 -- entry j of a record, by its own version
 abbrev entry : List ℕ → ℕ → Entry

@@ -2,7 +2,7 @@
 -- from a law.
 -- Assumes nothing.
 use Prim.Native.Nat.{ℕ}
-use mathlib.Core.Path.{◌≡◌, refl, sym, ◌∙◌}
+use mathlib.Core.Path.{◌≡◌, refl, ◌∙◌}
 use mathlib.Core.List.{[], ◌∷◌, ◌++◌}
 use native.Mathlib.Omega.{arith}
 use Rattle.format.specs.Words.{words, bytes, non_zero, all_zero}
@@ -26,7 +26,7 @@ use Rattle.listing.specs.Ascii.{ascii}
 use Rattle.listing.specs.Figures.{edited}
 use Rattle.listing.specs.Text.{decimal_in, decimal, hex}
 use Rattle.listing.specs.Listing.{frame_line, change_text, time_text, signer_text, entry_line, end_line, entry_lines, frame_of, listing}
-use Rattle.listing.proofs.Decimals.{spelt}
+use Rattle.listing.proofs.Decimals.{decimal_small, decimal_large}
 
 entry_of_lem : ℕ → Entry
 entry_of_lem time = record { word = 11; kind = 1; old = 250; new = 260; operator = 9; reason = 2; extra = time ∷ 0 ∷ [] }
@@ -44,7 +44,7 @@ unfolding frame_line end_line hex decimal decimal_in
 other_lines = (refl, refl)
 
 time_digits : decimal 1773403200 ≡ ascii "1773403200"
-time_digits = sym (spelt 10 1773403200 (omega arith, omega arith, λ h. omega arith))
+time_digits = rw (decimal_large 1773403200 (omega arith), decimal_large 177340320 (omega arith), decimal_large 17734032 (omega arith), decimal_large 1773403 (omega arith), decimal_large 177340 (omega arith), decimal_large 17734 (omega arith), decimal_large 1773 (omega arith), decimal_large 177 (omega arith), decimal_large 17 (omega arith), decimal_small 1 (omega arith))
 
 pub timed_listing : listing (edited v2) ≡ ascii "frame D card 5 seq 0100 bytes 34 items 6\nedit 1 word 11 sample 250 -> 260 by 9 reason 2 at 1773403200\nend 1\n"
 timed_listing = lines ∙ rw (timed_line 1773403200, other_lines.0, other_lines.1, time_digits)

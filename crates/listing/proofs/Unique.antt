@@ -1,7 +1,7 @@
 -- T39, T40. What an answer says on paper fixes the answer: the view is injective, so the promise has one answer and one exit list.
 -- Assumes nothing.
 use Prim.Native.Nat.{ℕ}
-use mathlib.Core.Path.{◌≡◌, refl, sym, ◌∙◌}
+use mathlib.Core.Path.{◌≡◌, sym, ◌∙◌}
 use mathlib.Core.List.{List}
 use Rattle.std.specs.Prelude.{Result}
 use Rattle.book.proofs.Unique.{one, same_result}
