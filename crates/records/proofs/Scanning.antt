@@ -55,33 +55,6 @@ other_spot (item.StartEvent x) o k = refl
 other_spot (item.ContinueEvent x) o k = refl
 other_spot (item.EndEvent x) o k = refl
 
--- anything but a Channel or Histogram is no header
-pub other_header : (z : declared.Item) → OneOf (2 ∷ 3 ∷ 4 ∷ 5 ∷ 6 ∷ 7 ∷ 8 ∷ 9 ∷ 10 ∷ []) (tag_of the_type z) → no_header ≡ under no_header (view_item z)
-other_header (item.Channel x) o = absurd (miss (2 ∷ 3 ∷ 4 ∷ 5 ∷ 6 ∷ 7 ∷ 8 ∷ 9 ∷ 10 ∷ []) 0 tt o)
-other_header (item.Histogram x) o = absurd (miss (2 ∷ 3 ∷ 4 ∷ 5 ∷ 6 ∷ 7 ∷ 8 ∷ 9 ∷ 10 ∷ []) 1 tt o)
-other_header (item.HitCount x) o = refl
-other_header (item.Sample x) o = refl
-other_header (item.Bin x) o = refl
-other_header (item.LastCell x) o = refl
-other_header (item.TimeBin x) o = refl
-other_header (item.Text x) o = refl
-other_header (item.StartEvent x) o = refl
-other_header (item.ContinueEvent x) o = refl
-other_header (item.EndEvent x) o = refl
-
-pub other_head : (z : declared.Item) → OneOf (2 ∷ 3 ∷ 4 ∷ 5 ∷ 6 ∷ 7 ∷ 8 ∷ 9 ∷ 10 ∷ []) (tag_of the_type z) → (at h : ℕ) → h ≡ head_by h at (view_item z)
-other_head (item.Channel x) o at h = absurd (miss (2 ∷ 3 ∷ 4 ∷ 5 ∷ 6 ∷ 7 ∷ 8 ∷ 9 ∷ 10 ∷ []) 0 tt o)
-other_head (item.Histogram x) o at h = absurd (miss (2 ∷ 3 ∷ 4 ∷ 5 ∷ 6 ∷ 7 ∷ 8 ∷ 9 ∷ 10 ∷ []) 1 tt o)
-other_head (item.HitCount x) o at h = refl
-other_head (item.Sample x) o at h = refl
-other_head (item.Bin x) o at h = refl
-other_head (item.LastCell x) o at h = refl
-other_head (item.TimeBin x) o at h = refl
-other_head (item.Text x) o at h = refl
-other_head (item.StartEvent x) o at h = refl
-other_head (item.ContinueEvent x) o at h = refl
-other_head (item.EndEvent x) o at h = refl
-
 -- ---- a test of a range
 
 pub in_test : (a b w : ℕ) → leb a w && ltb w b ≡ true → (a ≤ w) × (w < b)

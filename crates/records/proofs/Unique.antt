@@ -7,7 +7,7 @@ use mathlib.Core.List.{List, [], ◌∷◌}
 use lib.ListN.{get_or}
 use lib.Seq.{sets}
 use Rattle.format.specs.Words.{bytes}
-use Rattle.std.proofs.Common.{Option, Some, None, Result}
+use Rattle.std.proofs.Common.{Option, Some, None, Result, Ok, Err}
 use Rattle.format.specs.Spots as spots
 use Rattle.format.specs.Spots.{legal_value}
 use Rattle.book.proofs.Unique.{one, undone, equal_once, same_result, same_option}

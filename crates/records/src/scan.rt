@@ -30,11 +30,10 @@ pub(crate) const NONE: u16 = 0;
 fn head_behind(item: Item, at: u16, head: u16) -> u16
     ensures { result ≡ head_by head at (view_item item) }
 {
-    match item {
-        Item::Channel(_x) => at,
-        Item::Histogram(_x) => at,
-        _ => head,
+    if matches!(item, Item::Channel(_) | Item::Histogram(_)) {
+        return at;
     }
+    head
 }
 
 // What a header says; zeros of any other item.
@@ -77,7 +76,8 @@ pub(crate) fn spot_of(item: Item, header: Header) -> Option<Spot>
     }
 }
 
-// The word at index i, which is there.
+// The word at index i, which is there: so there is no second test here. frame/src/inside.rt and questions/src/scan.rt have the same: it stays in its
+// crate, since no public function has a `requires`.
 pub(crate) fn word_in(s: &[u8], i: usize) -> u16
     requires { 2 * i + 1 < length s.now }
     ensures { result ≡ word_at s.now i }
@@ -95,7 +95,7 @@ pub(crate) fn long_in(s: &[u8], i: usize) -> u32
     low + 65536 * high
 }
 
-// What stands at word w of an accepted frame.
+// What stands at word w of an accepted frame. Here and in `note_heads` the index jumps by an item's length, so that the loop goes over no range.
 pub(crate) fn spot_in(f: &[u8], w: usize) -> Option<Spot>
     requires { Accepted plane_frames f.now }
     ensures { view_spot result ≡ spots.spot f.now w }

@@ -67,7 +67,8 @@ fn put_legal(f: &mut [u8], kind: u16, w: usize, value: u32)
     put_long(f, 2 * w + 2, value);
 }
 
-// The same where the item's words lie in the frame.
+// The same where the item's words lie in the frame. Apart from `put_legal`, since it is called for each entry that is undone, where tests of the end
+// cost time.
 pub(crate) fn put_in(f: &mut [u8], kind: u16, w: usize, value: u32)
     requires { Inside kind w f.old × (legal_value kind value ≡ true) }
     ensures { f.new ≡ stored f.old kind w value }
