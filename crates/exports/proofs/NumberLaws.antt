@@ -29,8 +29,12 @@ use Rattle.ledger.specs.PlaneFrames.{plane_frames, plane_frames_judge}
 use Rattle.ledger.proofs.answers.Refusals as ledger
 use Rattle.ledger.proofs.calls.Changing.{edit_bytes}
 use Rattle.ledger.proofs.plane.PlaneFrames.{plane_lawful}
+use Rattle.book.specs.declared.refusal.Fault.{Fault}
+use Rattle.book.specs.Refusals.{number_of}
+use Rattle.book.proofs.Named.{Named}
 use Rattle.editor.specs.declared.editing.Correction.{Correction}
 use Rattle.editor.specs.Views.{asked}
+use Rattle.editor.proofs.NamedLaws.{edit_named}
 use Rattle.corrections.specs.Lists.{ListAnswer, done as none-refused, stopped, answer_from}
 use Rattle.corrections.proofs.Turns.{answer_none, answer_made, answer_refused}
 use Rattle.exports.specs.declared.answers.PlaneItem.{PlaneItem}
@@ -228,3 +232,20 @@ edit_all_numbered (c ∷ cs) i b bs j n p h = go (edit_answer plane_frames versi
       where
         same : stopped i m q ≡ stopped j n p → 1 ≤ m → 1 ≤ n
         same s l = let z : m ≡ n = cc in omega arith
+
+-- and its number is that of a fault
+pub edit_all_named : (cs : List Correction) (i : ℕ) (b : List ℕ) (j n p : ℕ) → answer_from plane_frames version_two i b (map asked cs) ≡ stopped j n p → (f : Fault) × (number_of f ≡ n)
+edit_all_named [] i b j n p h = none_stops (sym (answer_none plane_frames version_two i b) ∙ h)
+  where
+    none_stops : none-refused ≡ stopped j n p → (f : Fault) × (number_of f ≡ n)
+    none_stops e = let z : ◌≡◌ {A = ℕ} 0 1 = cc in absurd (omega arith)
+edit_all_named (c ∷ cs) i b j n p h = go (edit_answer plane_frames version_two b (asked c)) refl (edit_named b (asked c)) (edit_all_named cs (i + 1) (edit_exit plane_frames version_two b (asked c)))
+  where
+    go : (d : Outcome (Unit {0})) → edit_answer plane_frames version_two b (asked c) ≡ d → Named d
+        → ((j n p : ℕ) → answer_from plane_frames version_two (i + 1) (edit_exit plane_frames version_two b (asked c)) (map asked cs) ≡ stopped j n p → (f : Fault) × (number_of f ≡ n))
+        → (f : Fault) × (number_of f ≡ n)
+    go (accepted u) e w later = later j n p (sym (answer_made plane_frames version_two i b (asked c) (map asked cs) e) ∙ h)
+    go (refused m q) e w later = same (sym (answer_refused plane_frames version_two i b (asked c) (map asked cs) m q e) ∙ h) w
+      where
+        same : stopped i m q ≡ stopped j n p → (f : Fault) × (number_of f ≡ m) → (f : Fault) × (number_of f ≡ n)
+        same s (f, k) = let z : m ≡ n = cc in (f, k ∙ z)

@@ -18,6 +18,8 @@ use Rattle.follower.proofs.front.Sequence.{refusals}
 use Rattle.ledger.specs.VersionTwo.{version_two}
 use Rattle.ledger.specs.Versions.{format_in}
 use Rattle.ledger.specs.PlaneFrames.{plane_frames}
+use Rattle.book.specs.declared.refusal.Refusal.{Refusal}
+use Rattle.book.specs.Refusals.{number_of}
 use Rattle.editor.specs.declared.editing.Correction.{Correction}
 use Rattle.editor.specs.Views.{asked}
 use Rattle.corrections.specs.Lists as lists
@@ -31,7 +33,7 @@ use Rattle.exports.specs.Flat.{flat_followed}
 use Rattle.exports.specs.Given.{follower_of, begun, begun_left}
 use Rattle.exports.specs.Promises.{Leaves, EditedAll}
 use Rattle.exports.specs.FlatTells.{Tells}
-use Rattle.exports.proofs.NumberLaws.{edit_all_numbered}
+use Rattle.exports.proofs.NumberLaws.{edit_all_numbered, edit_all_named}
 use Rattle.exports.proofs.Unique.{refuses, stopped_told, all_told}
 
 -- of any call: what document 01's call leaves where it is refused, the export leaves
@@ -85,12 +87,15 @@ module _ (b : List ℕ) (cs : List Correction) (r : PlaneStopped) (left : List �
           let k : r.refused ≡ n = ap (λ (q : PlaneStopped). q.refused) (w.answered ∙ stopped_told _ i n p e) in
           absurd (omega arith)
 
-  pub edit_all_leaves : 1 ≤ r.refused → StoppedAt b cs r.position (record { number = r.refused; place = r.place }) left
+  pub edit_all_leaves : 1 ≤ r.refused → (q : Refusal) × ((number_of q.fault ≡ r.refused) × ((q.place ≡ r.place) × StoppedAt b cs r.position q left))
   edit_all_leaves l = go (list_answer plane_frames version_two b (map asked cs)) refl
     where
-      go : (x : ListAnswer) → list_answer plane_frames version_two b (map asked cs) ≡ x → StoppedAt b cs r.position (record { number = r.refused; place = r.place }) left
+      go : (x : ListAnswer) → list_answer plane_frames version_two b (map asked cs) ≡ x
+          → (q : Refusal) × ((number_of q.fault ≡ r.refused) × ((q.place ≡ r.place) × StoppedAt b cs r.position q left))
       go lists.done e = let z : r.refused ≡ 0 = ap (λ (q : PlaneStopped). q.refused) w.answered ∙ all_told _ e in absurd (omega arith)
       go (lists.stopped i n p) e =
           let s : record { refused = n; place = p; position = i } ≡ r = sym (w.answered ∙ stopped_told _ i n p e) in
-          subst (λ (q : PlaneStopped). StoppedAt b cs q.position (record { number = q.refused; place = q.place }) left) s
-          ((stopped_exactly b cs left i (record { number = n; place = p })).0 (record { answered = sym e; left = w.written }))
+          let (f, h) = edit_all_named cs 0 b i n p e in
+          let given : lists.stopped i (number_of f) p ≡ list_answer plane_frames version_two b (map asked cs) = ap (λ (k : ℕ). lists.stopped i k p) h ∙ sym e in
+          subst (λ (x : PlaneStopped). (q : Refusal) × ((number_of q.fault ≡ x.refused) × ((q.place ≡ x.place) × StoppedAt b cs x.position q left))) s
+          (record { fault = f; place = p }, (h, (refl, (stopped_exactly b cs left i (record { fault = f; place = p })).0 (record { answered = given; left = w.written }))))

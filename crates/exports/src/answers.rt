@@ -4,7 +4,7 @@
 
 // Accepted, or refused: the calls that answer only that.
 #[repr(C)]
-#[derive(Clone, Copy, Debug, PartialEq, Eq, Default)]
+#[derive(Clone, Copy, Default)]
 pub struct PlaneDone {
     pub refused: u32,
     pub place: usize,
@@ -12,7 +12,7 @@ pub struct PlaneDone {
 
 // A frame: its kind (1 data, 2 monitor, 3 command), card, sequence word and number of items.
 #[repr(C)]
-#[derive(Clone, Copy, Debug, PartialEq, Eq, Default)]
+#[derive(Clone, Copy, Default)]
 pub struct PlaneFrame {
     pub refused: u32,
     pub place: usize,
@@ -24,7 +24,7 @@ pub struct PlaneFrame {
 
 // An item: its class, as the row of the word book from 1 on, and the fields that the class has; the others are 0.
 #[repr(C)]
-#[derive(Clone, Copy, Debug, PartialEq, Eq, Default)]
+#[derive(Clone, Copy, Default)]
 pub struct PlaneItem {
     pub item_class: u32,
     // Channel, Histogram and Hit count.
@@ -57,7 +57,7 @@ pub struct PlaneItem {
 
 // An item, its own word index, and that of the next one, or of the end word.
 #[repr(C)]
-#[derive(Clone, Copy, Debug, PartialEq, Eq, Default)]
+#[derive(Clone, Copy, Default)]
 pub struct PlaneFound {
     pub refused: u32,
     pub place: usize,
@@ -68,7 +68,7 @@ pub struct PlaneFound {
 
 // The bytes of a text: a part of the caller's own frame, from `offset` on. It is empty where the item is no text.
 #[repr(C)]
-#[derive(Clone, Copy, Debug, PartialEq, Eq, Default)]
+#[derive(Clone, Copy, Default)]
 pub struct PlaneText {
     pub offset: usize,
     pub length: usize,
@@ -78,7 +78,7 @@ pub struct PlaneText {
 // event. Where `began` is 0 it began in another frame, which has its type and timestamp; where `ended` is 0 it does not end in this one, and another
 // has its size.
 #[repr(C)]
-#[derive(Clone, Copy, Debug, PartialEq, Eq, Default)]
+#[derive(Clone, Copy, Default)]
 pub struct PlaneEvent {
     pub refused: u32,
     pub place: usize,
@@ -93,7 +93,7 @@ pub struct PlaneEvent {
 
 // The word index of a sample or a bin: what an edit takes.
 #[repr(C)]
-#[derive(Clone, Copy, Debug, PartialEq, Eq, Default)]
+#[derive(Clone, Copy, Default)]
 pub struct PlaneWord {
     pub refused: u32,
     pub place: usize,
@@ -102,7 +102,7 @@ pub struct PlaneWord {
 
 // The new length of the partial frame, or of the closed one.
 #[repr(C)]
-#[derive(Clone, Copy, Debug, PartialEq, Eq, Default)]
+#[derive(Clone, Copy, Default)]
 pub struct PlaneWritten {
     pub refused: u32,
     pub place: usize,
@@ -111,7 +111,7 @@ pub struct PlaneWritten {
 
 // What the follower knows: idle where `expecting` is 0, else it expects the number. All zeros is a follower that has seen nothing.
 #[repr(C)]
-#[derive(Clone, Copy, Debug, PartialEq, Eq, Default)]
+#[derive(Clone, Copy, Default)]
 pub struct PlaneFollower {
     pub expecting: u8,
     pub number: u8,
@@ -119,7 +119,7 @@ pub struct PlaneFollower {
 
 // How many frames were lost before this one, and the follower from here on; on a refusal it is the one that was given.
 #[repr(C)]
-#[derive(Clone, Copy, Debug, PartialEq, Eq, Default)]
+#[derive(Clone, Copy, Default)]
 pub struct PlaneFollowed {
     pub refused: u32,
     pub place: usize,
@@ -130,7 +130,7 @@ pub struct PlaneFollowed {
 // An assembler of a card's data frames: its follower, and where `open` is not 0 the event that is open: its number, its bytes so far in all parts,
 // and the least key that its next Channel header may have. All zeros is an assembler of card 0 that has taken nothing.
 #[repr(C)]
-#[derive(Clone, Copy, Debug, PartialEq, Eq, Default)]
+#[derive(Clone, Copy, Default)]
 pub struct PlaneAssembler {
     pub card: u16,
     pub open: u8,
@@ -142,7 +142,7 @@ pub struct PlaneAssembler {
 
 // How many frames were lost before this one, and the assembler from here on; on a refusal it is the one that was given.
 #[repr(C)]
-#[derive(Clone, Copy, Debug, PartialEq, Eq, Default)]
+#[derive(Clone, Copy, Default)]
 pub struct PlaneTaken {
     pub refused: u32,
     pub place: usize,
@@ -152,7 +152,7 @@ pub struct PlaneTaken {
 
 // A record: its frame's length in bytes, how many entries it has, and its own length in bytes.
 #[repr(C)]
-#[derive(Clone, Copy, Debug, PartialEq, Eq, Default)]
+#[derive(Clone, Copy, Default)]
 pub struct PlaneRecord {
     pub refused: u32,
     pub place: usize,
@@ -164,7 +164,7 @@ pub struct PlaneRecord {
 // An entry of a record's history: the value at a word, of a sample (kind 1) or a bin (kind 2), was changed. Of a record of version 2 it has the time
 // that was given, and `timed` is 1; of version 1 both are 0.
 #[repr(C)]
-#[derive(Clone, Copy, Debug, PartialEq, Eq, Default)]
+#[derive(Clone, Copy, Default)]
 pub struct PlaneEntry {
     pub refused: u32,
     pub place: usize,
@@ -181,7 +181,7 @@ pub struct PlaneEntry {
 // Where a list of corrections stopped: the refusal of the first that was refused, and its position in the list, from 0. Those before it stand. All
 // is 0 where every correction was made.
 #[repr(C)]
-#[derive(Clone, Copy, Debug, PartialEq, Eq, Default)]
+#[derive(Clone, Copy, Default)]
 pub struct PlaneStopped {
     pub refused: u32,
     pub place: usize,

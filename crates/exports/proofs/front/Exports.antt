@@ -26,6 +26,8 @@ use Rattle.ledger.specs.VersionTwo.{version_two}
 use Rattle.ledger.specs.Versions.{format_in}
 use Rattle.ledger.specs.PlaneFrames.{plane_frames}
 use Rattle.ledger.proofs.calls.Writes.{open_found, edit_found, restore_found}
+use Rattle.book.specs.declared.refusal.Refusal.{Refusal}
+use Rattle.book.specs.Refusals.{number_of}
 use Rattle.editor.specs.declared.editing.Correction.{Correction}
 use Rattle.editor.specs.Views.{asked}
 use Rattle.corrections.specs.Lists as lists
@@ -170,5 +172,5 @@ module _ (b : List ℕ) (cs : List Correction) (r : PlaneStopped) (left : List �
   pub edit_all_accepts : Bytes b → (r.refused ≡ 0) ↔ (list_answer plane_frames version_two b (map asked cs) ≡ lists.done)
   edit_all_accepts = law.edit_all_accepts b cs r left w
 
-  pub edit_all_leaves : 1 ≤ r.refused → StoppedAt b cs r.position (record { number = r.refused; place = r.place }) left
+  pub edit_all_leaves : 1 ≤ r.refused → (q : Refusal) × ((number_of q.fault ≡ r.refused) × ((q.place ≡ r.place) × StoppedAt b cs r.position q left))
   edit_all_leaves = law.edit_all_leaves b cs r left w
