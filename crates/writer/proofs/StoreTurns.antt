@@ -6,13 +6,23 @@ use mathlib.Core.List.{List, [], ◌∷◌, ◌++◌}
 use mathlib.Core.Bool.{Bool, true, false}
 use native.Mathlib.Omega.{arith}
 use lib.Dec.{eqb}
-use lib.ListN.{length, length-append}
+use native.Mathlib.Numerals.{add-one}
+use lib.ListN.{length, get_or, set, length-append}
+use Rattle.std.specs.Int.{w16, to_le_bytes}
 use lib.Seq.{sets}
 use borrow.Author.Tests.{eqb-true, eqb-false}
 use Rattle.format.specs.Words.{pick, Bytes, words, bytes, long_words}
 use Rattle.format.proofs.items.WordLaws.{bytes_append}
 use Rattle.format.proofs.items.StoringLaws.{sets_next}
 use Rattle.writer.specs.Views.{time_cut, final_zero, text_bytes}
+
+-- a word by its two bytes
+pub word_put : (b : List ℕ) (at w : ℕ) (r : List ℕ) → w < 65536 → r ≡ to_le_bytes w16 w → set (set b at (get_or r 0 0)) (at + 1) (get_or r 1 0) ≡ sets b at (bytes (w ∷ []))
+unfolding bytes
+word_put b at w r h e =
+    let low : get_or (to_le_bytes w16 w) 0 0 ≡ w % 256 = omega arith in
+    let high : get_or (to_le_bytes w16 w) 1 0 ≡ w / 256 = omega arith in
+    rw (e, add-one) (ap₂ (λ (x y : ℕ). set (set b at x) (suc at) y) low high)
 
 -- six words are three and three
 pub six : (b b₁ b₂ : List ℕ) (at w time n : ℕ) → b₁ ≡ sets b at (bytes (w ∷ long_words (time % 4294967296)))

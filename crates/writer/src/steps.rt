@@ -103,6 +103,7 @@ fn continue_turn(st: State, x: ContinueEvent) -> Result<Moved, Fault>
 }
 
 // The turn that the rules take at an item; a text without its bytes breaks its rule.
+#[tactic(auto, unfolding(format::specs::Steps::check_by, rules::specs::Views::text_tested))]
 fn turn_of(at: usize, card: u16, st: State, item: Item) -> Result<Moved, Fault>
     ensures { view_step result ≡ marked 0 (check_by card at (view_state st) (given (view_item item))) }
 {

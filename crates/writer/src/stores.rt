@@ -4,18 +4,20 @@ ghost use Rattle.std.proofs.lemmas.List.Edits.{sets};
 ghost use Rattle.format.specs.Words.{bytes, long_words};
 ghost use Rattle.writer.specs.Views.{time_cut, piece_bytes, final_zero, text_bytes};
 
-use book::words::copy;
-
-// A word.
+// A word. Records' stores are twins of these but for the test of the room: a public function has no `requires`, so theirs asks for the room each
+// time; these go by the one test of `has_room`.
 pub(crate) fn put_word(buf: &mut [u8], at: usize, w: u16)
     requires { at + 1 < length buf.old }
     ensures { buf.new ≡ sets buf.old at (bytes (w ∷ [])) }
 {
-    buf[at] = (w % 256) as u8;
-    buf[at + 1] = (w / 256) as u8;
+    let [low, high] = w.to_le_bytes();
+    buf[at] = low;
+    buf[at + 1] = high;
 }
 
-// A word, and a number of 32 bits, low word first.
+// A word, and a number of 32 bits, low word first: word by word, as the document lays them out. By the bytes of `to_le_bytes` it is no plainer: four
+// stores in place of two.
+#[tactic(auto, unfolding(format::specs::Words::bytes))]
 fn put_three(buf: &mut [u8], at: usize, w: u16, n: u32)
     requires { at + 5 < length buf.old }
     ensures { buf.new ≡ sets buf.old at (bytes (w ∷ long_words n)) }
@@ -59,6 +61,7 @@ pub(crate) fn piece_size(piece: Piece) -> usize
     }
 }
 
+#[tactic(auto, unfolding(format::specs::Words::bytes))]
 pub(crate) fn put_piece(buf: &mut [u8], at: usize, piece: Piece)
     requires { at + length (piece_bytes piece) ≤ length buf.old }
     ensures { buf.new ≡ sets buf.old at (piece_bytes piece) }
@@ -72,6 +75,7 @@ pub(crate) fn put_piece(buf: &mut [u8], at: usize, piece: Piece)
 }
 
 // The final zero of a text of n bytes, and a padding byte where one is due.
+#[tactic(auto, unfolding(format::specs::Words::bytes))]
 fn put_zero(buf: &mut [u8], at: usize, n: usize)
     requires { at + length (final_zero n) ≤ length buf.old }
     ensures { buf.new ≡ sets buf.old at (final_zero n) }
@@ -89,7 +93,7 @@ fn put_bytes(buf: &mut [u8], at: usize, from: &[u8])
     ensures { buf.new ≡ sets buf.old at from.now }
 {
     let to = at + from.len();
-    copy(from, &mut buf[at..to]);
+    buf[at..to].copy_from_slice(from);
 }
 
 // A word, and a text's bytes with its final zero.
