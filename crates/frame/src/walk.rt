@@ -1,6 +1,6 @@
 // One turn of the rules at a word, and the one loop that takes such turns: every question on a frame goes through it.
 ghost use Rattle.std.specs.Prelude.{◌≡◌, ℕ, ◌+◌, ◌*◌, ◌≤◌, ◌<◌, length, eqb};
-ghost use Rattle.format.specs.Words.{pick, word_at};
+ghost use Rattle.format.specs.Words.{Bytes, pick, word_at};
 ghost use Rattle.format.specs.Book as book;
 ghost use Rattle.format.specs.Steps.{step_of, summed};
 ghost use Rattle.book.specs.Page.{book_page};
@@ -23,11 +23,25 @@ use rules::steps::{
     start_event, text, time_bin,
 };
 
+// A word of some bytes, at an index before their word `last`, up to which they are whole.
+#[derive(Clone, Copy)]
+struct Here<'a> {
+    s: &'a [u8],
+    last: usize,
+    at: usize,
+    w: u16,
+    ghost bytes: { Bytes s.now },
+    ghost whole: { 2 * last ≤ length s.now },
+    ghost before: { at < last },
+    ghost told: { w ≡ word_at s.now at },
+}
+
 // A Bin's number in its word, its count in the two words after it.
-fn bin_at(s: &[u8], last: usize, at: usize, w: u16, st: State) -> Result<Moved, Fault>
-    requires { (at < last) × (2 * last ≤ length s.now) × (w ≡ word_at s.now at) × (book.bin ≡ book.class_of w) }
-    ensures { (card : ℕ) → view_step result ≡ step_of card s.now last at (view_state st) }
+fn bin_at(here: Here, st: State) -> Result<Moved, Fault>
+    requires { book.bin ≡ book.class_of here.w }
+    ensures { (card : ℕ) → view_step result ≡ step_of card here.entry.s.now here.entry.last here.entry.at (view_state st) }
 {
+    let Here { s, last, at, w } = here;
     if last < at + 3 {
         return Err(Fault::Cut);
     }
@@ -40,10 +54,11 @@ fn bin_at(s: &[u8], last: usize, at: usize, w: u16, st: State) -> Result<Moved, 
 }
 
 // A Start event's type in its word, timestamp and number in the five words after it.
-fn start_at(s: &[u8], last: usize, at: usize, w: u16, st: State) -> Result<Moved, Fault>
-    requires { (at < last) × (2 * last ≤ length s.now) × (w ≡ word_at s.now at) × (book.start_event ≡ book.class_of w) }
-    ensures { (card : ℕ) → view_step result ≡ step_of card s.now last at (view_state st) }
+fn start_at(here: Here, st: State) -> Result<Moved, Fault>
+    requires { book.start_event ≡ book.class_of here.w }
+    ensures { (card : ℕ) → view_step result ≡ step_of card here.entry.s.now here.entry.last here.entry.at (view_state st) }
 {
+    let Here { s, last, at, w } = here;
     if last < at + 6 {
         return Err(Fault::Cut);
     }
@@ -58,10 +73,11 @@ fn start_at(s: &[u8], last: usize, at: usize, w: u16, st: State) -> Result<Moved
 }
 
 // A Continue event's number in the two words after its word; no rule of the frame looks at it.
-fn continue_at(s: &[u8], last: usize, at: usize, w: u16, st: State) -> Result<Moved, Fault>
-    requires { (at < last) × (2 * last ≤ length s.now) × (w ≡ word_at s.now at) × (book.continue_event ≡ book.class_of w) }
-    ensures { (card : ℕ) → view_step result ≡ step_of card s.now last at (view_state st) }
+fn continue_at(here: Here, st: State) -> Result<Moved, Fault>
+    requires { book.continue_event ≡ book.class_of here.w }
+    ensures { (card : ℕ) → view_step result ≡ step_of card here.entry.s.now here.entry.last here.entry.at (view_state st) }
 {
+    let Here { s, last, at, w } = here;
     if last < at + 3 {
         return Err(Fault::Cut);
     }
@@ -69,10 +85,11 @@ fn continue_at(s: &[u8], last: usize, at: usize, w: u16, st: State) -> Result<Mo
 }
 
 // An End event's size in the two words after its word.
-fn end_at(s: &[u8], last: usize, at: usize, w: u16, st: State) -> Result<Moved, Fault>
-    requires { (at < last) × (2 * last ≤ length s.now) × (w ≡ word_at s.now at) × (book.end_event ≡ book.class_of w) }
-    ensures { (card : ℕ) → view_step result ≡ step_of card s.now last at (view_state st) }
+fn end_at(here: Here, st: State) -> Result<Moved, Fault>
+    requires { book.end_event ≡ book.class_of here.w }
+    ensures { (card : ℕ) → view_step result ≡ step_of card here.entry.s.now here.entry.last here.entry.at (view_state st) }
 {
+    let Here { s, last, at, w } = here;
     if last < at + 3 {
         return Err(Fault::Cut);
     }
@@ -81,10 +98,11 @@ fn end_at(s: &[u8], last: usize, at: usize, w: u16, st: State) -> Result<Moved, 
 }
 
 // A text's bytes in the words after its word.
-fn text_at(s: &[u8], last: usize, at: usize, w: u16, st: State) -> Result<Moved, Fault>
-    requires { (at < last) × (2 * last ≤ length s.now) × (w ≡ word_at s.now at) × (book.text ≡ book.class_of w) }
-    ensures { (card : ℕ) → view_step result ≡ step_of card s.now last at (view_state st) }
+fn text_at(here: Here, st: State) -> Result<Moved, Fault>
+    requires { book.text ≡ book.class_of here.w }
+    ensures { (card : ℕ) → view_step result ≡ step_of card here.entry.s.now here.entry.last here.entry.at (view_state st) }
 {
+    let Here { s, last, at, w } = here;
     let more = text_words(w) as usize;
     let next = at + 1 + more;
     if last < next {
@@ -110,19 +128,20 @@ fn step(
     ensures { view_step result ≡ step_of card s.now last at (view_state st) }
 {
     let w = word(s, at);
+    let here = Here { s, last, at, w };
     let class = classify_on(rows, w);
     match class {
         Class::Channel => channel(card, st, Channel::of_word(w), at + 1),
         Class::Histogram => histogram(card, st, Histogram::of_word(w), at + 1),
         Class::HitCount => hit_count(card, st, HitCount::of_word(w), at + 1),
         Class::Sample => sample(st, Sample::of_word(w), at + 1),
-        Class::Bin => bin_at(s, last, at, w, st),
+        Class::Bin => bin_at(here, st),
         Class::LastCell => last_cell(st, LastCell::of_word(w), at + 1),
         Class::TimeBin => time_bin(st, TimeBin::of_word(w), at + 1),
-        Class::Text => text_at(s, last, at, w, st),
-        Class::StartEvent => start_at(s, last, at, w, st),
-        Class::EndEvent => end_at(s, last, at, w, st),
-        Class::ContinueEvent => continue_at(s, last, at, w, st),
+        Class::Text => text_at(here, st),
+        Class::StartEvent => start_at(here, st),
+        Class::EndEvent => end_at(here, st),
+        Class::ContinueEvent => continue_at(here, st),
         Class::Unassigned => Err(Fault::Class),
         Class::DataFrame | Class::MonitorFrame | Class::CommandFrame | Class::FrameEnd => {
             Err(Fault::Place)

@@ -7,7 +7,7 @@ use Rattle.frame.proofs.Steps.{cut_step, bin_step}
 use Rattle.frame.proofs.walk.bin_at.Goals as goal
 
 pub returns-then-last-at : goal.returns-then-last-at
-returns-then-last-at c = λ k. let a = c.args in let p = c.requires in cut_step k a.s.now a.last a.at a.w _ p.2 p.1 bin 2 p.3 refl refl p.0 (omega arith)
+returns-then-last-at c = λ k. let a = c.args.here in cut_step k a.s.now a.last a.at a.w _ a.told a.whole bin 2 c.requires refl refl a.before (omega arith)
 
 pub returns : goal.returns
-returns c = λ k. let a = c.args in let p = c.requires in bin_step k a.s.now a.last a.at a.w _ p.2 p.1 _ _ _ p.3 (omega arith) c.of_word.ensures c.long-count.ensures c.bin.ensures
+returns c = λ k. let a = c.args.here in bin_step k a.s.now a.last a.at a.w _ a.told a.whole _ _ _ c.requires (omega arith) c.of_word.ensures c.long-count.ensures c.bin.ensures

@@ -19,28 +19,23 @@ class_is r k rows w p h l e = ap view (sym e) ∙ h ∙ page_tells rows w p l
 
 pub bin_at-requires : goal.bin_at-requires
 bin_at-requires c =
-    let p = c.requires in
-    (p.0, p.1, c.word-w.ensures, class_is _ _ _ _ c.requires.2 c.classify_on-class.ensures (omega arith) c.in-Bin.is)
+    class_is _ _ _ _ c.requires.2 c.classify_on-class.ensures (omega arith) c.in-Bin.is
 
 pub text_at-requires : goal.text_at-requires
 text_at-requires c =
-    let p = c.requires in
-    (p.0, p.1, c.word-w.ensures, class_is _ _ _ _ c.requires.2 c.classify_on-class.ensures (omega arith) c.in-Text.is)
+    class_is _ _ _ _ c.requires.2 c.classify_on-class.ensures (omega arith) c.in-Text.is
 
 pub start_at-requires : goal.start_at-requires
 start_at-requires c =
-    let p = c.requires in
-    (p.0, p.1, c.word-w.ensures, class_is _ _ _ _ c.requires.2 c.classify_on-class.ensures (omega arith) c.in-StartEvent.is)
+    class_is _ _ _ _ c.requires.2 c.classify_on-class.ensures (omega arith) c.in-StartEvent.is
 
 pub end_at-requires : goal.end_at-requires
 end_at-requires c =
-    let p = c.requires in
-    (p.0, p.1, c.word-w.ensures, class_is _ _ _ _ c.requires.2 c.classify_on-class.ensures (omega arith) c.in-EndEvent.is)
+    class_is _ _ _ _ c.requires.2 c.classify_on-class.ensures (omega arith) c.in-EndEvent.is
 
 pub continue_at-requires : goal.continue_at-requires
 continue_at-requires c =
-    let p = c.requires in
-    (p.0, p.1, c.word-w.ensures, class_is _ _ _ _ c.requires.2 c.classify_on-class.ensures (omega arith) c.in-ContinueEvent.is)
+    class_is _ _ _ _ c.requires.2 c.classify_on-class.ensures (omega arith) c.in-ContinueEvent.is
 
 pub returns-in-Channel : goal.returns-in-Channel
 returns-in-Channel c =
