@@ -130,7 +130,7 @@ impl FirstWord<'_> {
         None
     }
 
-    // By the class of its word.
+    // By the class of its word. Every class has an arm: of `_` the proof would know only which classes it is not.
     fn item(self) -> Option<FoundItem>
         ensures { view_standing result ≡ shown_by (standing_at self.entry.s.now self.entry.at) }
     {
