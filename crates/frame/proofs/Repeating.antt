@@ -3,11 +3,11 @@
 use Prim.Native.Nat.{ℕ, suc, ◌+◌, ◌-◌, ◌*◌, ◌/◌, ◌%◌, ◌≤◌, ◌<◌}
 use mathlib.Core.Path.{◌≡◌, refl, sym, ap, subst, ◌∙◌}
 use mathlib.Core.List.{List}
-use mathlib.Core.Bool.{true, false, ◌&&◌}
+use mathlib.Core.Bool.{true, ◌&&◌}
 use native.Mathlib.Omega.{arith}
 use lib.ListN.{length}
 use lib.Dec.{eqb}
-use borrow.Author.Tests.{le-leb, lt-ltb, ne_eqb, eqb-true}
+use borrow.Author.Tests.{le-leb, lt-ltb, eqb-true}
 use Rattle.format.proofs.book.PrefixLaws.{and_left, and_right}
 use Rattle.format.proofs.items.WordLaws.{word_below}
 use Rattle.format.specs.Words.{Bytes, word_at, long_at}

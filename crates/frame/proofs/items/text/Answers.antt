@@ -1,9 +1,8 @@
 -- `frame::items::text` meets its contract: the bytes, and where the part lies.
 -- Assumes nothing.
-use mathlib.Core.Path.{ap, sym, ◌∙◌}
+use mathlib.Core.Path.{ap}
 use native.Mathlib.Omega.{arith}
 use Rattle.frame.specs.Parts.{part_from}
-use Rattle.frame.specs.Views.{view_found}
 use Rattle.frame.proofs.Finding.{text_refused, text_none, text_part}
 use Rattle.frame.proofs.items.text.Goals as goal
 

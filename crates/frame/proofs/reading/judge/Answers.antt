@@ -9,7 +9,6 @@ use Rattle.format.specs.Book.{class_of}
 use Rattle.format.specs.Frames.{start_fits, kind_of}
 use Rattle.format.proofs.reader.HeadTests.{started}
 use Rattle.format.proofs.reader.JudgeLaws.{head_refused}
-use Rattle.frame.specs.Views.{view_walk}
 use Rattle.frame.proofs.Judging.{no_fault, stopped, ended}
 use Rattle.frame.proofs.reading.judge.Goals as goal
 

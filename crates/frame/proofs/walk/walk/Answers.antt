@@ -1,16 +1,7 @@
 -- `frame::walk::walk` meets its contract: the loop keeps that what is left to walk, after the items behind it, is the whole walk.
 -- Assumes nothing.
-use Prim.Native.Nat.{ℕ}
-use mathlib.Core.Path.{◌≡◌, refl, sym, ap, subst, ◌∙◌}
-use Rattle.std.specs.Prelude.{Result, Ok, Err, MatchResult, IsErrAnd}
-use Rattle.std.proofs.Common.{rules}
-use Rattle.std.proofs.lemmas.Result.{err_from_is_err_and}
+use mathlib.Core.Path.{ap}
 use native.Mathlib.Omega.{arith}
-use Rattle.format.specs.Steps.{stopped}
-use Rattle.book.specs.declared.refusal.Fault.{Fault}
-use Rattle.book.specs.declared.refusal.Refusal.{Refusal}
-use Rattle.book.specs.Refusals.{number_of}
-use Rattle.rules.specs.declared.steps.Moved.{Moved}
 use Rattle.rules.specs.Views.{view_kind, view_step}
 use Rattle.frame.proofs.Loop.{live_start, live_moved, live_run, live_stopped, live_end, live_few}
 use Rattle.frame.proofs.walk.walk.Goals as goal
