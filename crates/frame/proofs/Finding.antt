@@ -58,7 +58,7 @@ module _ (s : List ℕ) (n : ℕ) where
       go (accepted r) f g =
           let h = item_of _ _ g in
           record { found = r; found_is = f; item_is = ap (λ (a : IndexedShown). a.item) h; next_is = ap (λ (a : IndexedShown). a.next) h }
-      go (refused k p) f g = let z : ◌≡◌ {A = ℕ} 0 1 = cc in absurd (omega arith)
+      go (refused k p) f g = cc
 
   -- an empty part, at the frame's start
   abbrev pub Empty : Type 0
@@ -73,7 +73,7 @@ module _ (s : List ℕ) (n : ℕ) where
   text_refused k p e = go (item_at s n) refl e
     where
       go : (o : Outcome IndexedItem) → item_at s n ≡ o → refused k p ≡ and_then o (λ r. accepted (showing r)) → Empty
-      go (accepted r) f g = let z : ◌≡◌ {A = ℕ} 0 1 = cc in absurd (omega arith)
+      go (accepted r) f g = cc
       go (refused j q) f g = empty (refused j q) f refl refl
 
   module _ (at : ℕ) (y : ItemOf ℕ) (next : ℕ) (e : accepted (record { index = at; item = y; next = next }) ≡ shown_at s n) (c : ℕ) (q : c ≡ text_count y) where

@@ -19,13 +19,13 @@ use Rattle.format.proofs.reader.StepLaws.{Going, going_start, going_moved, going
 -- two kinds with one first state are one
 start_one : (j k : Kind) → start j ≡ start k → j ≡ k
 start_one data_kind data_kind e = refl
-start_one data_kind monitor_kind e = absurd (let f : fresh ≡ unheaded = ap (λ (s : ReaderState). s.mode) e in let z : ◌≡◌ {A = ℕ} 0 1 = cc in omega arith)
-start_one data_kind command_kind e = absurd (let f : fresh ≡ commands = ap (λ (s : ReaderState). s.mode) e in let z : ◌≡◌ {A = ℕ} 0 1 = cc in omega arith)
-start_one monitor_kind data_kind e = absurd (let f : unheaded ≡ fresh = ap (λ (s : ReaderState). s.mode) e in let z : ◌≡◌ {A = ℕ} 0 1 = cc in omega arith)
+start_one data_kind monitor_kind e = let f : fresh ≡ unheaded = ap (λ (s : ReaderState). s.mode) e in cc
+start_one data_kind command_kind e = let f : fresh ≡ commands = ap (λ (s : ReaderState). s.mode) e in cc
+start_one monitor_kind data_kind e = let f : unheaded ≡ fresh = ap (λ (s : ReaderState). s.mode) e in cc
 start_one monitor_kind monitor_kind e = refl
-start_one monitor_kind command_kind e = absurd (let f : unheaded ≡ commands = ap (λ (s : ReaderState). s.mode) e in let z : ◌≡◌ {A = ℕ} 0 1 = cc in omega arith)
-start_one command_kind data_kind e = absurd (let f : commands ≡ fresh = ap (λ (s : ReaderState). s.mode) e in let z : ◌≡◌ {A = ℕ} 0 1 = cc in omega arith)
-start_one command_kind monitor_kind e = absurd (let f : commands ≡ unheaded = ap (λ (s : ReaderState). s.mode) e in let z : ◌≡◌ {A = ℕ} 0 1 = cc in omega arith)
+start_one monitor_kind command_kind e = let f : unheaded ≡ commands = ap (λ (s : ReaderState). s.mode) e in cc
+start_one command_kind data_kind e = let f : commands ≡ fresh = ap (λ (s : ReaderState). s.mode) e in cc
+start_one command_kind monitor_kind e = let f : commands ≡ unheaded = ap (λ (s : ReaderState). s.mode) e in cc
 start_one command_kind command_kind e = refl
 
 pub record Live (s : List ℕ) (last card n : ℕ) (st₀ : ReaderState) (at count index : ℕ) (st : ReaderState) : Type 0 where
@@ -63,11 +63,11 @@ module _ (s : List ℕ) (last card n : ℕ) (st₀ : ReaderState) (at count inde
 live_more : (s : List ℕ) (last card n : ℕ) (st₀ : ReaderState) (count index : ℕ) (o : Stepped)
     → ((st₁ : ReaderState) (i : ℕ) → o ≡ moved st₁ i → Live s last card n st₀ i count index st₁) → eqb count n ≡ false → (st' : ReaderState) (at' : ℕ) → onward card s last o ≡ moved st' at'
     → Live s last card n st₀ at' (count + 1) index st'
-live_more s last card n st₀ count index (stopped m) l f st' at' e = absurd (let z : ◌≡◌ {A = ℕ} 0 1 = cc in omega arith)
+live_more s last card n st₀ count index (stopped m) l f st' at' e = cc
 live_more s last card n st₀ count index (moved st₁ i) l f st' at' e = go (ltb i last) refl e
   where
     go : (b : Bool) → ltb i last ≡ b → pick b (step_of card s last i st₁) (stopped 0) ≡ moved st' at' → Live s last card n st₀ at' (count + 1) index st'
-    go false h e = absurd (let z : ◌≡◌ {A = ℕ} 0 1 = cc in omega arith)
+    go false h e = cc
     go true h e = (live_moved s last card n st₀ i count index st₁ (l st₁ i refl) (ltb-true i last h) (step_of card s last i st₁) refl st' at' index e (ap (λ (b : Bool). pick b i index) (sym f))).2
 
 -- the turns of a run, none of whose items is the one asked for

@@ -20,6 +20,7 @@ use Rattle.format.specs.Steps.{ReaderState, place_by, marks_end, check_by, Stepp
 use Rattle.format.proofs.reader.TurnLaws.{step_at, stop_at, alone, no_class, not_there, bin_there, start_there, continue_there, continue_broken, end_there, end_broken, text_there, text_broken}
 use Rattle.cursor.specs.Promises.{TextClosed}
 use Rattle.cursor.proofs.TextLoops.{closed_there}
+use Rattle.rules.proofs.Turns.{in_every}
 use Rattle.rules.specs.Views.{tested, continue_tested, end_tested, text_tested}
 use Rattle.book.specs.Fields.{Channel, Histogram, channel_of, histogram_of, hits_of, cell_of, channel_item, histogram_item, hits_item, cell_item}
 use Rattle.book.specs.declared.items.HitCount as hc
@@ -73,63 +74,19 @@ module _ (card : ℕ) (s : List ℕ) (last at w : ℕ) (st : ReaderState) (e : w
 
   pub data_step : data_frame ≡ class_of w → stopped 8 ≡ step_of card s last at st
   unfolding decode
-  data_step k = nowhere data_frame k refl refl refl no
-    where
-      no : (m : ReaderMode) → among data_frame (allowed m) ≡ false
-      no outside = refl
-      no inside = refl
-      no after_channel = refl
-      no after_time = refl
-      no after_sample = refl
-      no unheaded = refl
-      no headed = refl
-      no commands = refl
-      no fresh = refl
+  data_step k = nowhere data_frame k refl refl refl (in_every (λ m. among data_frame (allowed m) ≡ false) refl refl refl refl refl refl refl refl refl)
 
   pub monitor_step : monitor_frame ≡ class_of w → stopped 8 ≡ step_of card s last at st
   unfolding decode
-  monitor_step k = nowhere monitor_frame k refl refl refl no
-    where
-      no : (m : ReaderMode) → among monitor_frame (allowed m) ≡ false
-      no outside = refl
-      no inside = refl
-      no after_channel = refl
-      no after_time = refl
-      no after_sample = refl
-      no unheaded = refl
-      no headed = refl
-      no commands = refl
-      no fresh = refl
+  monitor_step k = nowhere monitor_frame k refl refl refl (in_every (λ m. among monitor_frame (allowed m) ≡ false) refl refl refl refl refl refl refl refl refl)
 
   pub command_step : command_frame ≡ class_of w → stopped 8 ≡ step_of card s last at st
   unfolding decode
-  command_step k = nowhere command_frame k refl refl refl no
-    where
-      no : (m : ReaderMode) → among command_frame (allowed m) ≡ false
-      no outside = refl
-      no inside = refl
-      no after_channel = refl
-      no after_time = refl
-      no after_sample = refl
-      no unheaded = refl
-      no headed = refl
-      no commands = refl
-      no fresh = refl
+  command_step k = nowhere command_frame k refl refl refl (in_every (λ m. among command_frame (allowed m) ≡ false) refl refl refl refl refl refl refl refl refl)
 
   pub end_step : frame_end ≡ class_of w → stopped 8 ≡ step_of card s last at st
   unfolding decode
-  end_step k = nowhere frame_end k refl refl refl no
-    where
-      no : (m : ReaderMode) → among frame_end (allowed m) ≡ false
-      no outside = refl
-      no inside = refl
-      no after_channel = refl
-      no after_time = refl
-      no after_sample = refl
-      no unheaded = refl
-      no headed = refl
-      no commands = refl
-      no fresh = refl
+  end_step k = nowhere frame_end k refl refl refl (in_every (λ m. among frame_end (allowed m) ≡ false) refl refl refl refl refl refl refl refl refl)
 
   pub unassigned_step : unassigned ≡ class_of w → stopped 6 ≡ step_of card s last at st
   unfolding check_by
