@@ -168,7 +168,7 @@ fn noted(count: usize, n: usize, at: usize, index: usize) -> usize
 }
 
 // Item by item from the left, over the words before word `last`, and many at once where they repeat; the index of item n is noted on the
-// way. The page is taken once and lent to each turn.
+// way. The page is taken once and lent to each turn. The index jumps by an item's words, so no `for` counts it.
 pub(crate) fn walk(
     s: &[u8],
     last: usize,
