@@ -57,6 +57,7 @@ fn two_samples(x: u32) -> bool
 // Behind the Samples from here on, taken two at a time: it is half the work, since the compiler makes one load of the two words. They are split again
 // by division, which the prover's arithmetic takes apart, and not by masks. The index jumps here, as in `past_bins` and the walk, so no `for` counts
 // it; `long` in place of the two words made a frame of Samples dearer by a quarter.
+// Here and below the words stay three arguments: in a struct a clause names each by `.entry`, and these speak of them up to a dozen times.
 fn past_pairs(s: &[u8], at: usize, stop: usize) -> usize
     requires { (at ≤ stop) × (2 * stop ≤ length s.now) }
     ensures { (at ≤ result) × (result ≤ stop) × ((card last key next : ℕ) (marks : Marks) → stop ≤ last → (at < stop → next + (stop - at) ≤ 512) → Turns card s.now last (result - at) after_sample key next marks at (next + (result - at)) result) }
