@@ -1,22 +1,60 @@
 -- A legal value stored in the words of its item, and an entry stored word by word.
 -- Assumes nothing.
-use Prim.Native.Nat.{ℕ, suc, ◌+◌, ◌*◌, ◌/◌, ◌%◌, ◌≤◌, ◌<◌}
+use Prim.Native.Nat.{ℕ, suc, ◌+◌, ◌-◌, ◌*◌, ◌/◌, ◌%◌, ◌≤◌, ◌<◌}
 use mathlib.Core.Path.{◌≡◌, refl, sym, ap, ◌∙◌}
 use mathlib.Core.Bool.{Bool, true, false}
 use mathlib.Core.List.{List, [], ◌∷◌, ◌++◌}
 use native.Mathlib.Omega.{arith}
-use lib.ListN.{length}
-use lib.Seq.{sets}
+use native.Mathlib.Nat.{add-zero}
+use lib.ListN.{length, take, drop, length-drop, take-append-drop, drop_of_length-le}
+use lib.Seq.{sets, take_all, length-take-le}
+use Rattle.std.proofs.Common.{append-nil}
+use borrow.Rule.Slice.PartMut.{put_mid}
 use borrow.Author.Tests.{eq-eqb, ne_eqb}
 use lib.Dec.{eqb}
 use Rattle.format.specs.Words.{pick, bytes, long_words}
 use Rattle.format.specs.Spots.{legal_value, value_word, value_words}
-use Rattle.format.proofs.items.StoringLaws.{sets_out, sets_next}
+use Rattle.format.proofs.items.StoringLaws.{sets_out, sets_next, sets_right, part_whole}
 use Rattle.format.proofs.front.Stability.{legal_sample}
 use Rattle.ledger.specs.Formats.{Entry}
 use Rattle.ledger.specs.Records.{entry_bytes}
 use Rattle.ledger.specs.VersionTwo.{stamp_words, version_two}
 use Rattle.records.specs.Stored.{stored}
+
+-- the bytes of a word and of a number of 32 bits
+pub word_bytes : (w : ℕ) → w < 65536 → w % 256 ∷ w / 256 % 256 ∷ [] ≡ bytes (w ∷ [])
+unfolding bytes
+word_bytes w h = let e : w / 256 % 256 ≡ w / 256 = omega arith in rw e
+
+pub long_bytes : (n : ℕ) → n < 4294967296 → n % 256 ∷ n / 256 % 256 ∷ n / 65536 % 256 ∷ n / 16777216 % 256 ∷ [] ≡ bytes (long_words n)
+unfolding bytes
+long_bytes n h =
+    let a : n % 65536 % 256 ≡ n % 256 = omega arith in
+    let b : n % 65536 / 256 ≡ n / 256 % 256 = omega arith in
+    let c : n / 65536 / 256 ≡ n / 16777216 = omega arith in
+    let d : n / 16777216 % 256 ≡ n / 16777216 = omega arith in
+    rw (a, b, c, d)
+
+-- stored in the part of a slice from byte `at` on
+pub stored_from : (xs ys vs : List ℕ) (at : ℕ) → at ≤ length xs → ys ≡ sets (take (length xs - at) (drop at xs)) 0 vs → put_mid at (length xs - at) xs ys ≡ sets xs at vs
+stored_from xs ys vs at h e =
+    let l : length (drop at xs) ≤ length xs - at = rw length-drop (omega arith) in
+    let m = take_all (length xs - at) (drop at xs) l in
+    let z : drop (length xs - at) (drop at xs) ≡ [] = drop_of_length-le (drop at xs) l in
+    let p : length (take at xs) ≡ at = length-take-le at xs h in
+    let s : sets (take at xs ++ drop at xs) at vs ≡ take at xs ++ sets (drop at xs) 0 vs = ap (λ (i : ℕ). sets (take at xs ++ drop at xs) i vs) (sym (add-zero at)) ∙ sets_right (take at xs) (drop at xs) at 0 vs p in
+    ap (λ (q : List ℕ). take at xs ++ (ys ++ q)) z ∙ ap (λ (q : List ℕ). take at xs ++ q) (append-nil ys ∙ e ∙ ap (λ (q : List ℕ). sets q 0 vs) m) ∙ sym s
+    ∙ ap (λ (q : List ℕ). sets q at vs) (take-append-drop at xs)
+
+-- over a word, and over a number of 32 bits
+pub over_word : (f ys : List ℕ) (at to w : ℕ) → to ≡ at + 2 → to ≤ length f → w < 65536 → ys ≡ w % 256 ∷ w / 256 % 256 ∷ [] → put_mid at (to - at) f ys ≡ sets f at (bytes (w ∷ []))
+over_word f ys at to w t r h e =
+    part_whole f at to ys (omega arith) r (ap length e ∙ (let n : 2 ≡ to - at = omega arith in n)) ∙ ap (sets f at) (e ∙ word_bytes w h)
+
+pub over_long : (f ys : List ℕ) (at to n : ℕ) → to ≡ at + 4 → to ≤ length f → n < 4294967296 → ys ≡ n % 256 ∷ n / 256 % 256 ∷ n / 65536 % 256 ∷ n / 16777216 % 256 ∷ []
+    → put_mid at (to - at) f ys ≡ sets f at (bytes (long_words n))
+over_long f ys at to n t r h e =
+    part_whole f at to ys (omega arith) r (ap length e ∙ (let n : 4 ≡ to - at = omega arith in n)) ∙ ap (sets f at) (e ∙ long_bytes n h)
 
 pub sample_fits : (kind v : ℕ) → legal_value kind v ≡ true → kind ≡ 1 → v ≤ 4095
 sample_fits kind v l e = (legal_sample v).0 (ap (λ (k : ℕ). legal_value k v) (sym e) ∙ l)

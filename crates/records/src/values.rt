@@ -8,6 +8,7 @@ ghost use Rattle.records.specs.Promises.{MayHold, WordPut, ValuePut};
 
 use crate::answers::SpotKind;
 use book::items::{Bin, Sample};
+use book::words::copy;
 
 // An item of the kind may hold the value: a sample of at most 4,095, a bin's count of at least 1.
 pub fn legal(kind: u16, value: u32) -> bool
@@ -20,36 +21,27 @@ pub fn legal(kind: u16, value: u32) -> bool
     }
 }
 
-// Stores a word at byte `at`, low byte first, where there is room.
-fn word_put(buf: &mut [u8], at: usize, w: u16)
-    requires { at + 1 < length buf.old }
-    ensures { buf.new ≡ sets buf.old at (bytes (w ∷ [])) }
+// Stores some bytes at byte `at`, as far as there is room.
+fn put_bytes(buf: &mut [u8], at: usize, from: &[u8])
+    ensures { buf.new ≡ sets buf.old at from.now }
 {
-    buf[at] = (w % 256) as u8;
-    buf[at + 1] = (w / 256) as u8;
+    if at <= buf.len() {
+        copy(from, &mut buf[at..]);
+    }
 }
 
-// The same, as far as there is room.
+// Stores a word at byte `at`, low byte first, as far as there is room.
 pub fn put_word(buf: &mut [u8], at: usize, w: u16)
     ensures { WordPut buf.old at w buf.new }
 {
-    if buf.len() <= at {
-        return;
-    }
-    if buf.len() - at == 1 {
-        buf[at] = (w % 256) as u8;
-        return;
-    }
-    word_put(buf, at, w);
+    put_bytes(buf, at, &w.to_le_bytes());
 }
 
 // Stores a number of 32 bits at byte `at`, low word first, as far as there is room.
 pub(crate) fn put_long(buf: &mut [u8], at: usize, n: u32)
-    requires { at < length buf.old + 24 }
     ensures { buf.new ≡ sets buf.old at (bytes (long_words n)) }
 {
-    put_word(buf, at, (n % 65536) as u16);
-    put_word(buf, at + 2, (n / 65536) as u16);
+    put_bytes(buf, at, &n.to_le_bytes());
 }
 
 // Puts a legal value in the item of the kind at word w: a Sample's in its own word, a Bin's count in the two words after its first.
@@ -77,11 +69,10 @@ pub(crate) fn put_in(f: &mut [u8], kind: u16, w: usize, value: u32)
         let x = Sample {
             value: value as u16,
         };
-        word_put(f, 2 * w, x.word());
+        f[2 * w..2 * w + 2].copy_from_slice(&x.word().to_le_bytes());
         return;
     }
-    word_put(f, 2 * w + 2, (value % 65536) as u16);
-    word_put(f, 2 * w + 4, (value / 65536) as u16);
+    f[2 * w + 2..2 * w + 6].copy_from_slice(&value.to_le_bytes());
 }
 
 // Puts a value in the item of the kind whose first word is word w, as far as there is room; leaves the bytes where an item of that kind may not hold it.

@@ -1,40 +1,17 @@
 -- `records::values::put_in` meets its contract.
 -- Assumes nothing.
+use mathlib.Core.Path.{◌∙◌}
 use native.Mathlib.Omega.{arith}
-use Rattle.records.proofs.Storing.{sample_fits, sample_stored, bin_stored}
+use Rattle.records.proofs.Storing.{sample_fits, sample_stored, count_stored, over_word, over_long}
 use Rattle.records.proofs.values.put_in.Goals as goal
 
 pub overflow_cast-x : goal.overflow_cast-x
 overflow_cast-x c = omega (arith, sample_fits _ _ c.requires.1 (omega arith))
 
-pub overflow_mul-w : goal.overflow_mul-w
-overflow_mul-w c = omega (arith, c.requires.0.sample (omega arith))
-
-pub word_put-requires : goal.word_put-requires
-word_put-requires c = omega (arith, c.requires.0.sample (omega arith))
-
 pub returns-then-kind : goal.returns-then-kind
 returns-then-kind c =
-    sample_stored _ _ _ _ c.requires.1 (omega arith) _ _ c.word.ensures c.word_put.ensures
-
-pub overflow_mul-w-2 : goal.overflow_mul-w-2
-overflow_mul-w-2 c = omega (arith, c.requires.0.bin (λ e. omega arith))
-
-pub overflow_add-w : goal.overflow_add-w
-overflow_add-w c = omega (arith, c.requires.0.bin (λ e. omega arith))
-
-pub word_put-requires-2 : goal.word_put-requires-2
-word_put-requires-2 c = omega (arith, c.requires.0.bin (λ e. omega arith))
-
-pub overflow_mul-w-3 : goal.overflow_mul-w-3
-overflow_mul-w-3 c = omega (arith, c.requires.0.bin (λ e. omega arith))
-
-pub overflow_add-w-2 : goal.overflow_add-w-2
-overflow_add-w-2 c = omega (arith, c.requires.0.bin (λ e. omega arith))
-
-pub word_put-requires-3 : goal.word_put-requires-3
-word_put-requires-3 c = omega (arith, c.word_put-2.auto.buf, c.requires.0.bin (λ e. omega arith))
+    sample_stored _ _ _ _ c.requires.1 c.if-kind.true _ _ c.word.ensures (over_word c.args.f.now _ _ _ _ (omega arith) (omega (arith, c.requires.0.sample c.if-kind.true)) c.word.type_inv (c.copy_from_slice.ensures.after ∙ c.to_le_bytes.ensures))
 
 pub returns : goal.returns
 returns c =
-    bin_stored _ _ _ _ c.requires.1 (λ e. omega arith) _ _ c.word_put-2.ensures c.word_put-3.ensures
+    count_stored _ _ _ _ c.requires.1 c.if-kind.false _ (over_long c.args.f.now _ _ _ c.args.value (omega arith) (omega (arith, c.requires.0.bin c.if-kind.false)) (omega arith) (c.copy_from_slice-2.ensures.after ∙ c.to_le_bytes-2.ensures))

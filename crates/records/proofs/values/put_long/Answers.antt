@@ -1,8 +1,10 @@
 -- `records::values::put_long` meets its contract.
 -- Assumes nothing.
-use Rattle.records.proofs.Storing.{long_stored}
+use mathlib.Core.Path.{ap, ◌∙◌}
+use native.Mathlib.Omega.{arith}
+use lib.Seq.{sets}
+use Rattle.records.proofs.Storing.{long_bytes}
 use Rattle.records.proofs.values.put_long.Goals as goal
 
 pub returns : goal.returns
-returns c =
-    long_stored _ _ _ _ _ c.put_word.ensures c.put_word-2.ensures
+returns c = c.put_bytes.ensures ∙ ap (sets c.args.buf.now c.args.at) (c.to_le_bytes.ensures ∙ long_bytes c.args.n (omega arith))

@@ -1,15 +1,10 @@
 -- `records::values::put_word` meets its contract.
 -- Assumes nothing.
+use mathlib.Core.Path.{ap, ◌∙◌}
 use native.Mathlib.Omega.{arith}
-use lib.ListN.{length-set}
-use Rattle.format.proofs.items.StoringLaws.{word_out, word_half}
+use lib.Seq.{sets}
+use Rattle.records.proofs.Storing.{word_bytes}
 use Rattle.records.proofs.values.put_word.Goals as goal
 
-pub returns-then-buf-at : goal.returns-then-buf-at
-returns-then-buf-at c = word_out _ _ _ (omega arith)
-
-pub returns-then-buf-at-eq1 : goal.returns-then-buf-at-eq1
-returns-then-buf-at-eq1 c = word_half _ _ _ (rw length-set (omega arith))
-
-pub word_put-requires : goal.word_put-requires
-word_put-requires c = omega arith
+pub returns : goal.returns
+returns c = c.put_bytes.ensures ∙ ap (sets c.args.buf.now c.args.at) (c.to_le_bytes.ensures ∙ word_bytes c.args.w (omega arith))
