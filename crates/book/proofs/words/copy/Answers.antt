@@ -1,22 +1,19 @@
 -- `book::words::copy` meets its contract: what has no room is not stored.
 -- Assumes nothing.
-use Prim.Native.Nat.{ℕ, ◌≤◌}
-use mathlib.Core.Path.{◌≡◌, refl, sym, ap, ◌∙◌}
-use mathlib.Core.List.{List, ◌++◌}
+use mathlib.Core.Path.{sym, ◌∙◌}
 use native.Mathlib.Omega.{arith}
-use lib.ListN.{length, take, drop}
-use lib.Seq.{sets, length-take-le}
-use Rattle.format.proofs.items.StoringLaws.{sets_front, sets_whole, sets_room}
+use native.Mathlib.Nat.{min-le_left}
+use lib.ListN.{length-take}
+use lib.Seq.{length-take-le}
+use Rattle.format.proofs.items.StoringLaws.{sets_room}
 use Rattle.book.proofs.words.copy.Goals as goal
 
-all_stored : (l vs ys : List ℕ) → length vs ≤ length l → ys ≡ vs → ys ++ drop (length vs) l ≡ sets l 0 vs
-all_stored l vs ys h e = ap (λ (t : List ℕ). t ++ drop (length vs) l) e ∙ sym (sets_front vs l (length vs) refl h)
+pub slice_bounds-copy_all-end : goal.slice_bounds-copy_all-end
+slice_bounds-copy_all-end c = sym (length-take-le _ c.args.src.now (omega arith))
 
-room_stored : (l vs ys : List ℕ) → length l ≤ length vs → ys ≡ take (length l) vs → ys ≡ sets l 0 vs
-room_stored l vs ys h e = e ∙ sym (sets_whole l (take (length l) vs) (length-take-le (length l) vs h)) ∙ sets_room l vs
-
-pub returns-then-src-room : goal.returns-then-src-room
-returns-then-src-room c = all_stored _ _ _ c.if-src-room.true c.copy_from_slice.ensures.after
+pub copy_all-requires-else-src-room : goal.copy_all-requires-else-src-room
+copy_all-requires-else-src-room c = simp length-take (min-le_left _ _)
 
 pub returns-else-src-room : goal.returns-else-src-room
-returns-else-src-room c = room_stored _ _ _ (omega arith) c.copy_from_slice-else-src-room.ensures.after
+returns-else-src-room c =
+    c.copy_all-else-src-room.ensures ∙ sets_room c.args.dst.now c.args.src.now
