@@ -31,6 +31,7 @@ pub(crate) fn fill_counts(s: &[u8], from: usize, out: &mut [u32])
     ensures { out.new ≡ fill_counts (items_from s.now from) out.old }
 {
     let last = s.len() / 2 - 1;
+    // Here as in the loop below the index jumps by an item's length: it is not one that is counted by hand.
     let mut at = from;
     while at < last {
         let w = word_in(s, at);

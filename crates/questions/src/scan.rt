@@ -31,9 +31,7 @@ pub(crate) fn long_in(s: &[u8], i: usize) -> u32
     requires { 2 * i + 3 < length s.now }
     ensures { result ≡ long_at s.now i }
 {
-    let low = word_in(s, i) as u32;
-    let high = word_in(s, i + 1) as u32;
-    low + 65536 * high
+    u32::from_le_bytes([s[2 * i], s[2 * i + 1], s[2 * i + 2], s[2 * i + 3]])
 }
 
 // It opens an event, or goes on with one.
@@ -82,7 +80,8 @@ pub(crate) fn seek_event(s: &[u8], e: usize) -> Option<usize>
     ensures { EventSought s.now e result }
 {
     let last = s.len() / 2 - 1;
-    let mut at: usize = FIRST;
+    // Here as in the loops below the index jumps by an item's length: it is not one that is counted by hand.
+    let mut at = FIRST;
     let mut left = e;
     while at < last {
         let w = word_in(s, at);
@@ -163,7 +162,7 @@ pub(crate) fn seek_histogram(s: &[u8], wanted: Wanted) -> Option<usize>
     ensures { HistogramSought s.now wanted.chip wanted.channel result }
 {
     let last = s.len() / 2 - 1;
-    let mut at: usize = FIRST;
+    let mut at = FIRST;
     while at < last {
         let w = word_in(s, at);
         if (Class::BIN <= w) & (w < Class::HISTOGRAM) {

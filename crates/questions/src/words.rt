@@ -18,6 +18,7 @@ fn seek_sample(s: &[u8], from: usize, time: usize) -> Option<usize>
     ensures { place_of result ≡ sample_word time 0 from (items_from s.now from) }
 {
     let last = s.len() / 2 - 1;
+    // Here as in the loop below the index jumps by an item's length: it is not one that is counted by hand.
     let mut at = from;
     let mut next: usize = 0;
     while at < last {

@@ -13,9 +13,6 @@ overflow_sub-last c = let r = on_range _ _ c.requires.0.on in omega arith
 pub loop-at-init : goal.loop-at-init
 loop-at-init c = let p = c.requires in (refl, p.1, sampling_start _ _ _ p.0)
 
-pub word_in-w-requires : goal.word_in-w-requires
-word_in-w-requires c = omega arith
-
 pub offset_bounds-out-time : goal.offset_bounds-out-time
 offset_bounds-out-time c = let v = c.loop-at.invariant in omega (arith, sample_room _ _ _ _ _ _ v.2 (omega arith) _ c.word_in-w.ensures c.if-w.true)
 
@@ -30,9 +27,6 @@ loop-at-preserved-then-w c = let v = c.loop-at.invariant in (v.0, v.1, sampling_
 
 pub returns-then-w-2 : goal.returns-then-w-2
 returns-then-w-2 c = let v = c.loop-at.invariant in sampling_other _ _ _ _ _ _ v.2 (omega arith) _ c.word_in-w.ensures c.if-w.false c.if-w-2.true
-
-pub overflow_cast-time : goal.overflow_cast-time
-overflow_cast-time c = omega arith
 
 pub loop-at-preserved : goal.loop-at-preserved
 loop-at-preserved c = let v = c.loop-at.invariant in (v.0, v.1, sampling_time _ _ _ _ _ _ v.2 (omega arith) _ c.word_in-w.ensures c.if-w-2.false _ c.of_word-time.ensures)

@@ -13,20 +13,8 @@ overflow_sub-last c = let r = amid_range _ _ _ c.requires in omega arith
 pub loop-at-init : goal.loop-at-init
 loop-at-init c = (refl, sizing_start _ _ c.requires)
 
-pub word_in-w-requires : goal.word_in-w-requires
-word_in-w-requires c = omega arith
-
-pub overflow_add-at : goal.overflow_add-at
-overflow_add-at c = omega arith
-
-pub loop-at-smaller-then-w-ge-TIME_BIN : goal.loop-at-smaller-then-w-ge-TIME_BIN
-loop-at-smaller-then-w-ge-TIME_BIN c = omega arith
-
 pub loop-at-preserved-then-w-ge-TIME_BIN : goal.loop-at-preserved-then-w-ge-TIME_BIN
 loop-at-preserved-then-w-ge-TIME_BIN c = let v = c.loop-at.invariant in (v.0, sizing_one _ _ _ v.1 (omega arith) _ c.word_in-w.ensures c.if-w-ge-TIME_BIN.true)
-
-pub overflow_add-at-then-is_end : goal.overflow_add-at-then-is_end
-overflow_add-at-then-is_end c = omega arith
 
 pub returns-then-is_end : goal.returns-then-is_end
 returns-then-is_end c = let v = c.loop-at.invariant in sizing_found _ _ _ v.1 _ _ c.in_ok-x.ensures (sym c.is_end.ensures ∙ c.if-is_end.true) _ c.long.ensures

@@ -13,23 +13,11 @@ overflow_sub-last c = let r = amid_range _ _ _ c.requires in omega arith
 pub loop-at-init : goal.loop-at-init
 loop-at-init c = (refl, seeking_start _ _ c.requires)
 
-pub word_in-w-requires : goal.word_in-w-requires
-word_in-w-requires c = omega arith
-
-pub overflow_add-at : goal.overflow_add-at
-overflow_add-at c = omega arith
-
-pub loop-at-smaller-then-w-ge-TIME_BIN : goal.loop-at-smaller-then-w-ge-TIME_BIN
-loop-at-smaller-then-w-ge-TIME_BIN c = omega arith
-
 pub loop-at-preserved-then-w-ge-TIME_BIN : goal.loop-at-preserved-then-w-ge-TIME_BIN
 loop-at-preserved-then-w-ge-TIME_BIN c = let v = c.loop-at.invariant in (v.0, seeking_one _ _ _ _ v.1 (omega arith) _ c.word_in-w.ensures c.if-w-ge-TIME_BIN.true)
 
 pub returns-then-left-eq0 : goal.returns-then-left-eq0
 returns-then-left-eq0 c = let v = c.loop-at.invariant in seeking_found _ _ _ _ v.1 _ _ c.in_ok-x.ensures (sym c.is_opener.ensures ∙ c.if-is_opener.true) c.if-left-eq0.true
-
-pub overflow_sub-left : goal.overflow_sub-left
-overflow_sub-left c = omega arith
 
 pub loop-at-smaller-else-left-eq0 : goal.loop-at-smaller-else-left-eq0
 loop-at-smaller-else-left-eq0 c = let v = c.loop-at.invariant in let f = next_further _ _ _ v.1.amid _ _ c.in_ok-x.ensures in omega arith

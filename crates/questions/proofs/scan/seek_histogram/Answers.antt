@@ -13,29 +13,11 @@ overflow_sub-last c = let r = amid_range _ _ _ c.requires in omega arith
 pub loop-at-init : goal.loop-at-init
 loop-at-init c = (refl, seeking_start _ _ _ c.requires)
 
-pub word_in-w-requires : goal.word_in-w-requires
-word_in-w-requires c = omega arith
-
-pub overflow_add-at : goal.overflow_add-at
-overflow_add-at c = omega arith
-
-pub loop-at-smaller-then-w : goal.loop-at-smaller-then-w
-loop-at-smaller-then-w c = omega arith
-
 pub loop-at-preserved-then-w : goal.loop-at-preserved-then-w
 loop-at-preserved-then-w c = let v = c.loop-at.invariant in (v.0, seeking_bin _ _ _ _ v.1 (omega arith) _ c.word_in-w.ensures c.if-w.true)
 
-pub overflow_add-result : goal.overflow_add-result
-overflow_add-result c = omega arith
-
 pub returns-then-is : goal.returns-then-is
 returns-then-is c = let v = c.loop-at.invariant in seeking_hit _ _ _ _ v.1 (omega arith) _ c.word_in-w.ensures c.if-w-ge-HISTOGRAM.true _ c.of_word-x.ensures (sym c.is.ensures ∙ c.if-is.true)
-
-pub overflow_add-at-then-w-ge-HISTOGRAM : goal.overflow_add-at-then-w-ge-HISTOGRAM
-overflow_add-at-then-w-ge-HISTOGRAM c = omega arith
-
-pub loop-at-smaller-then-w-ge-HISTOGRAM : goal.loop-at-smaller-then-w-ge-HISTOGRAM
-loop-at-smaller-then-w-ge-HISTOGRAM c = omega arith
 
 pub loop-at-preserved-then-w-ge-HISTOGRAM : goal.loop-at-preserved-then-w-ge-HISTOGRAM
 loop-at-preserved-then-w-ge-HISTOGRAM c = let v = c.loop-at.invariant in (v.0, seeking_header _ _ _ _ v.1 (omega arith) _ c.word_in-w.ensures c.if-w-ge-HISTOGRAM.true _ c.of_word-x.ensures (sym c.is.ensures ∙ c.if-is.false))

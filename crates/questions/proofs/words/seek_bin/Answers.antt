@@ -13,9 +13,6 @@ overflow_sub-last c = let r = on_range _ _ c.requires in omega arith
 pub loop-at-init : goal.loop-at-init
 loop-at-init c = (refl, bin_start _ _ _ c.requires)
 
-pub word_in-w-requires : goal.word_in-w-requires
-word_in-w-requires c = omega arith
-
 pub returns-then-w : goal.returns-then-w
 returns-then-w c = bin_other _ _ _ _ c.loop-at.invariant.1 (omega arith) _ c.word_in-w.ensures c.if-w.true
 

@@ -13,9 +13,6 @@ overflow_sub-last c = let r = on_range _ _ c.requires in omega arith
 pub loop-at-init : goal.loop-at-init
 loop-at-init c = (refl, sample_start _ _ _ c.requires)
 
-pub word_in-w-requires : goal.word_in-w-requires
-word_in-w-requires c = omega arith
-
 pub returns-then-next-time : goal.returns-then-next-time
 returns-then-next-time c = sample_found _ _ _ _ _ c.loop-at.invariant.1 (omega arith) _ c.word_in-w.ensures c.if-w.true c.if-next-time.true
 
@@ -27,9 +24,6 @@ loop-at-preserved-then-w c = let v = c.loop-at.invariant in (v.0, sample_next _ 
 
 pub returns-then-w-2 : goal.returns-then-w-2
 returns-then-w-2 c = sample_other _ _ _ _ _ c.loop-at.invariant.1 (omega arith) _ c.word_in-w.ensures c.if-w.false c.if-w-2.true
-
-pub overflow_cast-next : goal.overflow_cast-next
-overflow_cast-next c = omega arith
 
 pub loop-at-preserved : goal.loop-at-preserved
 loop-at-preserved c = let v = c.loop-at.invariant in (v.0, sample_later _ _ _ _ _ v.1 (omega arith) _ c.word_in-w.ensures c.if-w-2.false _ c.of_word-next.ensures)
