@@ -16,6 +16,15 @@ pub struct Stopped {
     pub refusal: Refusal,
 }
 
+impl Stopped {
+    // By the refusal of the correction at a position.
+    fn at(position: usize, refusal: Refusal) -> Stopped
+        ensures { result ≡ record { position = position; refusal = refusal } }
+    {
+        Stopped { position, refusal }
+    }
+}
+
 // Makes the corrections of a list in order, each as `edit` does on what the one before it left, and stops at the first that is refused: it answers
 // that position and that refusal. The corrections before it stand, the refused one and those behind it have changed nothing. An empty list is
 // accepted, and changes nothing, whatever the buffer holds.
@@ -23,7 +32,7 @@ pub fn edit_all(buf: &mut [u8], list: &[Correction]) -> Result<(), Stopped>
     ensures { CorrectedAll buf.old (map asked list.now) (view_corrected result) buf.new }
 {
     for (position, c) in list.iter().enumerate() {
-        edit(buf, *c).map_err(|refusal| Stopped { position, refusal })?;
+        edit(buf, *c).map_err(|refusal| Stopped::at(position, refusal))?;
     }
     Ok(())
 }
