@@ -9,7 +9,7 @@ use Rattle.std.specs.Prelude as found
 use Rattle.std.specs.Prelude.{Result}
 use Rattle.std.specs.Option.{ok_or}
 use Rattle.format.specs.Words.{pick, Bytes}
-use Rattle.format.specs.Answers.{Outcome, accepted, refused, and_then}
+use Rattle.format.specs.Answers.{Outcome, refused, and_then}
 use Rattle.format.specs.Book.{end_event}
 use Rattle.format.specs.Items.{Item, Channel, Histogram, HitCount, Sample, Bin, LastCell, TimeBin, Text, StartEvent, ContinueEvent, EndEvent}
 use Rattle.format.specs.Rules.{Kind}

@@ -1,6 +1,5 @@
 -- `questions::fill::fill_samples` meets its contract.
 -- Assumes nothing.
-use Prim.Native.Nat.{◌-◌}
 use mathlib.Core.Path.{refl}
 use native.Mathlib.Omega.{arith}
 use Rattle.format.proofs.reader.CursorLaws.{on_range}

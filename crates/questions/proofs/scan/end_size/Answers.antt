@@ -1,6 +1,5 @@
 -- `questions::scan::end_size` meets its contract.
 -- Assumes nothing.
-use Prim.Native.Nat.{◌-◌}
 use mathlib.Core.Path.{refl, sym, ◌∙◌}
 use native.Mathlib.Omega.{arith}
 use Rattle.questions.proofs.Turns.{amid_range, next_further, nothing_there}
