@@ -4,6 +4,8 @@ ghost use Rattle.std.proofs.lemmas.List.Edits.{sets};
 ghost use Rattle.format.specs.Words.{bytes, long_words};
 ghost use Rattle.writer.specs.Views.{time_cut, piece_bytes, final_zero, text_bytes};
 
+use book::words::copy;
+
 // A word. Records' stores are twins of these but for the test of the room: a public function has no `requires`, so theirs asks for the room each
 // time; these go by the one test of `has_room`.
 pub(crate) fn put_word(buf: &mut [u8], at: usize, w: u16)
@@ -87,13 +89,13 @@ fn put_zero(buf: &mut [u8], at: usize, n: usize)
     buf[at] = 0;
 }
 
-// Some bytes.
+// Some bytes, by book's `copy`: `copy_from_slice` takes more on short ones.
 fn put_bytes(buf: &mut [u8], at: usize, from: &[u8])
     requires { at + length from.now ≤ length buf.old }
     ensures { buf.new ≡ sets buf.old at from.now }
 {
     let to = at + from.len();
-    buf[at..to].copy_from_slice(from);
+    copy(from, &mut buf[at..to]);
 }
 
 // A word, and a text's bytes with its final zero.

@@ -1,15 +1,13 @@
 -- `writer::stores::put_bytes` meets its contract.
 -- Assumes nothing.
 use Prim.Native.Nat.{◌+◌}
-use mathlib.Core.Path.{ap, ◌∙◌}
 use native.Mathlib.Omega.{arith}
 use lib.ListN.{length}
-use lib.Seq.{sets}
-use Rattle.format.proofs.items.StoringLaws.{part_whole}
+use Rattle.format.proofs.items.StoringLaws.{part_stores}
 use Rattle.writer.proofs.stores.put_bytes.Goals as goal
 
 pub returns : goal.returns
 returns c =
     let a = c.args in
-    let e = c.copy_from_slice.ensures.after in
-    part_whole a.buf.now a.at (a.at + length a.from.now) _ (omega arith) c.requires (omega (arith, ap length e)) ∙ ap (sets a.buf.now a.at) e
+    let p = c.requires in
+    part_stores a.buf.now a.at (a.at + length a.from.now) _ a.from.now (omega arith) p (omega arith) c.copy.ensures
