@@ -1,6 +1,6 @@
 -- `assembler::OpenEvent::grown` meets its contract.
 -- Assumes nothing.
-use mathlib.Core.Path.{refl, ap, ◌∙◌}
+use mathlib.Core.Path.{refl, ap}
 use Prim.Native.Nat.{ℕ, ◌+◌}
 use native.Mathlib.Omega.{arith}
 use Rattle.assembler.proofs.StepLaws.{sized_fits, ended, goes_on_open}
