@@ -1,8 +1,8 @@
 -- Sequences in which single edits and lists of corrections stand: they are sequences of single edits, so that demand 3 holds of them as it stands.
 -- Assumes nothing.
 use Prim.Native.Nat.{ℕ, ◌+◌, ◌*◌, ◌≤◌}
-use mathlib.Core.Path.{◌≡◌, refl, sym, ap, ap₂, subst, ◌∙◌}
-use mathlib.Core.List.{List, [], ◌∷◌, ◌++◌}
+use mathlib.Core.Path.{◌≡◌, refl, ap, ap₂, subst, ◌∙◌}
+use mathlib.Core.List.{List, ◌++◌}
 use lib.ListN.{length, take, drop}
 use Rattle.std.specs.Prelude.{Result, Ok, Err}
 use Rattle.format.specs.Words.{Bytes}
@@ -21,7 +21,7 @@ use Rattle.editor.specs.Promises.{Opened, Restored}
 use Rattle.editor.specs.Sequences.{Calls, done, then, kept, made_by, corrected, entries_for}
 use Rattle.editor.proofs.SequenceLaws.{joined}
 use Rattle.editor.proofs.front.Demand3 as demand3
-use Rattle.corrections.specs.Singly.{tried, replies, standing, Call, one, many, Mixed, none, edit, edit_all, asked_by, answers_to, made_in}
+use Rattle.corrections.specs.Singly.{Call, Mixed, none, edit, edit_all, asked_by, answers_to, made_in}
 use Rattle.corrections.proofs.SinglyLaws.{singly, standing_made}
 
 pub made_singly : {b e : List ℕ} {ks : List Call} → Mixed b ks e → Calls b (asked_by ks) (answers_to ks) e

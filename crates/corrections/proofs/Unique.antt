@@ -4,13 +4,12 @@ use Prim.Native.Nat.{ℕ}
 use mathlib.Core.Path.{◌≡◌, refl, sym, ap, ◌∙◌}
 use mathlib.Core.List.{List, map}
 use native.Mathlib.Omega.{arith}
-use Rattle.std.specs.Prelude.{Result, Ok, Err}
+use Rattle.std.specs.Prelude.{Ok, Err}
 use Rattle.book.specs.Refusals.{number_of}
 use Rattle.book.proofs.Unique.{same_fault}
 use Rattle.editor.specs.declared.editing.Correction.{Correction}
 use Rattle.editor.specs.Views.{asked}
 use Rattle.corrections.specs.declared.Stopped.{Stopped}
-use Rattle.corrections.specs.Lists.{ListAnswer, stopped}
 use Rattle.corrections.specs.Views.{Answer, view_corrected}
 use Rattle.corrections.specs.Promises.{CorrectedAll}
 

@@ -1,7 +1,7 @@
 -- Many corrections in one call (document 02, request 2), over any frame book and entry format: "apply it in order. It stops at the first refusal
 -- and returns its position (from 0); the earlier ones stand".
 -- Assumes nothing.
-use Rattle.std.specs.Prelude.{ℕ, ◌+◌, ◌≡◌, refl, List, [], ◌∷◌}
+use Rattle.std.specs.Prelude.{ℕ, ◌+◌, List, [], ◌∷◌}
 use Rattle.format.specs.Answers.{Done, accepted, refused, leaves}
 use Rattle.ledger.specs.Frames.{FrameBook}
 use Rattle.ledger.specs.Formats.{Correction, Format}

@@ -39,10 +39,9 @@ use Rattle.editor.specs.declared.editing.Correction.{Correction}
 use Rattle.editor.specs.Views.{Answer, view_done, asked}
 use Rattle.editor.specs.Promises.{Opened, Edited, Restored}
 use Rattle.records.specs.Promises.{Recorded, EntryTold}
-use Rattle.editor.specs.Sequences.{Calls, made_by, corrected, entries_for, entry_made, correction_for, Moment, AllGiven, Sequence}
-use Rattle.editor.proofs.CallLaws.{says_accepted, says_refused, says_fault, after_calls, edits_of_calls, count_of_calls, asked_take, asked_nth, moment}
+use Rattle.editor.specs.Sequences.{Calls, made_by, corrected, entries_for, entry_made, Moment, AllGiven, Sequence}
+use Rattle.editor.proofs.CallLaws.{says_accepted, says_refused, says_fault, after_calls, edits_of_calls, count_of_calls, asked_take, asked_nth}
 use Rattle.editor.proofs.SequenceLaws as sequences
-use Rattle.editor.proofs.Effects as effects
 
 -- ---- opening
 

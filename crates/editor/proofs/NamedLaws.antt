@@ -1,19 +1,16 @@
 -- A refusal of an edit is by the number of a fault, whatever the bytes: so there is an answer of the code's for every correction.
 -- Assumes nothing.
-use Prim.Native.Nat.{ℕ, suc, ◌+◌}
-use mathlib.Core.Path.{refl}
-use mathlib.Core.Bool.{◌&&◌}
+use Prim.Native.Nat.{ℕ, suc}
 use mathlib.Core.List.{List, [], ◌∷◌}
-use lib.Dec.{leb}
 use lib.ListN.{length}
-use Rattle.format.specs.Answers.{Outcome, Done, accepted, refused, need}
+use Rattle.format.specs.Answers.{Outcome, accepted, refused, need}
 use Rattle.format.specs.Frames.{verdict}
 use Rattle.format.specs.Questions.{done}
 use Rattle.book.specs.declared.refusal.Fault.TheVariants as fault
-use Rattle.book.proofs.Named.{Named, named_then, named_need, AllNamed, no_tests, more, named_first, verdict_named}
+use Rattle.book.proofs.Named.{Named, named_then, named_need, no_tests, more, named_first, verdict_named}
 use Rattle.ledger.specs.Formats.{Correction, Entry}
-use Rattle.ledger.specs.Records.{header_right, frame_in, entries_in, total_in, fits, before, signed, at_spot, history_verdict, record_verdict}
-use Rattle.ledger.specs.Calls.{entry_for, new_value, edit_tests, edit_answer}
+use Rattle.ledger.specs.Records.{header_right, frame_in, entries_in, fits, before, history_verdict, record_verdict}
+use Rattle.ledger.specs.Calls.{edit_tests, edit_answer}
 use Rattle.ledger.specs.VersionTwo.{version_two}
 use Rattle.ledger.specs.PlaneFrames.{plane_frames}
 

@@ -1,9 +1,9 @@
 -- The order of tests: the code asks one after the other and leaves at the first that refuses, the rules speak of the first of a list.
 -- Assumes nothing.
 use Prim.Native.Nat.{ℕ}
-use mathlib.Core.Path.{◌≡◌, refl, sym, ap, ◌∙◌}
+use mathlib.Core.Path.{◌≡◌, ◌∙◌}
 use mathlib.Core.List.{List, [], ◌∷◌}
-use Rattle.format.specs.Answers.{Done, accepted, refused, and_then, first_of}
+use Rattle.format.specs.Answers.{Done, accepted, refused, first_of}
 
 module _ (o : Done) (os : List Done) where
   pub first_refuses : (n p : ℕ) → refused n p ≡ o → refused n p ≡ first_of (o ∷ os)

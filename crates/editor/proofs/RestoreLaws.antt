@@ -6,7 +6,7 @@ use mathlib.Core.List.{List, [], ◌∷◌}
 use lib.ListN.{length}
 use lib.Dec.{leb}
 use Rattle.format.specs.Answers.{Done, refused, need, first_of}
-use Rattle.ledger.specs.Records.{length_in, count_in, record_verdict}
+use Rattle.ledger.specs.Records.{record_verdict}
 use Rattle.ledger.specs.Calls.{Summary, restore_answer}
 use Rattle.ledger.specs.Versions.{format_in}
 use Rattle.ledger.specs.PlaneFrames.{plane_frames}

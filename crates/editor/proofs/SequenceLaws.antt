@@ -8,7 +8,7 @@ use mathlib.Core.List.{List, [], ◌∷◌, ◌++◌, map, map-append}
 use native.Mathlib.Omega.{arith}
 use lib.ListN.{length, get_or, take, drop}
 use borrow.Author.Tests.{eqb-true}
-use Rattle.std.specs.Prelude.{Result, Ok, Err}
+use Rattle.std.specs.Prelude.{Result, Ok}
 use Rattle.format.specs.Words.{Bytes, word_at}
 use Rattle.format.specs.Answers.{Done, accepted, refused, and_then}
 use Rattle.format.proofs.items.WordLaws.{below_drop}

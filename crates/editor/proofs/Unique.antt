@@ -1,7 +1,7 @@
 -- T39, T40. What an answer says on paper fixes the answer, and each call's promise has one answer and one buffer.
 -- Assumes nothing.
 use Prim.Native.Nat.{ℕ}
-use mathlib.Core.Path.{◌≡◌, refl, sym, ap, ◌∙◌}
+use mathlib.Core.Path.{◌≡◌, refl, sym, ◌∙◌}
 use mathlib.Core.List.{List}
 use Rattle.book.proofs.Unique.{undone, same_result}
 use Rattle.ledger.specs.Formats as formats

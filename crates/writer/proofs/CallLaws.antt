@@ -1,21 +1,21 @@
 -- Begin and close: from the answers of the tests and the words stored to the promise.
 -- Assumes nothing.
 use Prim.Native.Nat.{ℕ, ◌+◌, ◌/◌, ◌%◌, ◌≤◌, ◌<◌}
-use mathlib.Core.Path.{◌≡◌, refl, sym, ap, ◌∙◌}
+use mathlib.Core.Path.{◌≡◌, sym, ap, ◌∙◌}
 use mathlib.Core.List.{List, [], ◌∷◌}
 use mathlib.Core.Bool.{Bool, true, false}
 use native.Mathlib.Nat.{mod-eq_of_lt}
 use native.Mathlib.Omega.{arith}
-use lib.Dec.{leb, eqb}
+use lib.Dec.{eqb}
 use lib.ListN.{length}
 use lib.Seq.{sets}
 use borrow.Author.Tests.{le-leb, lt-leb, eqb-true}
-use Rattle.format.specs.Words.{pick, bytes}
-use Rattle.format.specs.Answers.{Outcome, accepted, refused, leaves}
+use Rattle.format.specs.Words.{bytes}
+use Rattle.format.specs.Answers.{accepted, refused}
 use Rattle.format.specs.Rules.{Kind}
 use Rattle.format.specs.Frames.{start_word, all_words}
 use Rattle.format.specs.Steps.{ended_by}
-use Rattle.format.specs.Writing.{Partial, partial_words, partial_fault, partial_judged, partial_verdict, begin_answer, begin_left, close_answer, close_left, Wrote}
+use Rattle.format.specs.Writing.{partial_words, partial_fault, partial_judged, partial_verdict, begin_answer, begin_left, close_answer, close_left, Wrote}
 use Rattle.format.specs.PartialSteps.{PartialOverview, partial_overview, partial_read_of}
 use Rattle.format.proofs.writer.PartialLaws.{Measured, measured_of, kept, then_kept, partial_head}
 use Rattle.format.proofs.reader.PartialJudging.{close_state, close_refused}

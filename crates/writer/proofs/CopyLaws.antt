@@ -32,7 +32,6 @@ use Rattle.format.proofs.verdict.Acceptance.{exactly}
 use Rattle.format.proofs.questions.ItemQuestions.{item_stands}
 use Rattle.format.proofs.writer.HandingLaws.{shown_there}
 use Rattle.format.proofs.front.Demand2 as format2
-use Rattle.book.specs.declared.items.Item.{Item}
 use Rattle.book.specs.declared.refusal.Fault.TheVariants as fault
 use Rattle.book.specs.declared.refusal.Refusal.{Refusal}
 use Rattle.book.specs.Refusals.{number_of}

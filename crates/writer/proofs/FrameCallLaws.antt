@@ -10,7 +10,7 @@ use lib.Dec.{leb}
 use lib.ListN.{length}
 use Rattle.std.specs.Prelude.{Result, Ok, Err}
 use Rattle.format.specs.Words.{pick}
-use Rattle.format.specs.Answers.{Outcome, accepted, refused}
+use Rattle.format.specs.Answers.{accepted, refused}
 use Rattle.format.specs.Items.{Item, Token, whole, broken, flawed}
 use Rattle.format.specs.Rules.{Checked, good, bad, may_end, check}
 use Rattle.format.specs.Questions.{text_at}

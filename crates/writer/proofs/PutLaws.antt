@@ -5,14 +5,14 @@ use mathlib.Core.Path.{◌≡◌, refl, sym, ap, ap₂, ◌∙◌}
 use mathlib.Core.List.{List, [], ◌∷◌, ◌++◌}
 use mathlib.Core.Bool.{Bool, true, false, ◌&&◌, and-true}
 use native.Mathlib.Omega.{arith}
-use lib.Dec.{leb, ltb, eqb}
-use lib.ListN.{length, get_or}
+use lib.Dec.{leb, ltb}
+use lib.ListN.{length}
 use lib.Seq.{sets}
 use borrow.Author.Tests.{leb-true, le-leb, lt-leb, lt-ltb}
 use Rattle.format.specs.Words.{pick, Bytes, bytes, long_words, non_zero}
 use Rattle.format.specs.Answers.{Outcome, accepted, refused, leaves}
-use Rattle.format.specs.Book.{text, continue_event, end_event}
-use Rattle.format.specs.Items.{Item, Text, StartEvent, ContinueEvent, EndEvent, class_for, words_of, fits, in_range, Token, whole, broken}
+use Rattle.format.specs.Book.{text}
+use Rattle.format.specs.Items.{Item, Text, ContinueEvent, EndEvent, class_for, words_of, fits, in_range, Token, whole, broken}
 use Rattle.format.specs.Rules.{Checked, good, bad}
 use Rattle.format.specs.Steps.{ReaderState, Stepped, moved, stopped, marked, place_by, value_by, sized_by, order_by, state_after, check_by}
 use Rattle.format.specs.Writing.{given, token_bytes}
@@ -26,7 +26,7 @@ use Rattle.book.specs.declared.items.Item as handed
 use Rattle.book.specs.declared.items.Item.TheVariants as item
 use Rattle.book.specs.declared.items.StartEvent as start
 use Rattle.book.proofs.FieldLaws.{channel_words, histogram_words, hits_words, sample_words, bin_words, cell_words, time_words_lem, start_words, continue_words, end_words}
-use Rattle.rules.specs.Views.{tested, continue_tested, end_tested, text_tested}
+use Rattle.rules.specs.Views.{continue_tested, end_tested, text_tested}
 use Rattle.writer.specs.Views.{time_cut, item_bytes, text_bytes, lettered, room_in, answered_by, placed, placed_left}
 use Rattle.writer.proofs.StoreTurns.{zero_behind}
 

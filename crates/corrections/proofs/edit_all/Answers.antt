@@ -1,10 +1,9 @@
 -- `corrections::edit_all` meets its contract: each turn makes the correction at its position, which is what the list from there on begins with.
 -- Assumes nothing.
-use Rattle.std.proofs.Common.{◌≡◌, ap, ◌∙◌, rules}
+use Rattle.std.proofs.Common.{◌≡◌, ◌∙◌, rules}
 use Rattle.std.proofs.lemmas.Result.{err_from_is_err_and}
 use Rattle.book.specs.Refusals.{number_of}
 use Rattle.book.proofs.Mapped.{as_accepted, as_refused}
-use Rattle.corrections.specs.Views.{view_corrected}
 use Rattle.corrections.proofs.Turns.{turn_made, turn_refused, through}
 use Rattle.corrections.proofs.edit_all.Goals as goal
 

@@ -1,7 +1,6 @@
 -- `editor::editing::edit_value` meets its contract.
 -- Assumes nothing.
 use native.Mathlib.Omega.{arith}
-use mathlib.Core.Path.{sym}
 use Rattle.std.proofs.lemmas.Result.{err_from_is_err_and}
 use Rattle.editor.proofs.KnownLaws.{short}
 use Rattle.editor.proofs.EditLaws.{sum_two, few_two, tests_left, edited_refused, edited_written}

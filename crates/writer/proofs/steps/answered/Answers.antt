@@ -4,12 +4,10 @@ use Prim.Native.Nat.{◌/◌}
 use mathlib.Core.Path.{◌≡◌, ap, ◌∙◌}
 use Rattle.std.proofs.Common.{rules}
 use Rattle.std.proofs.lemmas.Result.{err_from_is_err_and}
-use native.Mathlib.Omega.{arith}
 use Rattle.book.specs.Refusals.{refusal}
 use Rattle.book.proofs.Mapped.{as_accepted, as_refused}
 use Rattle.rules.specs.Views.{view_step}
-use Rattle.writer.specs.Views.{view_put}
-use Rattle.writer.proofs.PutLaws.{turned_away, comes_in, no_room, room_there}
+use Rattle.writer.proofs.PutLaws.{turned_away, comes_in, no_room}
 use Rattle.writer.proofs.steps.answered.Goals as goal
 
 pub returns-in_err-moved : goal.returns-in_err-moved
