@@ -4,13 +4,13 @@ use Prim.Native.Nat.{ℕ, ◌/◌, ◌<◌}
 use mathlib.Core.Path.{◌≡◌, refl, sym, subst}
 use mathlib.Core.Logic.{◌⊎◌, ⊎_elim}
 use mathlib.Core.List.{List, []}
-use mathlib.Core.Option.{Option, none}
+use mathlib.Core.Option.{none}
 use native.Mathlib.Omega.{arith}
 use borrow.Author.Tests.{ne_eqb}
 use lib.Seq.{sets}
 use Rattle.format.specs.Answers.{Outcome, accepted, refused, and_then, leaves}
 use Rattle.format.specs.Items.{Token, flawed}
-use Rattle.format.specs.Rules.{Kind, check}
+use Rattle.format.specs.Rules.{check}
 use Rattle.format.specs.Writing.{Partial, partial_verdict, add_answer, add_left}
 use Rattle.format.specs.PartialSteps.{PartialOverview, partial_read_of}
 use Rattle.format.proofs.reader.PartialJudging.{add_refused, contained}
