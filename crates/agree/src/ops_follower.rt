@@ -6,18 +6,12 @@ use exports::following::plane_follow;
 
 // The follower's state as a case codes it: 0 idle, 1 + e expecting e.
 pub(crate) fn state_of(code: u64) -> Result<PlaneFollower, Fault> {
-    let number = match code.checked_sub(1) {
-        None => {
-            return Ok(PlaneFollower {
-                expecting: 0,
-                number: 0,
-            });
-        }
-        Some(number) => u8::try_from(number)?,
+    let Some(number) = code.checked_sub(1) else {
+        return Ok(PlaneFollower::default());
     };
     Ok(PlaneFollower {
         expecting: 1,
-        number,
+        number: u8::try_from(number)?,
     })
 }
 

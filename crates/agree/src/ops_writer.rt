@@ -20,20 +20,7 @@ pub(crate) fn begin(case: &Case, p: &mut [u8]) -> Result<Answer, Fault> {
 fn item_of(class: Class, fields: [u64; 3]) -> Result<PlaneItem, Fault> {
     let mut item = PlaneItem {
         item_class: class.row(),
-        card: 0,
-        chip: 0,
-        channel: 0,
-        hits: 0,
-        value: 0,
-        bin: 0,
-        cell: 0,
-        time: 0,
-        length: 0,
-        kind: 0,
-        count: 0,
-        number: 0,
-        size: 0,
-        timestamp: 0,
+        ..PlaneItem::default()
     };
     match (class, fields) {
         (Class::Channel | Class::Histogram, [card, chip, channel]) => {
