@@ -58,7 +58,7 @@ impl Lines {
     }
 }
 
-// A hex digit, capital.
+// A hex digit, capital: std's `char::from_digit` answers a small letter, and an option.
 fn hex_digit(d: u16) -> u8
     requires { d < 16 }
     ensures { result ≡ hex_digit d }

@@ -105,6 +105,7 @@ impl Lines {
         ensures { Put (180 * count) self.old.bytes self.old.at (entry_lines buf.now count) self.new.bytes self.new.at }
     {
         let size = entry_size(version);
+        // By the byte, since an entry is read of all that is left; `chunks_exact` would only want the entries cut out before.
         let mut from = history;
         for j in 0..count {
             self.entry_line(j + 1, &buf[from..], version);
