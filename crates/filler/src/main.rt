@@ -79,8 +79,7 @@ fn fill(buf: &mut [u8], rounds: u16, each: bool) -> usize {
 }
 
 fn sum_of(s: &[u8]) -> u64 {
-    s.iter()
-        .fold(0, |sum, &x| (sum % 4294967296 * 31 + x as u64) % 4294967291)
+    s.iter().fold(0, |sum, &x| (sum % 4294967296 * 31 + x as u64) % 4294967291)
 }
 
 // Fills frames in a buffer of that length, and tells of the last.
