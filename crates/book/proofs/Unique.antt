@@ -7,7 +7,7 @@ use native.Mathlib.Omega.{arith}
 use lib.ListN.{get_or}
 use Rattle.std.specs.Prelude.{Option, Some, None, Result, Ok, Err}
 use Rattle.std.proofs.Math.Option as paper_option
-use Rattle.format.specs.Answers.{Outcome, accepted}
+use Rattle.format.specs.Answers.{Outcome, accepted, refused}
 use Rattle.format.specs.Book as paper
 use Rattle.format.specs.Book.{row_of}
 use Rattle.format.specs.Items as items
@@ -151,10 +151,10 @@ faults =
     fault.Order ∷ fault.Open ∷ fault.Room ∷ fault.Absent ∷ fault.NoStart ∷ fault.Link ∷ fault.Link ∷ fault.Link ∷ fault.Link ∷ fault.Link ∷
     fault.Header ∷ fault.Entry ∷ fault.Target ∷ fault.NewValue ∷ fault.Signer ∷ fault.Full ∷ fault.NoEntry ∷ []
 
-abbrev fault_back : ℕ → Fault
+abbrev pub fault_back : ℕ → Fault
 fault_back n = get_or faults n fault.Length
 
-fault_back_lem : (f : Fault) → fault_back (number_of f) ≡ f
+pub fault_back_lem : (f : Fault) → fault_back (number_of f) ≡ f
 fault_back_lem fault.Length = refl
 fault_back_lem fault.Kind = refl
 fault_back_lem fault.Size = refl
@@ -188,6 +188,24 @@ module _ {A : Type 0} where
       let p : r.place ≡ q.place = cc in
       let f = same_fault r.fault q.fault n in
       λ i. record { fault = f i; place = p i }
+
+-- THE GENERAL VIEWS: the way back from an answer on paper, where there is one from what is looked at
+
+abbrev pub result_back : {A B : Type 0} → (B → A) → Outcome B → Result A Refusal
+result_back back (accepted y) = Ok (back y)
+result_back back (refused n p) = Err (record { fault = fault_back n; place = p })
+
+pub result_back_lem : {A B : Type 0} (look : A → B) (back : B → A) → ((x : A) → back (look x) ≡ x) → (r : Result A Refusal) → result_back back (view_result look r) ≡ r
+result_back_lem look back same (Ok x) = ap Ok (same x)
+result_back_lem look back same (Err r) = λ i. Err (record { fault = fault_back_lem r.fault i; place = r.place })
+
+abbrev pub option_back : {A B : Type 0} → (B → A) → paper_option.Option B → Option A
+option_back back (paper_option.some y) = Some (back y)
+option_back back paper_option.none = None
+
+pub option_back_lem : {A B : Type 0} (look : A → B) (back : B → A) → ((x : A) → back (look x) ≡ x) → (r : Option A) → option_back back (view_option look r) ≡ r
+option_back_lem look back same (Some x) = ap Some (same x)
+option_back_lem look back same None = refl
 
 -- THE GENERAL VIEWS: injective where `look` is
 

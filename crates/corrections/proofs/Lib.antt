@@ -1,4 +1,5 @@
 pub mod front
+pub mod Relent
 pub mod Turns
 pub mod SinglyLaws
 pub mod MixedLaws

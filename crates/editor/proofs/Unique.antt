@@ -3,16 +3,23 @@
 use Prim.Native.Nat.{ℕ}
 use mathlib.Core.Path.{◌≡◌, refl, sym, ◌∙◌}
 use mathlib.Core.List.{List}
-use Rattle.book.proofs.Unique.{undone, same_result}
+use Rattle.book.proofs.Unique.{undone, result_back, result_back_lem}
+use Rattle.format.specs.Answers as answers
 use Rattle.ledger.specs.Formats as formats
 use Rattle.ledger.specs.VersionTwo.{time_in}
 use Rattle.editor.specs.declared.editing.Correction.{Correction}
 use Rattle.editor.specs.Views.{Answer, view_done, asked}
 use Rattle.editor.specs.Promises.{Opened, Edited, Restored}
 
--- T40: an answer on paper fixes the answer, and what an edit asks the correction
+-- T40: the way back from an answer on paper, and from what an edit asks
+abbrev done_back : answers.Done → Answer
+done_back = result_back (λ u. u)
+
+done_back_lem : (r : Answer) → done_back (view_done r) ≡ r
+done_back_lem = result_back_lem (λ u. u) (λ u. u) (λ u. refl)
+
 pub same_done : (r q : Answer) → view_done r ≡ view_done q → r ≡ q
-same_done = same_result (λ u. u) (λ u v e. e)
+same_done = undone view_done done_back done_back_lem
 
 abbrev asked_back : formats.Correction → Correction
 asked_back c = record { word = c.word; value = c.value; operator = c.operator; reason = c.reason; time = time_in c.extra }

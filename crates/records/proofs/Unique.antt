@@ -8,9 +8,11 @@ use lib.ListN.{get_or}
 use lib.Seq.{sets}
 use Rattle.format.specs.Words.{bytes}
 use Rattle.std.proofs.Common.{Option, Some, None, Result, Ok, Err}
+use Rattle.std.proofs.Math.Option as paper
+use Rattle.format.specs.Answers.{Outcome}
 use Rattle.format.specs.Spots as spots
 use Rattle.format.specs.Spots.{legal_value}
-use Rattle.book.proofs.Unique.{one, undone, equal_once, same_result, same_option}
+use Rattle.book.proofs.Unique.{one, undone, equal_once, result_back, result_back_lem, option_back, option_back_lem}
 use Rattle.book.specs.declared.items.Header as items
 use Rattle.book.specs.declared.refusal.Refusal.{Refusal}
 use Rattle.ledger.specs.Formats as formats
@@ -47,28 +49,47 @@ kind_back_lem : (k : SpotKind) → kind_back (view_spot_kind k) ≡ k
 kind_back_lem kind.Sample = refl
 kind_back_lem kind.Bin = refl
 
-abbrev spot_back : spots.Spot → Spot
-spot_back p = record { kind = kind_back p.kind; value = p.value; header = header_back p.header }
+abbrev found_back : spots.Spot → Spot
+found_back p = record { kind = kind_back p.kind; value = p.value; header = header_back p.header }
 
-spot_back_lem : (p : Spot) → spot_back (view_found_spot p) ≡ p
-spot_back_lem p = ap (λ (k : SpotKind). record { kind = k; value = p.value; header = p.header }) (kind_back_lem p.kind)
+found_back_lem : (p : Spot) → found_back (view_found_spot p) ≡ p
+found_back_lem p = ap (λ (k : SpotKind). record { kind = k; value = p.value; header = p.header }) (kind_back_lem p.kind)
+
+abbrev spot_back : paper.Option spots.Spot → Option Spot
+spot_back = option_back found_back
+
+spot_back_lem : (r : Option Spot) → spot_back (view_spot r) ≡ r
+spot_back_lem = option_back_lem view_found_spot found_back found_back_lem
 
 pub same_spot : (r q : Option Spot) → view_spot r ≡ view_spot q → r ≡ q
-same_spot = same_option view_found_spot (undone view_found_spot spot_back spot_back_lem)
+same_spot = undone view_spot spot_back spot_back_lem
 
-abbrev record_back : Summary → Record
-record_back x = record { length = x.length; count = x.count; total = x.total }
+abbrev summary_back : Summary → Record
+summary_back x = record { length = x.length; count = x.count; total = x.total }
+
+abbrev record_back : Outcome Summary → Result Record Refusal
+record_back = result_back summary_back
+
+record_back_lem : (r : Result Record Refusal) → record_back (view_record r) ≡ r
+record_back_lem = result_back_lem summary_of summary_back (λ x. refl)
 
 pub same_record : (r q : Result Record Refusal) → view_record r ≡ view_record q → r ≡ q
-same_record = same_result summary_of (undone summary_of record_back (λ r. refl))
+same_record = undone view_record record_back record_back_lem
 
-same_judgement : (r q : Judged) → judged_of r ≡ judged_of q → r ≡ q
-same_judgement r q e =
-    let s : r.spot ≡ q.spot = same_spot r.spot q.spot (ap (λ (x : judged.Judged). x.spot) e) in
-    λ i. record { «record» = record { length = (e i).length; count = (e i).count; total = (e i).total }; spot = s i }
+abbrev judgement_back : judged.Judged → Judged
+judgement_back x = record { «record» = record { length = x.length; count = x.count; total = x.total }; spot = spot_back x.spot }
+
+judgement_back_lem : (x : Judged) → judgement_back (judged_of x) ≡ x
+judgement_back_lem x = λ i. record { «record» = x.«record»; spot = spot_back_lem x.spot i }
+
+abbrev judged_back : Outcome judged.Judged → Result Judged Refusal
+judged_back = result_back judgement_back
+
+judged_back_lem : (r : Result Judged Refusal) → judged_back (view_judged r) ≡ r
+judged_back_lem = result_back_lem judged_of judgement_back judgement_back_lem
 
 pub same_judged : (r q : Result Judged Refusal) → view_judged r ≡ view_judged q → r ≡ q
-same_judged = same_result judged_of same_judgement
+same_judged = undone view_judged judged_back judged_back_lem
 
 abbrev stamp_back : List ℕ → Option Stamp
 stamp_back [] = None
@@ -89,8 +110,14 @@ plain_back_lem e =
 pub same_plain : (r q : Entry) → as_entry r ≡ as_entry q → r ≡ q
 same_plain = undone as_entry plain_back plain_back_lem
 
+abbrev entry_back : Outcome formats.Entry → Result Entry Refusal
+entry_back = result_back plain_back
+
+entry_back_lem : (r : Result Entry Refusal) → entry_back (view_entry r) ≡ r
+entry_back_lem = result_back_lem as_entry plain_back plain_back_lem
+
 pub same_entry : (r q : Result Entry Refusal) → view_entry r ≡ view_entry q → r ≡ q
-same_entry = same_result as_entry same_plain
+same_entry = undone view_entry entry_back entry_back_lem
 
 -- T39: no second result, function by function; each is over the promise that the function's contract names (specs/Promises.antt). `spot`,
 -- `record`, `judge` and `entry` lend no memory to write

@@ -8,7 +8,7 @@ use Rattle.std.specs.Prelude.{Result, Ok, Err}
 use Rattle.format.specs.Rules as rules
 use Rattle.format.specs.Steps as steps
 use Rattle.format.specs.Steps.{ReaderState, Stepped, moved, stopped}
-use Rattle.book.proofs.Unique.{undone, same_fault}
+use Rattle.book.proofs.Unique.{undone, fault_back, fault_back_lem}
 use Rattle.book.specs.declared.refusal.Fault.{Fault}
 use Rattle.rules.specs.declared.state.Kind.{Kind}
 use Rattle.rules.specs.declared.state.Kind.TheVariants as kind
@@ -81,21 +81,13 @@ state_back_lem r = λ i. record { mode = mode_back_lem r.mode i; key = r.key; ne
 pub same_state : (r q : State) → view_state r ≡ view_state q → r ≡ q
 same_state = undone view_state state_back state_back_lem
 
--- what a turn says fixes its parts
-moved_state : (s t : ReaderState) (n m : ℕ) → moved s n ≡ moved t m → s ≡ t
-moved_state s t n m e = cc
+abbrev step_back : Stepped → Result Moved Fault
+step_back (moved st next) = Ok (record { state = state_back st; next = next })
+step_back (stopped n) = Err (fault_back n)
 
-moved_next : (s t : ReaderState) (n m : ℕ) → moved s n ≡ moved t m → n ≡ m
-moved_next s t n m e = cc
-
-stopped_number : (n m : ℕ) → stopped n ≡ stopped m → n ≡ m
-stopped_number n m e = cc
+step_back_lem : (r : Result Moved Fault) → step_back (view_step r) ≡ r
+step_back_lem (Ok x) = λ i. Ok (record { state = state_back_lem x.state i; next = x.next })
+step_back_lem (Err f) = ap Err (fault_back_lem f)
 
 pub same_step : (r q : Result Moved Fault) → view_step r ≡ view_step q → r ≡ q
-same_step (Ok x) (Ok y) e =
-    let s = same_state x.state y.state (moved_state _ _ _ _ e) in
-    let n = moved_next _ _ _ _ e in
-    λ i. Ok (record { state = s i; next = n i })
-same_step (Ok x) (Err g) e = cc
-same_step (Err f) (Ok y) e = cc
-same_step (Err f) (Err g) e = ap Err (same_fault f g (stopped_number _ _ e))
+same_step = undone view_step step_back step_back_lem
