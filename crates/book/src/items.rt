@@ -18,7 +18,7 @@ pub struct Header<const PREFIX: u16> {
     pub channel: u16,
 }
 
-// A channel whose samples follow. (A const argument is a literal: that each is its class's first word is proved, proofs/FieldLaws.antt.)
+// A channel whose samples follow. (A const argument is a literal: that each is its class's first word is proved, proofs/Headers.antt.)
 pub type Channel = Header<0xC000>;
 
 // A channel whose histogram follows: every channel may have one.
