@@ -112,13 +112,21 @@ pub fn key(card: u16, chip: u16, channel: u16) -> u32
     card as u32 * 2048 + chip as u32 * 128 + channel as u32
 }
 
-// The limits of a Channel, and of a Histogram too. (In the generic impl each would be a call to the proof.)
+// The limits of a Channel, and of a Histogram. (In the generic impl each would be a call to the proof.)
 impl Channel {
     pub const LAST_CARD: u16 = LAST_CARD; // that a Channel may have
 
     pub const LAST_CHIP: u16 = 3; // two bits of a Channel's word
 
     pub const LAST: u16 = 78; // the last channel of a chip
+}
+
+impl Histogram {
+    pub const LAST_CARD: u16 = LAST_CARD; // that a Histogram may have
+
+    pub const LAST_CHIP: u16 = 3; // two bits of a Histogram's word
+
+    pub const LAST: u16 = Channel::LAST; // every channel may have a histogram
 }
 
 impl<const PREFIX: u16> Header<PREFIX> {
@@ -140,14 +148,20 @@ impl<const PREFIX: u16> Header<PREFIX> {
         header_bits(self.card, self.chip, self.channel) | PREFIX
     }
 
-    // The value rules in a frame of the card. Here and in the item below the card has a branch of its own: it costs less than all the tests at once.
+    // The value rules in a frame of the card, by the limits of the prefix's class. Here and in the item below the card has a branch of its own: it
+    // costs less than all the tests at once.
     pub fn valid(self, card: u16) -> bool
         ensures { HeaderValid PREFIX self.entry card result }
     {
         if self.card == card {
-            return (self.card <= Channel::LAST_CARD)
-                & (self.chip <= Channel::LAST_CHIP)
-                & (self.channel <= Channel::LAST);
+            if PREFIX == Class::CHANNEL {
+                return (self.card <= Channel::LAST_CARD)
+                    & (self.chip <= Channel::LAST_CHIP)
+                    & (self.channel <= Channel::LAST);
+            }
+            return (self.card <= Histogram::LAST_CARD)
+                & (self.chip <= Histogram::LAST_CHIP)
+                & (self.channel <= Histogram::LAST);
         }
         false
     }
