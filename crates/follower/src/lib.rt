@@ -36,6 +36,9 @@ impl Follower {
     // The word that starts the count.
     pub const START: u16 = 0x0100;
 
+    // How many sequence numbers there are; after the last comes 0 again.
+    pub const NUMBERS: u16 = 256;
+
     // A follower that has seen nothing.
     pub fn new() -> Self
         ensures { Unstarted result }
@@ -78,11 +81,13 @@ fn unstarted(number: u8) -> Result<Followed, SequenceError>
     })
 }
 
-// A number while another, or this one, is expected: (number - expected) modulo 256 frames were lost, and the number after this one is next.
+// A number while another, or this one, is expected: (number - expected) modulo 256 frames were lost, and the number after this one is next. A u8
+// counts so by itself; the `prove!` ties that to NUMBERS. (In a `const` item it would be evaluated, and nothing proved.)
 #[tactic(auto, using(crate::proofs::LineLaws::counts_by))]
 fn counted(expected: u8, number: u8) -> Followed
     ensures { view (Ok result) ≡ numbered (expecting expected) number }
 {
+    prove!(Follower::NUMBERS == u8::MAX as u16 + 1);
     Followed {
         lost: number.wrapping_sub(expected),
         next: Follower::Expecting(number.wrapping_add(1)),
