@@ -15,6 +15,10 @@ use Rattle.follower.specs.Paper.{state_of, number_of, view}
 pub one : {A B : Type 0} (look : A → B) → ((r q : A) → look r ≡ look q → r ≡ q) → (b : B) (r q : A) → look r ≡ b → look q ≡ b → r ≡ q
 one look injective b r q e f = injective r q (e ∙ sym f)
 
+-- a contract that is an equation of the answer itself, too
+pub equal_once : {A : Type 0} (b r q : A) → r ≡ b → q ≡ b → r ≡ q
+equal_once b r q e f = e ∙ sym f
+
 pub same_state : (r q : Follower) → state_of r ≡ state_of q → r ≡ q
 same_state Idle Idle e = refl
 same_state Idle (Expecting n) e = let z : ◌≡◌ {A = ℕ} 0 1 = cc in absurd (omega arith)

@@ -17,7 +17,11 @@ abbrev pub number_of : SequenceError → ℕ
 number_of NoSequence = 4
 number_of NoStart = 14
 
+-- and its place
+abbrev pub place_of : SequenceError → ℕ
+place_of e = 0
+
 -- what `follow` answers; after a refusal the caller still has the follower that it passed
 abbrev pub view : Result Followed SequenceError → Answer
 view (Ok x) = accepted x.lost (state_of x.next)
-view (Err e) = refused (number_of e) 0
+view (Err e) = refused (number_of e) (place_of e)

@@ -5,7 +5,7 @@
 ghost use Rattle.std.specs.Prelude.{◌≡◌};
 ghost use Rattle.follower.specs.Follow.{idle, expecting, numbered};
 ghost use Rattle.follower.specs.Paper.{view};
-ghost use Rattle.follower.specs.Promises.{Unstarted, FollowedBy};
+ghost use Rattle.follower.specs.Promises.{Unstarted, FollowedBy, ErrorNumbered, ErrorPlaced};
 
 // What the follower knows. It goes in and comes out by value, so on a refusal the caller's own copy stays as it was.
 #[derive(Clone, Copy, Debug, PartialEq, Eq)]
@@ -23,13 +23,29 @@ pub struct Followed {
     pub next: Follower,
 }
 
-// Why a sequence word is refused; document 01's numbers are specs/Paper.antt's `number_of`, and the place is 0.
+// Why a sequence word is refused, by document 01's numbers.
 #[derive(Clone, Copy, Debug, PartialEq, Eq)]
 pub enum SequenceError {
-    // 4: the word is no sequence word.
-    NoSequence,
-    // 14: a sequence number before a start.
-    NoStart,
+    // The word is no sequence word.
+    NoSequence = 4,
+    // A sequence number before a start.
+    NoStart = 14,
+}
+
+impl SequenceError {
+    // Its number in document 01's table.
+    pub fn number(self) -> u32
+        ensures { ErrorNumbered self result }
+    {
+        self as u32
+    }
+
+    // Both refusals of the follower have place 0.
+    pub fn place(self) -> usize
+        ensures { ErrorPlaced self result }
+    {
+        0
+    }
 }
 
 impl Follower {

@@ -10,8 +10,8 @@ use Rattle.follower.specs.declared.Followed.{Followed}
 use Rattle.follower.specs.declared.SequenceError.{SequenceError}
 use Rattle.follower.specs.Follow.{State, idle, expecting, InRange, accepted, refused, after, numbered, follow, Given}
 use Rattle.follower.specs.Sender.{sent, arrivals, account, AllBelow256, answers, losses}
-use Rattle.follower.specs.Paper.{state_of, view}
-use Rattle.follower.specs.Promises.{Unstarted, FollowedBy}
+use Rattle.follower.specs.Paper.{state_of, number_of, place_of, view}
+use Rattle.follower.specs.Promises.{Unstarted, FollowedBy, ErrorNumbered, ErrorPlaced}
 use Rattle.follower.proofs.LineLaws as line
 use Rattle.follower.proofs.LossLaws as loss
 use Rattle.follower.proofs.SenderLaws as sender
@@ -114,3 +114,10 @@ new_once = unique.one state_of unique.same_state idle
 -- and that of `Follower::follow`
 pub follow_once : (self : Follower) (word : ℕ) (r q : Result Followed SequenceError) → FollowedBy self word r → FollowedBy self word q → r ≡ q
 follow_once self word = unique.one view unique.same_answer (follow (state_of self) word)
+
+-- and those of `SequenceError::number` and `SequenceError::place`
+pub number_once : (e : SequenceError) (r q : ℕ) → ErrorNumbered e r → ErrorNumbered e q → r ≡ q
+number_once e = unique.equal_once (number_of e)
+
+pub place_once : (e : SequenceError) (r q : ℕ) → ErrorPlaced e r → ErrorPlaced e q → r ≡ q
+place_once e = unique.equal_once (place_of e)
