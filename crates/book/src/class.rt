@@ -1,7 +1,11 @@
 // The class of a word, by prefixes of varying length, tried shortest first; the page tells it.
 ghost use Rattle.book.specs.Promises.{Classified, RowTold, ClassOf, TextLong, WordsAfter};
 
-use crate::page::{classify_on, page};
+use crate::page::{
+    BIN, CHANNEL, COMMAND_FRAME, CONTINUE_EVENT, DATA_FRAME, END_EVENT, FRAME_END, HISTOGRAM,
+    HIT_COUNT, LAST_CELL, MONITOR_FRAME, NONE, SAMPLE, START_EVENT, TEXT, TIME_BIN, classify_on,
+    page,
+};
 
 // A class of document 01's word book, numbered by its row there, behind them those of document 02; 0 is that of a word that no row has.
 #[derive(Clone, Copy, Debug, PartialEq, Eq)]
@@ -70,23 +74,23 @@ impl TryFrom<u32> for Class {
     ghost try_from_gives = { ClassOf };
 
     fn try_from(row: u32) -> Result<Class, NoClass> {
-        match row {
-            0 => Ok(Class::Unassigned),
-            1 => Ok(Class::Channel),
-            2 => Ok(Class::Histogram),
-            3 => Ok(Class::HitCount),
-            4 => Ok(Class::Sample),
-            5 => Ok(Class::Bin),
-            6 => Ok(Class::LastCell),
-            7 => Ok(Class::TimeBin),
-            8 => Ok(Class::DataFrame),
-            9 => Ok(Class::MonitorFrame),
-            10 => Ok(Class::CommandFrame),
-            11 => Ok(Class::Text),
-            12 => Ok(Class::StartEvent),
-            13 => Ok(Class::EndEvent),
-            14 => Ok(Class::FrameEnd),
-            15 => Ok(Class::ContinueEvent),
+        match u8::try_from(row) {
+            Ok(NONE) => Ok(Class::Unassigned),
+            Ok(CHANNEL) => Ok(Class::Channel),
+            Ok(HISTOGRAM) => Ok(Class::Histogram),
+            Ok(HIT_COUNT) => Ok(Class::HitCount),
+            Ok(SAMPLE) => Ok(Class::Sample),
+            Ok(BIN) => Ok(Class::Bin),
+            Ok(LAST_CELL) => Ok(Class::LastCell),
+            Ok(TIME_BIN) => Ok(Class::TimeBin),
+            Ok(DATA_FRAME) => Ok(Class::DataFrame),
+            Ok(MONITOR_FRAME) => Ok(Class::MonitorFrame),
+            Ok(COMMAND_FRAME) => Ok(Class::CommandFrame),
+            Ok(TEXT) => Ok(Class::Text),
+            Ok(START_EVENT) => Ok(Class::StartEvent),
+            Ok(END_EVENT) => Ok(Class::EndEvent),
+            Ok(FRAME_END) => Ok(Class::FrameEnd),
+            Ok(CONTINUE_EVENT) => Ok(Class::ContinueEvent),
             _ => Err(NoClass),
         }
     }

@@ -8,38 +8,38 @@ ghost use Rattle.book.specs.Promises.{PageTold, ClassifiedOn};
 
 use crate::class::Class;
 
-// What a row of the page holds: the number of the class's row in the documents' table, in a byte.
-const NONE: u8 = Class::Unassigned as u8;
+// What a row of the page holds: the number of the class's row in the documents' table, in a byte. `Class::try_from` tells a class by these too.
+pub(crate) const NONE: u8 = Class::Unassigned as u8;
 
-const CHANNEL: u8 = Class::Channel as u8;
+pub(crate) const CHANNEL: u8 = Class::Channel as u8;
 
-const HISTOGRAM: u8 = Class::Histogram as u8;
+pub(crate) const HISTOGRAM: u8 = Class::Histogram as u8;
 
-const HIT_COUNT: u8 = Class::HitCount as u8;
+pub(crate) const HIT_COUNT: u8 = Class::HitCount as u8;
 
-const SAMPLE: u8 = Class::Sample as u8;
+pub(crate) const SAMPLE: u8 = Class::Sample as u8;
 
-const BIN: u8 = Class::Bin as u8;
+pub(crate) const BIN: u8 = Class::Bin as u8;
 
-const LAST_CELL: u8 = Class::LastCell as u8;
+pub(crate) const LAST_CELL: u8 = Class::LastCell as u8;
 
-const TIME_BIN: u8 = Class::TimeBin as u8;
+pub(crate) const TIME_BIN: u8 = Class::TimeBin as u8;
 
-const DATA_FRAME: u8 = Class::DataFrame as u8;
+pub(crate) const DATA_FRAME: u8 = Class::DataFrame as u8;
 
-const MONITOR_FRAME: u8 = Class::MonitorFrame as u8;
+pub(crate) const MONITOR_FRAME: u8 = Class::MonitorFrame as u8;
 
-const COMMAND_FRAME: u8 = Class::CommandFrame as u8;
+pub(crate) const COMMAND_FRAME: u8 = Class::CommandFrame as u8;
 
-const TEXT: u8 = Class::Text as u8;
+pub(crate) const TEXT: u8 = Class::Text as u8;
 
-const START_EVENT: u8 = Class::StartEvent as u8;
+pub(crate) const START_EVENT: u8 = Class::StartEvent as u8;
 
-const END_EVENT: u8 = Class::EndEvent as u8;
+pub(crate) const END_EVENT: u8 = Class::EndEvent as u8;
 
-const FRAME_END: u8 = Class::FrameEnd as u8;
+pub(crate) const FRAME_END: u8 = Class::FrameEnd as u8;
 
-const CONTINUE_EVENT: u8 = Class::ContinueEvent as u8;
+pub(crate) const CONTINUE_EVENT: u8 = Class::ContinueEvent as u8;
 
 // Or this, which names no class: the low byte decides.
 const LOW_BYTE: u8 = 255;

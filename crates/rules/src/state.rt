@@ -9,6 +9,13 @@ pub enum Kind {
     Command = 3,
 }
 
+// The numbers, as patterns.
+const DATA: u16 = Kind::Data as u16;
+
+const MONITOR: u16 = Kind::Monitor as u16;
+
+const COMMAND: u16 = Kind::Command as u16;
+
 // A number that is no kind's.
 #[derive(Clone, Copy, Debug, PartialEq, Eq)]
 pub struct NoKind;
@@ -20,9 +27,9 @@ impl TryFrom<u16> for Kind {
 
     fn try_from(number: u16) -> Result<Kind, NoKind> {
         match number {
-            1 => Ok(Kind::Data),
-            2 => Ok(Kind::Monitor),
-            3 => Ok(Kind::Command),
+            DATA => Ok(Kind::Data),
+            MONITOR => Ok(Kind::Monitor),
+            COMMAND => Ok(Kind::Command),
             _ => Err(NoKind),
         }
     }
