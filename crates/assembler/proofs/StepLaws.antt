@@ -8,12 +8,15 @@ use mathlib.Core.Option.{Option, none, some}
 use lib.Dec.{ltb, eqb}
 use lib.ListN.{length}
 use borrow.Author.Tests.{eq-eqb, ne_eqb, ltb-true}
+use Rattle.std.specs.Prelude.{Err}
 use Rattle.follower.specs.Follow as follower
 use Rattle.follower.specs.Paper.{number_of}
 use Rattle.follower.specs.declared.SequenceError.{SequenceError}
 use Rattle.follower.specs.declared.SequenceError.TheVariants.{NoSequence, NoStart}
 use Rattle.book.specs.Refusals as refusals
 use Rattle.book.specs.Refusals.{fault_of}
+use Rattle.book.specs.declared.refusal.Fault.{Fault}
+use Rattle.book.specs.declared.refusal.Refusal.{Refusal}
 use denote.Enum.Bare.{sameb}
 use Rattle.rules.specs.contracts.state.Kind.{the_type}
 use Rattle.rules.specs.declared.state.Kind.{Kind}
@@ -27,6 +30,7 @@ use Rattle.runs.specs.Assembly.{Open, Assembler, is_data, Taken, take}
 use Rattle.runs.specs.Marked.{continues_at, rises_by, item_bytes, size_by, goes_on_by, linked_by, sized_by, begun_by, open_by, linking_by, take_by}
 use Rattle.runs.proofs.front.Runs.{take_by_marks}
 use Rattle.runs.proofs.marks.TakeByLaws.{linked_sized}
+use Rattle.assembler.specs.Views.{view_followed}
 
 -- ---- its size
 
@@ -135,10 +139,17 @@ same_number : (e : SequenceError) → refusals.number_of (fault_of e) ≡ number
 same_number NoSequence = refl
 same_number NoStart = refl
 
-pub follow_refused : (a : Assembler) (s : List ℕ) (v : Overview) (o : follower.Answer) (e : SequenceError) → follower.refused (number_of e) 0 ≡ o
-    → refused (refusals.number_of (fault_of e)) 0 ≡ linking_by a s v o
+pub fault_told : (e : SequenceError) (f : Fault) (r : Refusal) (o : follower.Answer) → f ≡ fault_of e → r ≡ record { fault = f; place = 0 }
+    → follower.refused (number_of e) 0 ≡ o → view_followed (Err r) ≡ o
+fault_told e f r o g h t =
+    ap (λ (r : Refusal). view_followed (Err r)) h
+    ∙ ap (λ (f : Fault). follower.refused (refusals.number_of f) 0) g
+    ∙ ap (λ (n : ℕ). follower.refused n 0) (same_number e)
+    ∙ t
+
+pub follow_refused : (a : Assembler) (s : List ℕ) (v : Overview) (o : follower.Answer) (n p : ℕ) → follower.refused n p ≡ o → refused n p ≡ linking_by a s v o
 unfolding linking_by
-follow_refused a s v o e f = ap (λ (n : ℕ). refused n 0) (same_number e) ∙ ap (linking_by a s v) f
+follow_refused a s v o n p f = ap (linking_by a s v) f
 
 pub read_refused : (a : Assembler) (s : List ℕ) → Bytes s → (n p : ℕ) → refused n p ≡ read_of s → refused n p ≡ take a s
 unfolding take_by

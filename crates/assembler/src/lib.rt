@@ -4,11 +4,11 @@
 #![tactic(auto)]
 
 ghost use Rattle.std.specs.Prelude.{◌≡◌};
-ghost use Rattle.follower.specs.Follow.{accepted};
+ghost use Rattle.follower.specs.Follow.{accepted, follow};
 ghost use Rattle.follower.specs.Paper.{state_of};
 ghost use Rattle.frame.specs.Views.{view_frame};
 ghost use Rattle.runs.specs.Marked.{linking_by};
-ghost use Rattle.assembler.specs.Views.{view_assembler, view_taken};
+ghost use Rattle.assembler.specs.Views.{view_assembler, view_followed, view_taken};
 ghost use Rattle.assembler.specs.Promises.{Unused, GivenUp, TakenAs};
 
 use crate::links::linked;
@@ -85,12 +85,25 @@ impl Assembler {
         ensures { TakenAs self frame.now result }
     {
         let f = read(frame)?;
-        let followed = self.follower.follow(f.sequence)?;
+        let followed = self.followed(f.sequence)?;
         let part = Part {
             bytes: frame,
             frame: f,
         };
         self.link(part, followed)
+    }
+
+    // The frame's sequence word is followed. The follower's fault is named apart, so that a wrong number is refused at what it means.
+    fn followed(self, sequence: u16) -> Result<Followed, Refusal>
+        ensures { view_followed result ≡ follow (state_of self.follower) sequence }
+    {
+        match self.follower.follow(sequence) {
+            Ok(followed) => Ok(followed),
+            Err(e) => {
+                let fault = Fault::from(e);
+                Err(fault.into())
+            }
+        }
     }
 
     // The frame links to what is open, or does not.

@@ -1,8 +1,9 @@
 // Many corrections in one call (document 02, request 2): a lent list of them, applied in order by the single edit, up to the first that is refused.
 #![tactic(auto)]
 
-ghost use Rattle.std.specs.Prelude.{◌≡◌, map};
-ghost use Rattle.editor.specs.Views.{asked};
+ghost use Rattle.std.specs.Prelude.{◌≡◌, map, Err};
+ghost use Rattle.editor.specs.Views.{asked, view_done};
+ghost use Rattle.corrections.specs.Lists.{at_position};
 ghost use Rattle.corrections.specs.Views.{view_corrected};
 ghost use Rattle.corrections.specs.Promises.{CorrectedAll};
 
@@ -17,9 +18,9 @@ pub struct Stopped {
 }
 
 impl Stopped {
-    // By the refusal of the correction at a position.
+    // By the refusal of the correction at a position: what that edit answers to the list.
     fn at(position: usize, refusal: Refusal) -> Stopped
-        ensures { result ≡ record { position = position; refusal = refusal } }
+        ensures { view_corrected (Err result) ≡ at_position position (view_done (Err refusal)) }
     {
         Stopped { position, refusal }
     }

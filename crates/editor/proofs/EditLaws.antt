@@ -42,7 +42,7 @@ use Rattle.editor.specs.Promises.{Edited}
 use Rattle.editor.specs.Writes.{Known, Holds, Editable}
 use Rattle.editor.proofs.Orders.{first_refuses, first_passes, first_last}
 use Rattle.format.proofs.items.StoringLaws.{part_whole}
-use Rattle.editor.proofs.KnownLaws.{frame_long, sum, inside, few, standing}
+use Rattle.editor.proofs.KnownLaws.{frame_long, sum, inside, few, standing, short}
 
 -- ---- lengths and count of an accepted record of version 2
 pub sum_two : (b : List ℕ) (x : Summary) → Known version_two b x → x.total ≡ 16 + x.length + 24 * x.count
@@ -51,6 +51,9 @@ sum_two b x k = sum version_two b x k
 
 pub few_two : (b : List ℕ) (x : Summary) → Known version_two b x → x.count ≤ 512
 few_two b x k = few version_two b x k (format_lawful v2)
+
+pub total_fits : (b : List ℕ) (x : Summary) → Known version_two b x → Bytes b → x.total < 65536
+total_fits b x k y = omega (arith, sum_two b x k, few_two b x k, short version_two b x k y)
 
 -- ---- tests
 

@@ -95,7 +95,7 @@ fn edit_value(
     kind: SpotKind,
     value: u32,
 ) -> Result<(), Refusal>
-    requires { Known version_two buf.old (summary_of x) × Holds buf.old c.word (view_spot_kind kind) value }
+    requires { Known version_two buf.old (summary_of x) × Holds buf.old c.word (view_spot_kind kind) value × (x.total < 65536) }
     ensures { Edited buf.old (asked c) (view_done result) buf.new }
 {
     edit_tests(c, x, kind, value, buf.len())?;

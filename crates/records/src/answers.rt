@@ -31,6 +31,13 @@ pub enum SpotKind {
     Bin = 2,
 }
 
+// The same numbers as patterns, so that each is written once.
+impl SpotKind {
+    const SAMPLE: u16 = SpotKind::Sample as u16;
+
+    const BIN: u16 = SpotKind::Bin as u16;
+}
+
 // A number that is no kind's.
 #[derive(Clone, Copy, Debug, PartialEq, Eq)]
 pub struct NoKind;
@@ -42,8 +49,8 @@ impl TryFrom<u16> for SpotKind {
 
     fn try_from(number: u16) -> Result<SpotKind, NoKind> {
         match number {
-            1 => Ok(SpotKind::Sample),
-            2 => Ok(SpotKind::Bin),
+            SpotKind::SAMPLE => Ok(SpotKind::Sample),
+            SpotKind::BIN => Ok(SpotKind::Bin),
             _ => Err(NoKind),
         }
     }

@@ -17,7 +17,7 @@ returns-in_err-f c =
 pub returns-in_err-followed : goal.returns-in_err-followed
 returns-in_err-followed c =
     let p = err_from_is_err_and c.from_residual-in_err-followed.result c.from_residual-in_err-followed.ensures.1 in
-    ap view_taken p.1 ∙ ap refusal p.2 ∙ read_accepted _ _ (λ i. (c.type_inv.frame i).fits) _ _ c.in_ok-f.ensures (follow_refused _ _ _ _ _ c.in_err-followed.ensures)
+    ap view_taken p.1 ∙ ap refusal p.2 ∙ read_accepted _ _ (λ i. (c.type_inv.frame i).fits) _ _ c.in_ok-f.ensures (follow_refused _ _ _ _ _ _ c.in_err-followed.ensures)
 
 pub invariant_of-part : goal.invariant_of-part
 invariant_of-part c = record { reach = marks_reach _ (λ i. (c.type_inv.frame i).fits) _ (sym c.in_ok-f.ensures) }

@@ -9,7 +9,7 @@ use Rattle.book.specs.declared.items.Item.{Item}
 use Rattle.records.specs.Views.{view_header, view_spot}
 use Rattle.records.proofs.Scanning.{other_spot}
 use Rattle.editor.proofs.KnownLaws.{inside}
-use Rattle.editor.proofs.EditLaws.{sum_two, not_standing, other_item, item_holds, no_target, edited_refused}
+use Rattle.editor.proofs.EditLaws.{sum_two, not_standing, other_item, item_holds, no_target, edited_refused, total_fits}
 use Rattle.editor.proofs.editing.edit_item.Goals as goal
 
 pub slice_bounds-item_at-end : goal.slice_bounds-item_at-end
@@ -28,11 +28,11 @@ returns-in_default-item_at c =
 
 pub edit_value-requires : goal.edit_value-requires
 edit_value-requires c =
-    (c.requires.0, item_holds _ _ c.requires.0 (λ i. (c.slice_known-1.given i).fits) _ _ _ _ (sym (ap view_spot c.in-Some.is) ∙ c.requires.1) c.in-Some-item_at.ensures _ _ (ap (λ (z : Item). spot_of (view_header c.in-Some._spot.header) (view_item z)) (sym c.in-Sample.is)))
+    (c.requires.0, item_holds _ _ c.requires.0 (λ i. (c.slice_known-1.given i).fits) _ _ _ _ (sym (ap view_spot c.in-Some.is) ∙ c.requires.1) c.in-Some-item_at.ensures _ _ (ap (λ (z : Item). spot_of (view_header c.in-Some._spot.header) (view_item z)) (sym c.in-Sample.is)), total_fits _ _ c.requires.0 (λ i. (c.slice_known-1.given i).fits))
 
 pub edit_value-requires-in-Bin : goal.edit_value-requires-in-Bin
 edit_value-requires-in-Bin c =
-    (c.requires.0, item_holds _ _ c.requires.0 (λ i. (c.slice_known-1.given i).fits) _ _ _ _ (sym (ap view_spot c.in-Some.is) ∙ c.requires.1) c.in-Some-item_at.ensures _ _ (ap (λ (z : Item). spot_of (view_header c.in-Some._spot.header) (view_item z)) (sym c.in-Bin.is)))
+    (c.requires.0, item_holds _ _ c.requires.0 (λ i. (c.slice_known-1.given i).fits) _ _ _ _ (sym (ap view_spot c.in-Some.is) ∙ c.requires.1) c.in-Some-item_at.ensures _ _ (ap (λ (z : Item). spot_of (view_header c.in-Some._spot.header) (view_item z)) (sym c.in-Bin.is)), total_fits _ _ c.requires.0 (λ i. (c.slice_known-1.given i).fits))
 
 pub returns-in_default-item : goal.returns-in_default-item
 returns-in_default-item c =

@@ -1,15 +1,8 @@
 -- `editor::editing::edit_value` meets its contract.
 -- Assumes nothing.
-use native.Mathlib.Omega.{arith}
 use Rattle.std.proofs.lemmas.Result.{err_from_is_err_and}
-use Rattle.editor.proofs.KnownLaws.{short}
-use Rattle.editor.proofs.EditLaws.{sum_two, few_two, tests_left, edited_refused, edited_written}
+use Rattle.editor.proofs.EditLaws.{tests_left, edited_refused, edited_written}
 use Rattle.editor.proofs.editing.edit_value.Goals as goal
-
-pub edit_tests-requires : goal.edit_tests-requires
-edit_tests-requires c =
-    let k = c.requires.0 in
-    omega (arith, sum_two _ _ k, few_two _ _ k, short _ _ _ k (λ i. (c.type_inv.buf i).fits))
 
 pub returns-in_err-edit_tests : goal.returns-in_err-edit_tests
 returns-in_err-edit_tests c =
