@@ -1,28 +1,17 @@
 // A case's head: 72 bytes, numbers low byte first; and what an op takes of it.
-ghost use Rattle.std.specs.Prelude.{◌≤◌, ◌<◌, IfOk};
+ghost use Rattle.std.specs.Prelude.{◌+◌, ◌*◌, ◌≡◌, ◌≤◌, ◌<◌, length, IfOk};
+ghost use Rattle.agree.specs.Cases.{NumberAt};
 
 use book::class::NoClass;
-use std::alloc::{AllocError, AllocFailed};
+use book::words::long;
+use std::io::Read;
 use std::num::TryFromIntError;
 
 // Why a case has no line of its own.
-#[derive(Debug, Drop)]
+#[derive(Clone, Copy, Debug, PartialEq, Eq)]
 pub(crate) enum Fault {
     // No listed op, arguments that the op does not have, or input that ends inside the case.
     BadCase,
-    OutOfMemory,
-}
-
-impl From<AllocError> for Fault {
-    fn from(_e: AllocError) -> Fault {
-        Fault::OutOfMemory
-    }
-}
-
-impl<T: Drop> From<AllocFailed<T>> for Fault {
-    fn from(_e: AllocFailed<T>) -> Fault {
-        Fault::OutOfMemory
-    }
 }
 
 // A number that is no class's.
@@ -50,6 +39,8 @@ pub(crate) enum Payloads {
 // The head, taken apart.
 #[derive(Clone, Copy, Debug)]
 pub(crate) struct Case {
+    // Whether the head came whole.
+    whole: bool,
     // The op. The seven bytes after it belong to this number, so that it is a listed op only where they are zero.
     pub op: u64,
     args: [u64; 7],
@@ -57,13 +48,44 @@ pub(crate) struct Case {
     pub q_length: usize,
 }
 
-// The i-th number of 8 bytes.
-fn number(head: &[u8; 72], i: usize) -> u64
-    requires { i < 9 }
+// The number of 8 bytes that begins with the two numbers of 4 bytes.
+pub(crate) fn number(low: u32, high: u32) -> u64
+    ensures { result ≡ low + 4294967296 * high }
 {
-    let mut bytes = [0; 8];
-    bytes.copy_from_slice(&head[8 * i..8 * i + 8]);
-    u64::from_le_bytes(bytes)
+    low as u64 + 4294967296 * (high as u64)
+}
+
+// The i-th number of 8 bytes.
+fn at(head: &[u8], i: usize) -> u64
+    requires { i < 9 }
+    ensures { NumberAt head.now i result }
+{
+    let low = long(head, 4 * i);
+    let high = long(head, 4 * i + 2);
+    number(low, high)
+}
+
+// Reads once, and asks for all that is lent: 0 bytes at the end of the input, or where the read fails. An interrupted one is not tried again.
+fn read_some(input: &mut impl Read, buf: &mut [u8]) -> usize
+    ensures { result ≤ length buf.new }
+{
+    input.read(buf).unwrap_or(0)
+}
+
+// Reads until the slice is full or the input ends, and tells how many bytes came. It is no `read_to_end`, which grows a `Vec`, asks for 8,192 bytes
+// at a time and tries an interrupted read again.
+pub(crate) fn read_full(input: &mut impl Read, buf: &mut [u8]) -> usize
+    ensures { result ≤ length buf.new }
+{
+    let mut done = 0;
+    while done < buf.len() {
+        let n = read_some(input, &mut buf[done..]);
+        if n == 0 {
+            break;
+        }
+        done += n;
+    }
+    done
 }
 
 impl Case {
@@ -73,27 +95,29 @@ impl Case {
     // The most bytes of a payload.
     pub(crate) const MOST: usize = 24576;
 
-    pub(crate) fn of_head(head: &[u8; 72]) -> Case {
-        let lengths = number(head, 8);
+    // The case of a head of which so many bytes came; the others are zero.
+    pub(crate) fn of_head(head: &[u8; 72], got: usize) -> Case {
         Case {
-            op: number(head, 0),
+            whole: got == Case::HEAD,
+            op: at(head, 0),
             args: [
-                number(head, 1),
-                number(head, 2),
-                number(head, 3),
-                number(head, 4),
-                number(head, 5),
-                number(head, 6),
-                number(head, 7),
+                at(head, 1),
+                at(head, 2),
+                at(head, 3),
+                at(head, 4),
+                at(head, 5),
+                at(head, 6),
+                at(head, 7),
             ],
-            p_length: (lengths & 0xFFFF_FFFF) as usize,
-            q_length: (lengths >> 32) as usize,
+            p_length: long(head, 32) as usize,
+            q_length: long(head, 34) as usize,
         }
     }
 
-    // The arguments of an op that takes the first N, and these payloads: the others are zero.
+    // The arguments of an op that takes the first N, and these payloads: the others are zero, and the head is whole.
     pub(crate) fn args<const N: usize>(&self, payloads: Payloads) -> Result<[u64; N], Fault> {
-        let only = self.args.iter().skip(N).all(|a| *a == 0)
+        let only = self.whole
+            && self.args.iter().skip(N).all(|a| *a == 0)
             && (payloads != Payloads::None || self.p_length == 0)
             && (payloads == Payloads::PAndQ || self.q_length == 0);
         match self.args.first_chunk() {

@@ -17,92 +17,73 @@ mod ops_questions;
 mod ops_record;
 mod ops_runs;
 mod ops_writer;
+mod output;
 mod reply;
 mod sums;
 
-ghost use Rattle.std.specs.Prelude.{◌≤◌};
-
-use cases::{Case, Fault};
+use cases::{Case, Fault, read_full};
+use output::Output;
 use reply::Reply;
-use std::alloc::{AllocError, Global};
-use std::io;
-use std::io::{BufWriter, Read, Write};
+use std::fmt::Write;
+use std::io::Read;
 use std::ops::ControlFlow;
 
-// Reads so many bytes, or as many as come: where a read fails, the input is taken to end. Room for one more is made before, so that no room is
-// missing while it is read.
-fn read_up_to(alloc: Global, input: &mut impl Read, n: usize) -> Result<Vec<u8>, AllocError>
-    requires { n ≤ 24576 }
-{
-    let mut bytes = Vec::with_capacity(alloc, n + 1)?;
-    let _ = input.by_ref().take(n as u64).read_to_end(&mut bytes);
-    Ok(bytes)
+// Reads a payload, and tells whether it came whole.
+fn fill(input: &mut impl Read, payload: &mut [u8]) -> bool {
+    read_full(input, payload) == payload.len()
 }
 
-// Reads a payload of so many bytes.
-fn payload(alloc: Global, input: &mut impl Read, n: usize) -> Result<Vec<u8>, Fault> {
-    if Case::MOST < n {
-        return Err(Fault::BadCase);
-    }
-    let bytes = read_up_to(alloc, input, n)?;
-    if bytes.len() < n {
-        return Err(Fault::BadCase);
-    }
-    Ok(bytes)
-}
-
-// Reads the payloads of a case and answers it.
-fn answer(alloc: Global, input: &mut impl Read, head: &[u8]) -> Result<Reply, Fault> {
-    let Some(head) = head.as_array() else {
-        return Err(Fault::BadCase);
-    };
-    let case = Case::of_head(head);
-    let mut p = payload(alloc, input, case.p_length)?;
-    let mut q = payload(alloc, input, case.q_length)?;
-    ops::answer(alloc, &case, p.as_mut_slice(), q.as_mut_slice())
-}
-
-// Reads one case and writes its line, unless the input ends here. A bad case is the last.
-fn turn(
-    alloc: Global,
+// Reads the payloads of a case, each into the first bytes of its buffer, and answers it. No byte is read where either is too long, and Q is read
+// also where the input ends in P.
+fn answer<'a>(
     input: &mut impl Read,
-    output: &mut impl Write,
-) -> io::Result<ControlFlow<()>> {
-    let head = read_up_to(alloc, input, Case::HEAD)?;
-    if head.is_empty() {
-        return Ok(ControlFlow::Break(()));
+    case: &Case,
+    p: &'a mut [u8],
+    q: &mut [u8],
+) -> Result<Reply<'a>, Fault> {
+    let p = p.get_mut(..case.p_length).ok_or(Fault::BadCase)?;
+    let q = q.get_mut(..case.q_length).ok_or(Fault::BadCase)?;
+    if fill(input, p) & fill(input, q) {
+        return ops::answer(case, p, q);
     }
-    let reply = match answer(alloc, input, head.as_slice()) {
+    Err(Fault::BadCase)
+}
+
+// Reads one case and adds its line to what waits, unless the input ends here. A bad case is the last.
+fn turn(input: &mut impl Read, p: &mut [u8], q: &mut [u8], output: &mut Output) -> ControlFlow<()> {
+    let mut head = [0; Case::HEAD];
+    let got = read_full(input, &mut head);
+    if got == 0 {
+        return ControlFlow::Break(());
+    }
+    let case = Case::of_head(&head, got);
+    let reply = match answer(input, &case, p, q) {
         Ok(reply) => reply,
         Err(Fault::BadCase) => Reply::bad_case(),
-        Err(Fault::OutOfMemory) => return Err(AllocError.into()),
     };
-    writeln!(output, "{reply}")?;
+    let _ = writeln!(output, "{reply}");
     if reply.is_bad_case() {
-        return Ok(ControlFlow::Break(()));
+        return ControlFlow::Break(());
     }
-    Ok(ControlFlow::Continue(()))
+    ControlFlow::Continue(())
 }
 
 // All cases, up to the end of the input or the first that is none. A proved loop has to end, and nothing says that the input does: so this one
 // counts its turns, up to a number that no run uses up.
-fn run(alloc: Global, input: &mut impl Read, output: &mut impl Write) -> io::Result<()> {
+fn run(rt: &impl Print, input: &mut impl Read, p: &mut [u8], q: &mut [u8], output: &mut Output) {
     for _ in 0..u64::MAX {
-        if turn(alloc, input, output)?.is_break() {
+        output.write_half(rt);
+        if turn(input, p, q, output).is_break() {
             break;
         }
     }
-    output.flush()
+    output.write(rt);
 }
 
-// From the program's input to its output.
-fn compare(rt: &HostRuntime) -> io::Result<()> {
-    let alloc = rt.alloc();
-    let mut output = BufWriter::new(alloc, io::writer(rt))?;
-    run(alloc, &mut rt.stdin(), &mut output)
-}
-
-// Where the output cannot be written, or memory is short, the lines end: the one who compares them sees that, and the program ends with status 0.
+// The arrays for the payloads are as long as a payload may be. They are made here once and lent, as the output is: no heap is asked for.
 fn main(rt: HostRuntime) {
-    let _ = compare(&rt);
+    let mut p = [0; Case::MOST];
+    let mut q = [0; Case::MOST];
+    let mut output = Output::new();
+    run(&rt, &mut rt.stdin(), &mut p, &mut q, &mut output);
 }

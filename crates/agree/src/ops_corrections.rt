@@ -1,11 +1,17 @@
 // The op over a list of corrections.
-use crate::cases::{Case, Fault, Payloads};
+ghost use Rattle.std.specs.Prelude.{◌≤◌, map, take};
+ghost use Rattle.editor.specs.Views.{asked};
+ghost use Rattle.exports.specs.Promises.{EditedAll};
+
+use crate::cases::{Case, Fault, Payloads, number};
 use crate::reply::{Answer, NotOk, Refused, Told};
 use book::words::long;
 use editor::editing::Correction;
 use exports::answers::PlaneStopped;
 use exports::recording::plane_edit_all;
-use std::alloc::Global;
+
+// How many corrections a payload can hold.
+const MOST: usize = 1024;
 
 // The correction of 24 bytes.
 fn correction(bytes: &[u8; 24]) -> Correction {
@@ -14,8 +20,16 @@ fn correction(bytes: &[u8; 24]) -> Correction {
         value: long(bytes, 2),
         operator: long(bytes, 4),
         reason: long(bytes, 6),
-        time: long(bytes, 8) as u64 + ((long(bytes, 10) as u64) << 32),
+        time: number(long(bytes, 8), long(bytes, 10)),
     }
+}
+
+// Lends the first n corrections.
+fn edit_first(p: &mut [u8], list: &[Correction; MOST], n: usize) -> PlaneStopped
+    requires { n ≤ 1024 }
+    ensures { EditedAll p.old (map asked (take n list.now)) result p.new }
+{
+    plane_edit_all(p, &list[..n])
 }
 
 // What a list was answered: where it stopped, the refusal and the position.
@@ -31,17 +45,16 @@ fn stopped(x: PlaneStopped) -> Answer {
 }
 
 // Op 22: makes the corrections of q in p, in order. The line of a case whose last correction is not whole has the buffer behind it all the same.
-pub(crate) fn edit_all(
-    alloc: Global,
-    case: &Case,
-    p: &mut [u8],
-    q: &[u8],
-) -> Result<Answer, Fault> {
+// The list is an array of as many as there can be, and no `Vec`: no heap is asked for.
+pub(crate) fn edit_all(case: &Case, p: &mut [u8], q: &[u8]) -> Result<Answer, Fault> {
     case.args::<0>(Payloads::PAndQ)?;
     let (corrections, rest) = q.as_chunks::<24>();
-    if !rest.is_empty() {
+    if MOST < corrections.len() || !rest.is_empty() {
         return Ok(Err(NotOk::BadCase));
     }
-    let list: Vec<Correction> = corrections.iter().map(correction).collect(alloc)?;
-    Ok(stopped(plane_edit_all(p, list.as_slice())))
+    let mut list = [correction(&[0; 24]); MOST];
+    for (place, bytes) in list.iter_mut().zip(corrections) {
+        *place = correction(bytes);
+    }
+    Ok(stopped(edit_first(p, &list, corrections.len())))
 }

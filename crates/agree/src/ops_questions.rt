@@ -5,7 +5,6 @@ use exports::answers::PlaneWord;
 use exports::asking::{
     plane_bin_word, plane_counts, plane_event, plane_sample_word, plane_samples,
 };
-use std::alloc::Global;
 
 // Op 4: event a0 of the frame p: type, timestamp, number, size, index.
 pub(crate) fn event(case: &Case, p: &[u8]) -> Result<Answer, Fault> {
@@ -14,22 +13,27 @@ pub(crate) fn event(case: &Case, p: &[u8]) -> Result<Answer, Fault> {
     Ok(answer(x.refused, x.place, Told::Event(x)))
 }
 
-// Op 5: samples of event a0, chip a1, channel a2 of the frame p into a3 words, each a4 before.
-pub(crate) fn samples(alloc: Global, case: &Case, p: &[u8]) -> Result<Reply, Fault> {
+// Op 5: samples of event a0, chip a1, channel a2 of the frame p into a3 words, each a4 before. They are a part of an array, here as in op 6, and no
+// `Vec`: no heap is asked for.
+pub(crate) fn samples(case: &Case, p: &[u8]) -> Result<Reply<'static>, Fault> {
     let [event, chip, channel, n, before] = case.args::<5>(Payloads::P)?;
     let (chip, channel) = (u16::try_from(chip)?, u16::try_from(channel)?);
-    let mut out = vec![in alloc; u16::try_from(before)?; up_to(600, n)? as usize]?;
-    let x = plane_samples(p, event as usize, chip, channel, out.as_mut_slice());
-    Ok(Reply::lending(answer(x.refused, x.place, Told::Nothing), out.as_slice()))
+    let n = up_to(600, n)? as usize;
+    let mut array = [u16::try_from(before)?; 600];
+    let out = &mut array[..n];
+    let x = plane_samples(p, event as usize, chip, channel, out);
+    Ok(Reply::lending(answer(x.refused, x.place, Told::Nothing), out))
 }
 
 // Op 6: counts of chip a0, channel a1 of the frame p into a2 words of 32 bits, each a3 before.
-pub(crate) fn counts(alloc: Global, case: &Case, p: &[u8]) -> Result<Reply, Fault> {
+pub(crate) fn counts(case: &Case, p: &[u8]) -> Result<Reply<'static>, Fault> {
     let [chip, channel, n, before] = case.args::<4>(Payloads::P)?;
     let (chip, channel) = (u16::try_from(chip)?, u16::try_from(channel)?);
-    let mut out = vec![in alloc; u32::try_from(before)?; up_to(4200, n)? as usize]?;
-    let x = plane_counts(p, chip, channel, out.as_mut_slice());
-    Ok(Reply::lending(answer(x.refused, x.place, Told::Nothing), out.as_slice()))
+    let n = up_to(4200, n)? as usize;
+    let mut array = [u32::try_from(before)?; 4200];
+    let out = &mut array[..n];
+    let x = plane_counts(p, chip, channel, out);
+    Ok(Reply::lending(answer(x.refused, x.place, Told::Nothing), out))
 }
 
 fn worded(x: PlaneWord) -> Answer {

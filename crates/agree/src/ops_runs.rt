@@ -1,10 +1,10 @@
 // The ops over the assembler: a run of frames, step by step, and one step from any state.
 use crate::cases::{Case, Fault, Payloads, up_to};
 use crate::ops_follower::{code_of, state_of};
-use crate::reply::{Answer, OpenEvent, Refused, Step, Told, answer};
+use crate::reply::{Answer, Refused, Step, Told, answer};
 use exports::answers::PlaneAssembler;
 use exports::assembling::{plane_give_up, plane_new_assembler, plane_take};
-use std::alloc::Global;
+use std::fmt;
 
 // In the place of a step's length: the open event is given up.
 const GIVE_UP: u16 = 65535;
@@ -40,36 +40,57 @@ fn step_with(assembler: &mut PlaneAssembler, frame: Option<&[u8]>) -> Step {
     Step::Lost(x.lost)
 }
 
-// What is open at the end.
-fn open_in(assembler: PlaneAssembler) -> Option<OpenEvent> {
-    if assembler.open == 0 {
-        return None;
+// Whether a payload is steps, all of them whole, and no more than a case has.
+fn is_run(p: &[u8]) -> bool {
+    let mut rest = p;
+    for _ in 0..STEPS {
+        let Some((_frame, behind)) = first_step(rest) else {
+            break;
+        };
+        rest = behind;
     }
-    Some(OpenEvent {
-        number: assembler.number,
-        size: assembler.size,
-    })
+    rest.is_empty()
+}
+
+// A run: the assembler that takes the steps of a payload.
+#[derive(Clone, Copy)]
+pub(crate) struct Steps<'a> {
+    assembler: PlaneAssembler,
+    steps: &'a [u8],
+}
+
+// Each step, and what is open at the end. The steps are taken as they are written: a list of them would be a `Vec`, and no heap is asked for, or an
+// array that makes every reply as large.
+impl fmt::Display for Steps<'_> {
+    fn fmt<W: fmt::Write>(&self, f: &mut fmt::Formatter<W>) -> fmt::Result {
+        let mut assembler = self.assembler;
+        let mut rest = self.steps;
+        for _ in 0..STEPS {
+            let Some((frame, behind)) = first_step(rest) else {
+                break;
+            };
+            let step = step_with(&mut assembler, frame);
+            write!(f, " {step}")?;
+            rest = behind;
+        }
+        if assembler.open == 0 {
+            return write!(f, " none");
+        }
+        write!(f, " open {} {}", assembler.number, assembler.size)
+    }
 }
 
 // Op 20: a new assembler of card a0 takes the steps of p, all of them whole, and no more than a case has.
-pub(crate) fn run(alloc: Global, case: &Case, p: &[u8]) -> Result<Answer, Fault> {
+pub(crate) fn run<'a>(case: &Case, p: &'a [u8]) -> Result<Steps<'a>, Fault> {
     let [card] = case.args::<1>(Payloads::P)?;
-    let mut assembler = plane_new_assembler(u16::try_from(card)?);
-    let mut steps = Vec::with_capacity(alloc, STEPS)?;
-    let mut rest = p;
-    for _ in 0..STEPS {
-        if rest.is_empty() {
-            break;
-        }
-        let (frame, behind) = first_step(rest).ok_or(Fault::BadCase)?;
-        steps.push(step_with(&mut assembler, frame))?;
-        rest = behind;
-    }
-    if !rest.is_empty() {
+    let assembler = plane_new_assembler(u16::try_from(card)?);
+    if !is_run(p) {
         return Err(Fault::BadCase);
     }
-    let open = open_in(assembler);
-    Ok(Ok(Told::Run { steps, open }))
+    Ok(Steps {
+        assembler,
+        steps: p,
+    })
 }
 
 // The assembler in any state: card, follower, whether an event is open, its number, its size and its last header, coded as 0, or 1 + 128 chip +

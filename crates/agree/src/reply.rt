@@ -1,4 +1,5 @@
 // What a case was answered, and its line.
+use crate::ops_runs::Steps;
 use crate::sums::check_sum;
 use book::class::Class;
 use exports::answers::{PlaneEntry, PlaneEvent, PlaneFrame, PlaneItem, PlaneTaken};
@@ -30,15 +31,8 @@ pub(crate) enum Step {
     GivenUp,
 }
 
-// An event that is open.
-#[derive(Clone, Copy, Debug, PartialEq, Eq)]
-pub(crate) struct OpenEvent {
-    pub number: u32,
-    pub size: u32,
-}
-
 // What an accepted call says behind "ok".
-#[derive(Drop)]
+#[derive(Clone, Copy)]
 pub(crate) enum Told {
     Nothing,
     Number(u64),
@@ -66,10 +60,6 @@ pub(crate) enum Told {
         taken: PlaneTaken,
         follower: u64,
     },
-    Run {
-        steps: Vec<Step>,
-        open: Option<OpenEvent>,
-    },
 }
 
 // A buffer that was lent to be written, as the call left it: its length in elements and their check sum.
@@ -81,10 +71,11 @@ pub(crate) struct Lent {
 
 pub(crate) type Answer = Result<Told, NotOk>;
 
-#[derive(Drop)]
-pub(crate) struct Reply {
-    answer: Answer,
-    lent: Option<Lent>,
+// What a case was answered: by a call, with the buffer that it was lent; or by a run.
+#[derive(Clone, Copy)]
+pub(crate) enum Reply<'a> {
+    Call { answer: Answer, lent: Option<Lent> },
+    Run(Steps<'a>),
 }
 
 // What a call answered by a number, 0 where it was accepted, and a place.
@@ -107,25 +98,31 @@ impl Lent {
     }
 }
 
-impl Reply {
-    pub(crate) fn new(answer: Answer) -> Reply {
-        Reply { answer, lent: None }
+impl<'a> Reply<'a> {
+    pub(crate) fn new(answer: Answer) -> Reply<'a> {
+        Reply::Call { answer, lent: None }
     }
 
     // That of a call which was lent elements to write.
-    pub(crate) fn lending<T: Copy + Into<u32>>(answer: Answer, elements: &[T]) -> Reply {
-        Reply {
+    pub(crate) fn lending<T: Copy + Into<u32>>(answer: Answer, elements: &[T]) -> Reply<'a> {
+        Reply::Call {
             answer,
             lent: Some(Lent::new(elements)),
         }
     }
 
-    pub(crate) fn bad_case() -> Reply {
+    pub(crate) fn bad_case() -> Reply<'a> {
         Reply::new(Err(NotOk::BadCase))
     }
 
     pub(crate) fn is_bad_case(&self) -> bool {
-        matches!(&self.answer, Err(NotOk::BadCase))
+        matches!(
+            self,
+            Reply::Call {
+                answer: Err(NotOk::BadCase),
+                ..
+            }
+        )
     }
 }
 
@@ -208,21 +205,6 @@ fn write_entry<W: fmt::Write>(f: &mut fmt::Formatter<W>, x: &PlaneEntry) -> fmt:
     Ok(())
 }
 
-// A run's steps, and what is open at its end.
-fn write_run<W: fmt::Write>(
-    f: &mut fmt::Formatter<W>,
-    steps: &[Step],
-    open: Option<OpenEvent>,
-) -> fmt::Result {
-    for step in steps {
-        write!(f, " {step}")?;
-    }
-    match open {
-        Some(event) => write!(f, " open {} {}", event.number, event.size),
-        None => write!(f, " none"),
-    }
-}
-
 impl fmt::Display for Told {
     fn fmt<W: fmt::Write>(&self, f: &mut fmt::Formatter<W>) -> fmt::Result {
         match self {
@@ -268,20 +250,30 @@ impl fmt::Display for Told {
                 )?;
                 write!(f, " {} {}", next.size, next.key % 2048)
             }
-            Told::Run { steps, open } => write_run(f, steps.as_slice(), *open),
         }
     }
 }
 
-impl fmt::Display for Reply {
+impl fmt::Display for Lent {
     fn fmt<W: fmt::Write>(&self, f: &mut fmt::Formatter<W>) -> fmt::Result {
-        match &self.answer {
-            Ok(told) => write!(f, "ok{told}")?,
-            Err(refused) => write!(f, "{refused}")?,
+        write!(f, " | {} {}", self.elements, self.sum)
+    }
+}
+
+impl fmt::Display for Reply<'_> {
+    fn fmt<W: fmt::Write>(&self, f: &mut fmt::Formatter<W>) -> fmt::Result {
+        match self {
+            Reply::Call { answer, lent } => {
+                match answer {
+                    Ok(told) => write!(f, "ok{told}")?,
+                    Err(refused) => write!(f, "{refused}")?,
+                }
+                match lent {
+                    Some(lent) => write!(f, "{lent}"),
+                    None => Ok(()),
+                }
+            }
+            Reply::Run(steps) => write!(f, "ok{steps}"),
         }
-        if let Some(lent) = &self.lent {
-            write!(f, " | {} {}", lent.elements, lent.sum)?;
-        }
-        Ok(())
     }
 }

@@ -2,10 +2,9 @@
 // `listing::listing` leaves, written out once.
 #![tactic(auto)]
 
-ghost use Rattle.std.specs.Prelude.{◌≡◌, length};
+ghost use Rattle.std.specs.Prelude.{◌≡◌, ◌≤◌, length};
 
 use listing::listing;
-use std::alloc::Global;
 use std::io;
 use std::io::Read;
 
@@ -20,18 +19,43 @@ fn print(rt: &impl Print, buf: &[u8], out: &mut [u8]) -> io::Result<()>
     rt.write_all(&out[..n])
 }
 
-// Prints the listing of the input, as far as it comes: where a read fails, it is taken to end. Room for one byte more is made before, so that no
-// room is missing while it is read.
-fn list(rt: &impl Print, alloc: Global, input: &mut impl Read) -> io::Result<()> {
-    let mut buf = Vec::with_capacity(alloc, MOST + 1)?;
-    let _ = input.by_ref().take(MOST as u64).read_to_end(&mut buf);
-    let mut out = vec![in alloc; 0; listing::MOST]?;
-    print(rt, buf.as_slice(), out.as_mut_slice())
+// Reads once, and asks for all that is lent: 0 bytes at the end of the input, or where the read fails. An interrupted one is not tried again.
+fn read_some(input: &mut impl Read, buf: &mut [u8]) -> usize
+    ensures { result ≤ length buf.new }
+{
+    input.read(buf).unwrap_or(0)
 }
 
-// Says what could not be written. The program ends with status 0 all the same: bin/list makes one of these words.
+// Reads until the slice is full or the input ends: a short read of a pipe is not the end. It is no `read_to_end`, which grows a `Vec`, asks for
+// 8,192 bytes at a time and tries an interrupted read again.
+fn read_full(input: &mut impl Read, buf: &mut [u8]) -> usize
+    ensures { result ≤ length buf.new }
+{
+    let mut done = 0;
+    while done < buf.len() {
+        let n = read_some(input, &mut buf[done..]);
+        if n == 0 {
+            break;
+        }
+        done += n;
+    }
+    done
+}
+
+// Prints the listing of the input, as far as it comes.
+fn list(rt: &impl Print, input: &mut impl Read, buf: &mut [u8], out: &mut [u8]) -> io::Result<()>
+    requires { length out.old ≡ 92520 }
+{
+    let n = read_full(input, buf);
+    print(rt, &buf[..n], out)
+}
+
+// Says what could not be written. The program ends with status 0 all the same: bin/list makes one of these words. Both buffers are arrays: no heap is
+// asked for, so that the program cannot run out of memory.
 fn main(rt: HostRuntime) {
-    if list(&rt, rt.alloc(), &mut rt.stdin()).is_err() {
+    let mut buf = [0; MOST];
+    let mut out = [0; listing::MOST];
+    if list(&rt, &mut rt.stdin(), &mut buf, &mut out).is_err() {
         let _ = eprintln!(rt; "list: the listing could not be written");
     }
 }
