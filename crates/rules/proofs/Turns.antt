@@ -46,13 +46,13 @@ in_every P a b c d e f g h i commands = h
 in_every P a b c d e f g h i fresh = i
 
 -- Hit count, Last cell and End event stand where a Channel may
-hit_inside : (m : ReaderMode) → among channel (allowed m) ≡ among hit_count (allowed m)
+pub hit_inside : (m : ReaderMode) → among channel (allowed m) ≡ among hit_count (allowed m)
 hit_inside = in_every (λ m. among channel (allowed m) ≡ among hit_count (allowed m)) refl refl refl refl refl refl refl refl refl
 
-cell_inside : (m : ReaderMode) → among channel (allowed m) ≡ among last_cell (allowed m)
+pub cell_inside : (m : ReaderMode) → among channel (allowed m) ≡ among last_cell (allowed m)
 cell_inside = in_every (λ m. among channel (allowed m) ≡ among last_cell (allowed m)) refl refl refl refl refl refl refl refl refl
 
-end_inside : (m : ReaderMode) → among channel (allowed m) ≡ among end_event (allowed m)
+pub end_inside : (m : ReaderMode) → among channel (allowed m) ≡ among end_event (allowed m)
 end_inside = in_every (λ m. among channel (allowed m) ≡ among end_event (allowed m)) refl refl refl refl refl refl refl refl refl
 
 -- the eleven items, each from the answers to its tests
