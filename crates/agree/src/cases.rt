@@ -39,8 +39,6 @@ pub(crate) enum Payloads {
 // The head, taken apart.
 #[derive(Clone, Copy, Debug)]
 pub(crate) struct Case {
-    // Whether the head came whole.
-    whole: bool,
     // The op. The seven bytes after it belong to this number, so that it is a listed op only where they are zero.
     pub op: u64,
     args: [u64; 7],
@@ -72,8 +70,8 @@ fn read_some(input: &mut impl Read, buf: &mut [u8]) -> usize
     input.read(buf).unwrap_or(0)
 }
 
-// Reads until the slice is full or the input ends, and tells how many bytes came. It is no `read_to_end`, which grows a `Vec`, asks for 8,192 bytes
-// at a time and tries an interrupted read again.
+// Reads until the slice is full or the input ends, and tells how many bytes came: by `while`, since it goes on by as many as a read gave. It is no
+// `read_to_end`, which grows a `Vec`, asks for 8,192 bytes at a time and tries an interrupted read again.
 pub(crate) fn read_full(input: &mut impl Read, buf: &mut [u8]) -> usize
     ensures { result ≤ length buf.new }
 {
@@ -95,10 +93,8 @@ impl Case {
     // The most bytes of a payload.
     pub(crate) const MOST: usize = 24576;
 
-    // The case of a head of which so many bytes came; the others are zero.
-    pub(crate) fn of_head(head: &[u8; 72], got: usize) -> Case {
+    pub(crate) fn of_head(head: &[u8; 72]) -> Case {
         Case {
-            whole: got == Case::HEAD,
             op: at(head, 0),
             args: [
                 at(head, 1),
@@ -114,10 +110,9 @@ impl Case {
         }
     }
 
-    // The arguments of an op that takes the first N, and these payloads: the others are zero, and the head is whole.
+    // The arguments of an op that takes the first N, and these payloads: the others are zero.
     pub(crate) fn args<const N: usize>(&self, payloads: Payloads) -> Result<[u64; N], Fault> {
-        let only = self.whole
-            && self.args.iter().skip(N).all(|a| *a == 0)
+        let only = self.args.iter().skip(N).all(|a| *a == 0)
             && (payloads != Payloads::None || self.p_length == 0)
             && (payloads == Payloads::PAndQ || self.q_length == 0);
         match self.args.first_chunk() {

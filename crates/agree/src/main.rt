@@ -33,18 +33,20 @@ fn fill(input: &mut impl Read, payload: &mut [u8]) -> bool {
     read_full(input, payload) == payload.len()
 }
 
-// Reads the payloads of a case, each into the first bytes of its buffer, and answers it. No byte is read where either is too long, and Q is read
-// also where the input ends in P.
+// Reads the payloads of a case, each into the first bytes of its buffer, and answers it. Where either is too long no byte of them is read; else both
+// are, also where the input ended before: in P, or in the head, of which `got` bytes came and the others are zero.
 fn answer<'a>(
     input: &mut impl Read,
-    case: &Case,
+    head: &[u8; Case::HEAD],
+    got: usize,
     p: &'a mut [u8],
     q: &mut [u8],
 ) -> Result<Reply<'a>, Fault> {
+    let case = Case::of_head(head);
     let p = p.get_mut(..case.p_length).ok_or(Fault::BadCase)?;
     let q = q.get_mut(..case.q_length).ok_or(Fault::BadCase)?;
-    if fill(input, p) & fill(input, q) {
-        return ops::answer(case, p, q);
+    if fill(input, p) & fill(input, q) & (got == Case::HEAD) {
+        return ops::answer(&case, p, q);
     }
     Err(Fault::BadCase)
 }
@@ -56,8 +58,7 @@ fn turn(input: &mut impl Read, p: &mut [u8], q: &mut [u8], output: &mut Output) 
     if got == 0 {
         return ControlFlow::Break(());
     }
-    let case = Case::of_head(&head, got);
-    let reply = match answer(input, &case, p, q) {
+    let reply = match answer(input, &head, got, p, q) {
         Ok(reply) => reply,
         Err(Fault::BadCase) => Reply::bad_case(),
     };

@@ -26,8 +26,8 @@ fn read_some(input: &mut impl Read, buf: &mut [u8]) -> usize
     input.read(buf).unwrap_or(0)
 }
 
-// Reads until the slice is full or the input ends: a short read of a pipe is not the end. It is no `read_to_end`, which grows a `Vec`, asks for
-// 8,192 bytes at a time and tries an interrupted read again.
+// Reads until the slice is full or the input ends: a short read of a pipe is not the end. By `while`, since it goes on by as many bytes as a read
+// gave; and it is no `read_to_end`, which grows a `Vec`, asks for 8,192 bytes at a time and tries an interrupted read again.
 fn read_full(input: &mut impl Read, buf: &mut [u8]) -> usize
     ensures { result ≤ length buf.new }
 {
