@@ -71,7 +71,8 @@ fn read_some(input: &mut impl Read, buf: &mut [u8]) -> usize
 }
 
 // Reads until the slice is full or the input ends, and tells how many bytes came: by `while`, since it goes on by as many as a read gave. It is no
-// `read_to_end`, which grows a `Vec`, asks for 8,192 bytes at a time and tries an interrupted read again.
+// `read_to_end`, which grows a `Vec`, asks for 8,192 bytes at a time and tries an interrupted read again. list has the same: what a reader gives is not
+// known, and nothing public may be without a statement of its result.
 pub(crate) fn read_full(input: &mut impl Read, buf: &mut [u8]) -> usize
     ensures { result ≤ length buf.new }
 {

@@ -7,7 +7,7 @@ use std::fmt;
 // Room for the lines that wait.
 const ROOM: usize = 32768;
 
-// The lines that wait to be written. An array, and no `BufWriter`: no heap is asked for, so that the program cannot run out of memory.
+// The lines that wait to be written. An array, and no `BufWriter`: no memory is asked for, so that none can be refused.
 #[derive(Drop)]
 pub(crate) struct Output {
     bytes: [u8; ROOM],

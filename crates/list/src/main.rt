@@ -27,7 +27,8 @@ fn read_some(input: &mut impl Read, buf: &mut [u8]) -> usize
 }
 
 // Reads until the slice is full or the input ends: a short read of a pipe is not the end. By `while`, since it goes on by as many bytes as a read
-// gave; and it is no `read_to_end`, which grows a `Vec`, asks for 8,192 bytes at a time and tries an interrupted read again.
+// gave; and it is no `read_to_end`, which grows a `Vec`, asks for 8,192 bytes at a time and tries an interrupted read again. agree has the same: what a
+// reader gives is not known, and nothing public may be without a statement of its result.
 fn read_full(input: &mut impl Read, buf: &mut [u8]) -> usize
     ensures { result ≤ length buf.new }
 {
@@ -50,8 +51,8 @@ fn list(rt: &impl Print, input: &mut impl Read, buf: &mut [u8], out: &mut [u8]) 
     print(rt, &buf[..n], out)
 }
 
-// Says what could not be written. The program ends with status 0 all the same: bin/list makes one of these words. Both buffers are arrays: no heap is
-// asked for, so that the program cannot run out of memory.
+// Says what could not be written. The program ends with status 0 all the same: bin/list makes one of these words. Both buffers are arrays: no memory is
+// asked for, so that none can be refused.
 fn main(rt: HostRuntime) {
     let mut buf = [0; MOST];
     let mut out = [0; listing::MOST];

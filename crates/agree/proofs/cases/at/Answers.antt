@@ -1,3 +1,5 @@
+-- `agree::cases::at` meets its contract.
+-- Assumes nothing.
 use Rattle.agree.proofs.cases.at.Goals as goal
 
 pub returns : goal.returns
